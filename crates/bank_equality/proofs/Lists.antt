@@ -1,4 +1,4 @@
--- Lists and parts that are the same where all that is lent of them is.
+-- Lists and parts are equal if all that can be borrowed from them is equal.
 use Rattle.std.proofs.Common.{◌≡◌, ◌↔◌, ℕ, zero, suc, ◌<◌, Bool, IsTrue, List, [], ◌∷◌, length, Option, Some, None}
 use Rattle.std.proofs.Common.{slice_get, refl, ap, sym, ◌∙◌, arith}
 use Rattle.std.specs.Option.{option_map, option_and_then}
@@ -27,7 +27,7 @@ same_members (x ∷ xs) (y ∷ ys) e h =
     let rest = same_members xs ys (omega arith) (λ m lt. h (suc m) (omega arith)) in
     λ i. first i ∷ rest i
 
--- zones of two members, of which each is lent
+-- the zones of two owners are equal if each zone is
 pub same_lent_zones : {H K : Type 0} (o : Option (WithZones H)) (p : Option (WithZones K)) (n k : ℕ) → n ≡ k
     → option_map (λ x. length x.zones) o ≡ Some n → option_map (λ x. length x.zones) p ≡ Some k
     → ((m : ℕ) → m < n → option_and_then (λ x. slice_get x.zones m) o ≡ option_and_then (λ x. slice_get x.zones m) p)
@@ -41,7 +41,7 @@ same_lent_zones None None n k e a b h = refl
 same_lent_zones None (Some y) n k e a b h = cc
 same_lent_zones (Some x) None n k e a b h = cc
 
--- what a place lends is what its settings have
+-- what is borrowed from a place equals its settings
 module _ {H : Type 0} (owners : List (WithZones H)) (i : ℕ) where
   in_zone : {Y : Type 0} (f : Settings → Y) (k : ℕ) (o : Option (WithZones H))
       → option_map f (option_and_then (settings_in (place.Zone k)) o)
@@ -71,7 +71,7 @@ module _ {H : Type 0} (owners : List (WithZones H)) (i : ℕ) where
 gens_of_entries : (m n : Gens) → entries m ≡ entries n → m ≡ n
 gens_of_entries m n e = sym (laws.from_entries-entries m) ∙ ap from_entries e ∙ laws.from_entries-entries n
 
--- settings whose generators and modulators are the same
+-- settings whose generators and modulators are equal
 same_lent : (o p : Option Settings) (es : List (ℕ × ℕ)) (ms : List Modulator)
     → option_map entries (option_map (λ (s : Settings). s.gens) o) ≡ Some es
     → option_map entries (option_map (λ (s : Settings). s.gens) p) ≡ Some es
@@ -84,7 +84,7 @@ same_lent (Some x) (Some y) es ms a b c d =
     let mods : x.mods ≡ y.mods = some_same x.mods ms c ∙ sym (some_same y.mods ms d) in
     λ i. let s : Settings = record { gens = gens i; mods = mods i } in Some s
 
--- two places with the same generators have the same settings exactly where their modulators are the same
+-- two places with the same generators have equal settings exactly if their modulators are equal
 pub same_by_mods : {H K : Type 0} (xs : List (WithZones H)) (i : ℕ) (at : ZonePlace) (ys : List (WithZones K))
     (j : ℕ) (other : ZonePlace)
     → (es fs : List (ℕ × ℕ)) (ms ns : List Modulator) (r : Bool)

@@ -1,4 +1,4 @@
--- Two lists of bytes that are read side by side.
+-- Two lists of bytes read side by side.
 use Rattle.std.proofs.Common.{◌≡◌, ◌≢◌, ℕ, ◌≤◌, min, List, ◌++◌, ◌↔◌, length, take, drop, ap, sym, ◌∙◌, arith}
 use Rattle.std.proofs.Common.{length-take, append-nil, take-append-drop}
 use Rattle.std.specs.Prelude.{Bool, IsTrue, [], ◌∷◌}
@@ -10,7 +10,7 @@ use Rattle.sample_view.specs.Words.{words, word_bytes}
 use Rattle.sample_view.proofs.WordLaws.{words_of_bytes}
 use Rattle.std.proofs.lemmas.List.{append_assoc, take_at, drop-append-le}
 
--- a front of two lists that lies in the first
+-- a prefix of two lists that lies in the first
 take-front : (n : ℕ) (xs ys : List ℕ) → n ≤ length xs → take n (xs ++ ys) ≡ take n xs
 take-front n xs ys h =
     let size : length (take n xs) ≡ n = omega (arith, length-take n xs) in
@@ -18,7 +18,7 @@ take-front n xs ys h =
     ∙ take_at (take n xs) (drop n xs ++ ys) n size
 
 module _ (a b : List ℕ) (n : ℕ) (within : n ≡ min (length a) (length b)) where
-  -- both begin with the same bytes: they go on alike where they are the same
+  -- if both begin with the same bytes, they are equal exactly if their rests are
   pub go_on : take n a ≡ take n b → (xs ys : List ℕ) → (a ++ xs ≡ b ++ ys) ↔ (drop n a ++ xs ≡ drop n b ++ ys)
   go_on same xs ys =
       let in_a : n ≤ length a = omega arith in
@@ -29,14 +29,14 @@ module _ (a b : List ℕ) (n : ℕ) (within : n ≡ min (length a) (length b)) w
         λ e. parts a xs ∙ ap (λ t. t ++ (drop n a ++ xs)) same ∙ ap (λ t. take n b ++ t) e ∙ sym (parts b ys),
       )
 
-  -- both don't begin alike
+  -- if both begin with different bytes, they differ
   pub begin_apart : take n a ≢ take n b → (xs ys : List ℕ) → a ++ xs ≢ b ++ ys
   begin_apart apart xs ys e =
       let in_a : n ≤ length a = omega arith in
       let in_b : n ≤ length b = omega arith in
       apart (sym (take-front n a xs in_a) ∙ ap (λ t. take n t) e ∙ take-front n b ys in_b)
 
--- points are the same exactly where their bytes are
+-- points are equal exactly if their bytes are
 pub same_by_bytes : (ps qs : List ℕ) (xs ys : List ℕ) (r : Bool) → xs ≡ flat_map word_bytes ps
     → ys ≡ flat_map word_bytes qs
     → (IsTrue r ↔ (xs ≡ ys)) → (IsTrue r ↔ (ps ≡ qs))
@@ -45,7 +45,7 @@ same_by_bytes ps qs xs ys r p q h = (
   λ e. h.1 (p ∙ ap (λ ws. flat_map word_bytes ws) e ∙ sym q),
 )
 
--- where no slice is left, all is the same exactly where what is left of both is
+-- if no slice remains, the whole lists are equal exactly if the rests of the current slices are
 pub same_at_end : (first second xs ys : List ℕ) (others more : List (Bor (List ℕ))) (r : Bool) → length others ≡ 0
     → length more ≡ 0
     → ((xs ≡ ys) ↔ (first ++ joined_bytes others ≡ second ++ joined_bytes more)) → Decides r (first ≡ second)

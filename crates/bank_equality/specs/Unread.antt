@@ -1,12 +1,12 @@
--- Bytes that lie in slices, and are read from the first on.
+-- Bytes in slices, read from the first byte on.
 use Rattle.std.specs.Prelude.{ℕ, List, ◌++◌, length}
 use Rattle.sample_view.specs.Pieces.{joined_bytes}
 use Rattle.bank_equality.specs.declared.points.Unread.{Unread}
 
--- the bytes that are still to be read
+-- the unread bytes
 abbrev pub bytes_left : Unread → List ℕ
 bytes_left unread = unread.first.now ++ joined_bytes unread.others.now
 
--- the slices that are not begun
+-- how many slices are still unread as a whole
 abbrev pub slices_left : Unread → ℕ
 slices_left unread = length unread.others.now

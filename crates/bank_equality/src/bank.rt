@@ -1,4 +1,4 @@
-//! Whether two banks have the same value.
+//! Whether two banks are equal.
 ghost use Rattle.std.specs.Prelude.{◌≡◌, ◌↔◌, IsTrue};
 ghost use Rattle.bank_parts.specs.Texts.{text_of};
 
@@ -6,8 +6,8 @@ use crate::owners::same_owners;
 use crate::samples::same_samples;
 use bank_core::{Bank, InfoId};
 
-/// Whether both banks have the same value: the same version, texts, presets, instruments and samples,
-/// points and all, however their points are cut into slices. Takes no memory.
+/// Whether both banks are equal: the same version, texts, presets, instruments and samples with their points, however
+/// the points are split into slices. Allocates nothing.
 pub fn are_equal(a: &Bank<'_>, b: &Bank<'_>) -> bool
     ensures { IsTrue result ↔ (a.now ≡ b.now) }
 {
@@ -32,7 +32,7 @@ pub fn same_texts(a: &Bank<'_>, b: &Bank<'_>) -> bool
         && same_text(a, b, InfoId::Software)
 }
 
-/// Whether the texts of this kind have the same bytes.
+/// Whether the texts with this id have the same bytes.
 pub fn same_text(a: &Bank<'_>, b: &Bank<'_>, id: InfoId) -> bool
     ensures { IsTrue result ↔ (text_of a.now.texts id ≡ text_of b.now.texts id) }
 {

@@ -1,12 +1,12 @@
-//! Whether two heads of presets, or of instruments, are the same.
+//! Whether two heads of presets, or of instruments, are equal.
 ghost use Rattle.std.specs.Prelude.{◌≡◌, ◌↔◌, IsTrue};
 
 use bank_parts::{Head, OwnerHead};
 use sf_base::Name20;
 
-/// What a preset or an instrument has besides its zones, where it can be compared.
+/// The head of a preset or an instrument, which can be compared.
 pub trait SameHead: OwnerHead {
-    /// Whether both have the same value.
+    /// Whether both are equal.
     fn is_same(&self, other: &Self) -> bool
         ensures { IsTrue result ↔ (self.now ≡ other.now) };
 }

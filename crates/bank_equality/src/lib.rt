@@ -1,4 +1,4 @@
-//! Whether two banks have the same value, part by part. Nothing is copied, and nothing takes memory.
+//! Whether two banks, or their parts, are equal. Nothing here copies or allocates.
 #![tactic(auto)]
 
 mod bank;

@@ -1,12 +1,11 @@
-//! Whether presets, or instruments, have the same value.
+//! Whether presets, or instruments, are equal.
 ghost use Rattle.std.specs.Prelude.{◌≡◌, ◌<◌, ◌↔◌, ℕ, List, length, slice_get, IsTrue};
 
 use crate::heads::SameHead;
 use crate::zones::{same_settings, same_zones};
 use bank_parts::{Owners, ZonePlace};
 
-/// Whether number `i` and number `j` of other presets or instruments, both of which are there, have the
-/// same value: head, global zone and zones.
+/// Whether owner `i` of `a` and owner `j` of `b` are equal: head, global zone and zones.
 pub fn same_owner<H: SameHead>(a: &Owners<H>, i: usize, b: &Owners<H>, j: usize) -> bool
     requires first { i < length a.now }
     requires second { j < length b.now }
@@ -17,7 +16,7 @@ pub fn same_owner<H: SameHead>(a: &Owners<H>, i: usize, b: &Owners<H>, j: usize)
         && same_zones(a, i, b, j)
 }
 
-/// Whether all presets, or all instruments, have the same values in the same order.
+/// Whether all presets, or all instruments, are equal, in the same order.
 pub fn same_owners<H: SameHead>(a: &Owners<H>, b: &Owners<H>) -> bool
     ensures { IsTrue result ↔ (a.now ≡ b.now) }
 {

@@ -1,18 +1,18 @@
-//! Whether two lists of points are the same, however each is cut into slices.
+//! Whether two lists of points are equal, however they are split into slices.
 ghost use Rattle.std.specs.Prelude.{◌≡◌, ◌≢◌, ◌+◌, ◌<◌, ◌↔◌, ◌++◌, ℕ, List, min, length, IsTrue, IfSome, MatchOption};
 ghost use Rattle.sample_view.specs.Pieces.{joined_bytes};
 ghost use Rattle.bank_equality.specs.Unread.{bytes_left, slices_left};
 
 use sample_view::Points;
 
-/// Whether both have the same points, in whatever slices these lie. It compares whole slices.
+/// Whether both have the same points, however they are split into slices. It compares whole runs of bytes.
 pub fn same_points(a: &Points<'_>, b: &Points<'_>) -> bool
     ensures { IsTrue result ↔ (a.now ≡ b.now) }
 {
     a.len() == b.len() && same_bytes(a.pieces(), b.pieces())
 }
 
-// What is still to be read of bytes that lie in slices: the rest of one, and those behind it.
+// The unread bytes of a list of slices: the rest of one slice, and the slices after it.
 #[derive(Clone, Copy)]
 struct Unread<'a> {
     first: &'a [u8],
@@ -42,8 +42,8 @@ fn same_bytes(a: &[&[u8]], b: &[&[u8]]) -> bool
     left.first == right.first
 }
 
-// Reads the bytes that both begin with, up to the end of the one slice or the other, and goes on to the
-// slice behind it. None where both can't be the same.
+// Skips the equal bytes at the start of both, up to the end of the shorter slice, and moves on to the slice after it.
+// None if both lists differ.
 fn read_on<'a, 'b>(left: Unread<'a>, right: Unread<'b>) -> Option<(Unread<'a>, Unread<'b>)>
     requires { 0 < slices_left left + slices_left right }
     ensures value { MatchOption result (bytes_left left.entry ≢ bytes_left right.entry) (λ both. (bytes_left left.entry ≡ bytes_left right.entry) ↔ (bytes_left both.0 ≡ bytes_left both.1)) }
@@ -78,7 +78,7 @@ fn read_on<'a, 'b>(left: Unread<'a>, right: Unread<'b>) -> Option<(Unread<'a>, U
     Some((left, right))
 }
 
-// What follows in both where one begins with the other; none where neither does.
+// The rest of both after the length of the shorter one; none if they differ up to there.
 fn after_common<'a, 'b>(a: &'a [u8], b: &'b [u8]) -> Option<(&'a [u8], &'b [u8])>
     ensures value { (xs ys : List ℕ) → MatchOption result (a.now ++ xs ≢ b.now ++ ys) (λ rest. (a.now ++ xs ≡ b.now ++ ys) ↔ (rest.0.now ++ xs ≡ rest.1.now ++ ys)) }
     ensures shorter { IfSome result (λ rest. min (length rest.0.now) (length rest.1.now) ≡ 0) }

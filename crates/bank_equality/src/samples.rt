@@ -1,11 +1,11 @@
-//! Whether two samples have the same value.
+//! Whether two samples are equal.
 ghost use Rattle.std.specs.Prelude.{◌≡◌, ◌<◌, ◌↔◌, ℕ, slice_get, IsTrue};
 
 use crate::heads::SameHead;
 use crate::points::same_points;
 use bank_parts::{Kind, Sample};
 
-/// Whether all samples have the same values in the same order.
+/// Whether all samples are equal, in the same order.
 pub fn same_samples(a: &[Sample<'_>], b: &[Sample<'_>]) -> bool
     ensures { IsTrue result ↔ (a.now ≡ b.now) }
 {
@@ -20,14 +20,14 @@ pub fn same_samples(a: &[Sample<'_>], b: &[Sample<'_>]) -> bool
     true
 }
 
-/// Whether both samples have the same value, points and all.
+/// Whether both samples are equal, including their points.
 pub fn same_sample(a: &Sample<'_>, b: &Sample<'_>) -> bool
     ensures { IsTrue result ↔ (a.now ≡ b.now) }
 {
     same_sample_head(a, b) && same_points(&a.points, &b.points)
 }
 
-/// Whether both samples agree in all but their points.
+/// Whether both samples are equal apart from their points.
 pub fn same_sample_head(a: &Sample<'_>, b: &Sample<'_>) -> bool
     ensures { IsTrue result ↔ (b.now ≡ record a.now { points = b.now.points }) }
 {

@@ -1,4 +1,4 @@
-//! Whether two zones, or what two places hold, have the same value.
+//! Whether zones, or the settings of places, are equal.
 ghost use Rattle.std.specs.Prelude.{◌≡◌, ◌<◌, ◌↔◌, ℕ, List, length, IsTrue};
 ghost use Rattle.bank_parts.specs.declared.owners.ZonePlace.TheVariants as place;
 ghost use Rattle.bank_parts.specs.Owners.{HasPlace, zone_at};
@@ -7,8 +7,7 @@ ghost use Rattle.bank_parts.specs.Settings.{settings_at, zones_at};
 use bank_parts::{OwnerHead, Owners, ZonePlace};
 use modulators::Modulator;
 
-/// Whether a place of number `i` and one of number `j` of other presets or instruments, all of which are
-/// there, hold the same generators and modulators.
+/// Whether a place of owner `i` of `a` and a place of owner `j` of `b` have the same generators and modulators.
 pub fn same_settings<H: OwnerHead, K: OwnerHead>(
     a: &Owners<H>,
     i: usize,
@@ -25,8 +24,8 @@ pub fn same_settings<H: OwnerHead, K: OwnerHead>(
         && same_mods(a.mods(i, at), b.mods(j, other))
 }
 
-/// Whether zone `k` of number `i` and zone `l` of number `j` of other presets or instruments, all of
-/// which are there, have the same value: target, generators and modulators.
+/// Whether zone `k` of owner `i` of `a` and zone `l` of owner `j` of `b` are equal: target, generators and
+/// modulators.
 pub fn same_zone<H: OwnerHead, K: OwnerHead>(
     a: &Owners<H>,
     i: usize,
@@ -43,8 +42,7 @@ pub fn same_zone<H: OwnerHead, K: OwnerHead>(
         && same_settings(a, i, ZonePlace::Zone(k), b, j, ZonePlace::Zone(l))
 }
 
-/// Whether number `i` and number `j` of other presets or instruments, both of which are there, have the
-/// same zones, the global zone not looked at.
+/// Whether owner `i` of `a` and owner `j` of `b` have equal zones. It does not compare their global zones.
 pub fn same_zones<H: OwnerHead, K: OwnerHead>(
     a: &Owners<H>,
     i: usize,

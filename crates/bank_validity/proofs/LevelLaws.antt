@@ -1,4 +1,4 @@
--- One level of a bank's totals, changed.
+-- The totals of a bank after a change of one level.
 use Rattle.std.proofs.Common.{◌≡◌, sym, ◌∙◌, ap, refl}
 use Rattle.generators.specs.declared.level.Level.{Level}
 use Rattle.generators.specs.declared.level.Level.TheVariants as level
@@ -11,7 +11,7 @@ pub changed_by : (at : Level) (f g : LevelTotals → LevelTotals) (t : Totals)
 changed_by level.Preset f g t e = λ i. record t { presets = e i }
 changed_by level.Inst f g t e = λ i. record t { instruments = e i }
 
--- one that is put in the place of the level
+-- the level replaced
 pub put_at : (at : Level) (f : LevelTotals → LevelTotals) (t : Totals) (l : LevelTotals) → l ≡ f (totals_at at t)
     → level_changed at (λ _. l) t ≡ level_changed at f t
 put_at at f t l e = changed_by at (λ _. l) f t e
@@ -30,18 +30,18 @@ pub unchanged : (at : Level) (t : Totals) → level_changed at (λ l. l) t ≡ t
 unchanged level.Preset t = refl
 unchanged level.Inst t = refl
 
--- a change that g takes back
+-- a change that g undoes
 pub taken_back : (at : Level) (f g : LevelTotals → LevelTotals) → ((l : LevelTotals) → g (f l) ≡ l) → (t : Totals)
     → level_changed at g (level_changed at f t) ≡ t
 taken_back at f g back t =
     changed_twice at f g t ∙ (changed_by at (λ l. g (f l)) (λ l. l) t (back (totals_at at t)) ∙ unchanged at t)
 
--- was made of the same
+-- if the changed totals are equal, the old totals of the level were
 pub same_before : (at : Level) (f g : LevelTotals → LevelTotals) → ((l : LevelTotals) → g (f l) ≡ l) → (t u : Totals)
     → level_changed at f t ≡ level_changed at f u → t ≡ u
 same_before at f g back t u e = sym (taken_back at f g back t) ∙ (ap (level_changed at g) e ∙ taken_back at f g back u)
 
--- where both are the same after a change of one level, only that level was another
+-- totals that become equal by a change of one level differ only in that level
 pub same_beside : (at : Level) (f g : LevelTotals → LevelTotals) (t u : Totals)
     → level_changed at f t ≡ level_changed at g u → t ≡ level_changed at (λ _. totals_at at t) u
 same_beside level.Preset f g t u e = ap (level_changed level.Preset (λ _. t.presets)) e

@@ -59,7 +59,7 @@ within_totals t e = record {
 pub not_over : (most n : ℕ) → n ≤ most → nat_lt most n ≡ false
 not_over most n h = grind (arith, nat_tests)
 
--- with so many points, that may be over their limit
+-- with so many points, which may exceed their limit
 pub broken_points : (t : Totals) → AreWithin t → (p : ℕ)
     → broken (let u : Totals = record t { points = p } in u) ≡ (if nat_lt POINTS p then Some limit.Points else None)
 unfolding broken
@@ -114,7 +114,7 @@ of_parts b w = record {
 pub no_limit_of : (b : Parts) → IsWithin b → broken_limit b ≡ None
 no_limit_of b w = none_broken (totals_of b) (of_parts b w)
 
--- ---- a level of them
+-- ---- the totals of a level
 
 abbrev pub most_at : Level → ℕ
 most_at level.Preset = PRESETS
@@ -137,7 +137,7 @@ put_within level.Preset l t w own =
 put_within level.Inst l t w own =
     record { presets = w.presets; instruments = own; samples = w.samples; points = w.points }
 
--- what the other level says stays
+-- the limits of the other level still hold
 pub unchanged_within : (at : Level) (f : LevelTotals → LevelTotals) (t : Totals) → AreWithin (level_changed at f t)
     → LevelWithin (most_at at) (totals_at at t) → AreWithin t
 unchanged_within level.Preset f t w l =
@@ -145,14 +145,14 @@ unchanged_within level.Preset f t w l =
 unchanged_within level.Inst f t w l =
     record { presets = w.presets; instruments = l; samples = w.samples; points = w.points }
 
--- ---- totals as 64 bits count them
+-- ---- saturated totals
 
 abbrev pub totals_counted : Totals → Totals
 totals_counted t =
     record t
     { presets = level_counted t.presets; instruments = level_counted t.instruments; points = counted t.points }
 
--- a limit that 64 bits hold is told by such a count
+-- a limit below 2 ^ 64 - 1 is exceeded exactly if the saturated number exceeds it
 counted_test : (most n : ℕ) → most < 2 ^ 64 - 1 → nat_lt most (counted n) ≡ nat_lt most n
 counted_test most n h = grind (arith, nat_tests)
 
@@ -174,7 +174,7 @@ broken_counted t =
 few : (most n : ℕ) → n ≤ most → most < 2 ^ 64 → counted n ≡ n
 few most n h small = counted_same n (omega (arith, h, small))
 
--- where no limit is broken they are the sums
+-- if no limit is broken, no number is saturated
 pub records_few : (most : ℕ) (l : LevelTotals) → LevelWithin most l → all_counted l.records ≡ l.records
 records_few most l w = λ i. record {
   zones = few ZONES l.records.zones w.zones (omega arith) i;
@@ -199,7 +199,7 @@ counted_totals t w = λ i. record t {
 pub counted_within : (b : Parts) → IsWithin b → totals_counted (totals_of b) ≡ totals_of b
 counted_within b w = counted_totals (totals_of b) (of_parts b w)
 
--- ---- a sample more
+-- ---- one more sample
 
 module _ (t : Totals) (n : ℕ) where
   pub samples_broken : AreWithin t → SAMPLES ≤ t.samples → broken (with_sample t n) ≡ Some limit.Samples
@@ -230,9 +230,9 @@ module _ (t : Totals) (n : ℕ) where
       none_broken (with_sample t n)
       (record { presets = w.presets; instruments = w.instruments; samples = omega arith; points = h })
 
--- ---- a level with more
+-- ---- more records at a level
 
--- a count that stops at the largest number tells the same limit
+-- a saturated number breaks the same limit
 counted_changed : (at : Level) (f g : LevelTotals → LevelTotals) (t : Totals) → AreWithin t
     → f (totals_at at t) ≡ level_counted (g (totals_at at t))
     → level_changed at f t ≡ totals_counted (level_changed at g t)
@@ -253,7 +253,7 @@ pub changed_broken : (at : Level) (f g : LevelTotals → LevelTotals) (t : Total
 changed_broken at f g t e same =
     ap broken (counted_changed at f g t (within_totals t e) same) ∙ broken_counted (level_changed at g t)
 
--- where no limit is broken then, the counts are the sums
+-- if no limit is broken, no number is saturated
 pub changed_same : (at : Level) (g : LevelTotals → LevelTotals) (t : Totals) → broken (level_changed at g t) ≡ None
     → level_changed at (λ l. level_counted (g l)) t ≡ level_changed at g t
 changed_same level.Preset g t e =

@@ -1,4 +1,4 @@
--- How long the lists of a bank are, and the first limit that it breaks.
+-- How long the lists of a bank are in a file, and the first limit that it breaks.
 use Rattle.std.specs.Prelude.{ℕ, ◌+◌, ◌<◌, ◌≤◌, ◌||◌, nat_lt, if◌then◌else◌, Option, Some, None, List, length, codes}
 use Rattle.sf_base.specs.declared.limits.TheConstants.{PRESETS, INSTRUMENTS, SAMPLES, ZONES, GENERATORS, MODULATORS}
 use Rattle.sf_base.specs.declared.limits.TheConstants.{POINTS, ZERO_POINTS}
@@ -15,7 +15,7 @@ use Rattle.bank_parts.specs.declared.parts.Parts.{Parts}
 use Rattle.bank_parts.specs.Counts.{counted, all_counted, records_sum}
 use Rattle.bank_parts.specs.Valid.{owner_total, zone_count, gen_count, mod_count, point_total}
 
--- how many presets, or instruments, and their records
+-- the number of presets or of instruments, and of their records
 abbrev pub level_totals : {H : Type 0} → List (WithZones H) → LevelTotals
 level_totals owners = record {
   count = length owners;
@@ -28,6 +28,7 @@ level_totals owners = record {
       };
 }
 
+-- the totals of a bank
 unfoldable pub totals_of : Parts → Totals
 totals_of b = record {
   presets = level_totals b.presets;
@@ -36,7 +37,7 @@ totals_of b = record {
   points = point_total b.samples;
 }
 
--- the first limit that such totals break
+-- the first limit that these totals break
 unfoldable pub broken : Totals → Option Limit
 broken t =
     let presets = t.presets.records in
@@ -50,53 +51,57 @@ broken t =
     else if nat_lt POINTS t.points then Some Points
     else None
 
+-- the first limit that the bank breaks
 abbrev pub broken_limit : Parts → Option Limit
 broken_limit b = broken (totals_of b)
 
--- the totals with a sample more, of so many points
+-- the totals after a sample with so many points is added
 abbrev pub with_sample : Totals → ℕ → Totals
 with_sample t points = record t { samples = t.samples + 1; points = t.points + (points + ZERO_POINTS) }
 
--- ---- a level of them
+-- ---- the totals of a level
 
+-- the totals of a level
 abbrev pub totals_at : Level → Totals → LevelTotals
 totals_at level.Preset t = t.presets
 totals_at level.Inst t = t.instruments
 
--- the level sent through f
+-- the totals of the level are changed by f
 abbrev pub level_changed : Level → (LevelTotals → LevelTotals) → Totals → Totals
 level_changed level.Preset f t = record t { presets = f t.presets }
 level_changed level.Inst f t = record t { instruments = f t.instruments }
 
--- so many records more, in those that there are
+-- so many more records
 abbrev pub plus_records : Records → LevelTotals → LevelTotals
 plus_records r l = record l { records = records_sum l.records r }
 
--- one more, that has so many records
+-- one more preset or instrument, with so many records
 abbrev pub plus_owner : Records → LevelTotals → LevelTotals
 plus_owner r l = record { count = l.count + 1; records = records_sum l.records r }
 
--- as 64 bits count them
+-- each number saturated at 2 ^ 64 - 1
 abbrev pub level_counted : LevelTotals → LevelTotals
 level_counted l = record { count = counted l.count; records = all_counted l.records }
 
+-- the totals after a preset or an instrument with so many records is added
 abbrev pub with_owner : Level → Totals → Records → Totals
 with_owner at t r = level_changed at (plus_owner r) t
 
+-- the same, saturated
 abbrev pub with_owner_counted : Level → Totals → Records → Totals
 with_owner_counted at t r = level_changed at (λ l. level_counted (plus_owner r l)) t
 
--- so many records are counted
+-- the level counts at least so many records
 pub record AreCounted (r : Records) (l : LevelTotals) : Type 0 where
   pub zones : r.zones ≤ l.records.zones
   pub gens : r.gens ≤ l.records.gens
   pub mods : r.mods ≤ l.records.mods
 
--- the totals count a preset or an instrument, and so many records
+-- the totals count at least one preset or instrument, and so many records
 abbrev pub HasOwner : Level → Totals → Records → Type 0
 HasOwner at t r = (0 < (totals_at at t).count) × AreCounted r (totals_at at t)
 
--- the word by which a limit is told
+-- the name of the limit in a fault line
 abbrev pub word_of : Limit → List ℕ
 word_of Presets = codes "presets"
 word_of Instruments = codes "instruments"

@@ -1,4 +1,4 @@
-//! Which parts are a valid bank; how long its lists are, and the limits that they keep.
+//! Whether parts are a valid bank; how long its lists are in a file; and the limits of these lengths.
 #![tactic(auto)]
 
 mod laws;

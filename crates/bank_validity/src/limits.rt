@@ -1,4 +1,4 @@
-//! The limits of a bank, and which of them is broken first.
+//! The limits of a bank, and the first one that it breaks.
 ghost use Rattle.std.specs.Prelude.{◌≡◌, ◌<◌, ◌+◌, ◌≤◌, None};
 ghost use Rattle.sf_base.specs.declared.limits.TheConstants.{ZERO_POINTS};
 ghost use Rattle.bank_validity.specs.Limits.{broken, with_sample, with_owner, with_owner_counted, plus_records, AreCounted, HasOwner, word_of};
@@ -12,8 +12,8 @@ use sf_base::limits::{
     GENERATORS, INSTRUMENTS, MODULATORS, POINTS, PRESETS, SAMPLES, ZERO_POINTS, ZONES,
 };
 
-/// A limit of a bank, in the order in which they are judged. Zones, generators and modulators are
-/// counted for presets and for instruments apart.
+/// A limit of a bank, in the order in which they are tested. Zones, generators and modulators are counted separately
+/// for presets and for instruments.
 #[derive(Clone, Copy, Debug, PartialEq, Eq)]
 pub enum Limit {
     Presets,
@@ -26,7 +26,7 @@ pub enum Limit {
 }
 
 impl Limit {
-    /// The word by which a fault line tells it.
+    /// The name of the limit in a fault line.
     pub fn word(self) -> &'static str
         ensures { result.now ≡ word_of self }
     {
@@ -43,7 +43,7 @@ impl Limit {
 }
 
 impl Totals {
-    /// The first limit that they break.
+    /// The first limit that these totals break.
     #[tactic(auto, unfolding(crate::specs::Limits::broken))]
     pub fn broken(self) -> Option<Limit>
         ensures { result ≡ broken self }
@@ -68,7 +68,7 @@ impl Totals {
         }
     }
 
-    /// The first limit that is broken with a sample more, of so many points.
+    /// The first limit that is broken after a sample with so many points is added.
     pub fn broken_with_sample(self, points: usize) -> Option<Limit>
         requires { broken self ≡ None }
         ensures { result ≡ broken (with_sample self points) }
@@ -86,7 +86,7 @@ impl Totals {
         None
     }
 
-    /// The totals with a sample more, of so many points.
+    /// The totals after a sample with so many points is added.
     pub fn with_sample(self, points: usize) -> Totals
         requires { broken (with_sample self points) ≡ None }
         ensures { result ≡ with_sample self points }
@@ -98,7 +98,7 @@ impl Totals {
         }
     }
 
-    /// The totals without one of the samples, of so many points.
+    /// The totals without one of the samples, which has so many points.
     pub fn without_sample(self, points: usize) -> Totals
         requires samples { 0 < self.samples }
         requires points { points + ZERO_POINTS ≤ self.points }
@@ -111,8 +111,8 @@ impl Totals {
         }
     }
 
-    /// The first limit that is broken with a preset or an instrument more, that has so many records. A
-    /// count that would pass 2^64 may stay below it, as that of `WithZones::records` does.
+    /// The first limit that is broken after a preset or an instrument with so many records is added. Their numbers
+    /// may be saturated, as those of `WithZones::records` are.
     pub fn broken_with_owner(self, at: Level, more: Records) -> Option<Limit>
         requires { broken self ≡ None }
         ensures { (r : Records) → more ≡ all_counted r → result ≡ broken (with_owner at self r) }
@@ -120,7 +120,7 @@ impl Totals {
         self.plus_owner(at, more).broken()
     }
 
-    /// The totals with a preset or an instrument more, that has so many records.
+    /// The totals after a preset or an instrument with so many records is added.
     pub fn with_owner(self, at: Level, more: Records) -> Totals
         requires { broken (with_owner at self more) ≡ None }
         ensures { result ≡ with_owner at self more }
@@ -128,7 +128,7 @@ impl Totals {
         self.plus_owner(at, more)
     }
 
-    /// The totals without one of the presets or of the instruments, that has so many records.
+    /// The totals without one of the presets or instruments, which has so many records.
     pub fn without_owner(self, at: Level, less: Records) -> Totals
         requires { HasOwner at self less }
         ensures { with_owner at result less ≡ self }
@@ -141,7 +141,7 @@ impl Totals {
         self.with_level(at, level)
     }
 
-    // A sum that would pass 2^64 stays below it.
+    // Each number saturates at 2^64 - 1.
     fn plus_owner(self, at: Level, more: Records) -> Totals
         ensures { result ≡ with_owner_counted at self more }
     {
@@ -155,7 +155,7 @@ impl Totals {
 }
 
 impl LevelTotals {
-    /// The same with so many records more. A sum that would pass 2^64 stays below it.
+    /// The level with so many more records. Each number saturates at 2^64 - 1.
     pub fn plus(self, more: Records) -> LevelTotals
         ensures { result ≡ record self { records = all_counted (records_sum self.records more) } }
     {
@@ -169,7 +169,7 @@ impl LevelTotals {
         }
     }
 
-    /// The same without so many of the records.
+    /// The level without so many of the records.
     pub fn without(self, less: Records) -> LevelTotals
         requires { AreCounted less self }
         ensures { plus_records less result ≡ self }

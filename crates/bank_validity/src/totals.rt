@@ -1,4 +1,4 @@
-//! How long the lists of a bank are, as a file would hold them.
+//! How long the lists of a bank are in a file.
 ghost use Rattle.std.specs.Prelude.{◌≡◌};
 ghost use Rattle.bank_parts.specs.Valid.{IsWithin, point_total};
 ghost use Rattle.bank_validity.specs.Limits.{totals_of, level_totals, totals_at, level_changed, level_counted, broken, broken_limit};
@@ -15,8 +15,8 @@ pub struct LevelTotals {
     pub records: Records,
 }
 
-/// How long the lists of a bank are, as a file would hold them: each zone's target is one of its
-/// generators, an empty global zone is none, and 46 zero points follow the points of each sample.
+/// How long the lists of a bank are in a file. The target of a zone counts as a generator, an empty global zone
+/// counts as none, and 46 zero points follow the points of each sample.
 #[derive(Clone, Copy, Debug, PartialEq, Eq)]
 pub struct Totals {
     pub presets: LevelTotals,
@@ -26,7 +26,7 @@ pub struct Totals {
 }
 
 impl Totals {
-    /// Those of a level.
+    /// The totals of a level.
     pub fn at(self, at: Level) -> LevelTotals
         ensures { result ≡ totals_at at self }
     {
@@ -36,7 +36,7 @@ impl Totals {
         }
     }
 
-    /// The same with these of a level.
+    /// The same with other totals of a level.
     pub fn with_level(self, at: Level, level: LevelTotals) -> Totals
         ensures { result ≡ level_changed at (λ _. level) self }
     {
@@ -53,8 +53,7 @@ impl Totals {
     }
 }
 
-/// Counts all lists, in one pass. A sum that would pass 2^64, far above each limit, stays below it.
-/// Takes no memory.
+/// Counts all lists in one pass. Each number saturates at 2^64 - 1, far above each limit. Allocates nothing.
 pub fn totals_of(parts: &Parts<'_>) -> Totals
     ensures value { IsWithin parts.now → result ≡ totals_of parts.now }
     ensures limits { broken result ≡ broken_limit parts.now }
@@ -76,7 +75,7 @@ fn level_totals<H: OwnerHead>(owners: &Owners<H>) -> LevelTotals
     }
 }
 
-// The points of all samples, each with the zero points after them.
+// The points of all samples, each with the zero points after it.
 fn points_in(samples: &[Sample<'_>]) -> usize
     ensures { result ≡ counted (point_total samples.now) }
 {

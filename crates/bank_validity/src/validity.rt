@@ -1,4 +1,4 @@
-//! Which parts are a valid bank.
+//! Whether parts are a valid bank.
 ghost use Rattle.std.specs.Prelude.{◌↔◌, IsTrue};
 ghost use Rattle.std.specs.Bool.{OnTrue};
 ghost use Rattle.std.specs.List.{AllByRecursion};
@@ -11,9 +11,9 @@ use bank_parts::{Head, Kind, Owners, Parts, Sample, Texts};
 use sf_base::Name20;
 use sf_base::limits::{COMMENT_LENGTH, TEXT_LENGTH};
 
-/// Whether the parts are a valid bank: its texts are, its names, its generators are allowed where
-/// they stand and its ranges in order, each target and link is the number of a member, each loop
-/// lies in its sample, and no list is longer than a file may hold it. Takes no memory.
+/// Whether the parts are a valid bank: texts and names are well formed, generators are allowed at their level, ranges
+/// are valid, each target and link is the number of a member, each loop lies in its sample, and no list is longer
+/// than a file can hold. Allocates nothing.
 pub fn is_valid(parts: &Parts<'_>) -> bool
     ensures valid { IsTrue result ↔ IsValid parts.now }
     ensures fits { OnTrue result (Fits parts.now) }
@@ -56,8 +56,7 @@ fn is_text(bytes: &[u8], most: usize) -> bool
     bytes.len() <= most && !bytes.contains(&0)
 }
 
-// ---- presets, instruments and samples; their names need no check, since a `Name20` is one; that a
-// number lies in the range of its field is known where it is read
+// ---- presets, instruments and samples; a `Name20` is always a valid name, and the ranges of fields hold by type
 
 fn are_presets(presets: &Owners<Head>, instruments: usize) -> bool
     ensures valid { IsTrue result ↔ AllByRecursion (IsPreset instruments) presets.now }

@@ -1,4 +1,4 @@
--- Zones that agree in all but their own ranges: as the tests say it, and as the code finds it.
+-- Zones that differ only in their own ranges: by the definition, and as the code tests it.
 use Rattle.std.proofs.Common.{◌≡◌, ◌≢◌, ◌↔◌, ◌==◌, ◌&&◌, ℕ, suc, Bool, true, false, IsTrue, cond, List, [], ◌∷◌}
 use Rattle.std.proofs.Common.{Some, None, refl, sym, ap, subst, ◌∙◌}
 use Rattle.std.specs.Prelude.{slice_get}
@@ -26,7 +26,7 @@ all_by_place P (x ∷ xs) h = (h 0 x refl, all_by_place P xs (λ j y e. h (suc j
 get-remove_other : (m : Gens) (op q : ℕ) → q ≢ op → map.get (map.remove m op) q ≡ map.get m q
 get-remove_other m op q differ = get-remove_any m op q ∙ ap (λ b. cond b None (map.get m q)) (untied q op differ)
 
--- what m says, n says
+-- m has every generator of n, apart from op
 says : (m n : Gens) (op q w : ℕ) → AgreeBut m op n → q ≢ op → map.get n q ≡ Some w → map.get m q ≡ Some w
 says m n op q w h differ e =
     let (j, at) = entries.set_is_entry n q w e in all_at (AgreesBut m op) (map.entries n) j (q, w) at h differ
@@ -161,7 +161,7 @@ mods_same (m ∷ ms) = both (same_mod m m) (same_mods ms ms) (mod_same m) (mods_
 gens_of_entries : (m n : Gens) → map.entries m ≡ map.entries n → m ≡ n
 gens_of_entries m n e = sym (entries.from_entries-entries m) ∙ ap map.from_entries e ∙ entries.from_entries-entries n
 
--- zones are alike exactly where they are the same without their ranges
+-- zones are alike exactly if they are equal without their ranges
 pub alike_is : (axis : Axis) (y z : Zone) → are_alike axis y z ≡ true → without_range axis y ≡ without_range axis z
 alike_is axis y z h =
     let t = y.target == z.target in
@@ -188,7 +188,7 @@ is_alike axis y z e =
     (gens_same (map.entries (without_range axis y).gens))))
     (subst (λ ms. same_mods y.mods ms ≡ true) parts.2 (mods_same y.mods))
 
--- two answers to the same
+-- two tests of the same proposition are equal
 pub answers_same : {P : Type 0} (r s : Bool) → (IsTrue r ↔ P) → (s ≡ true → P) → (P → s ≡ true) → r ≡ s
 answers_same true true h k l = refl
 answers_same true false h k l = sym (l (h.0 refl))

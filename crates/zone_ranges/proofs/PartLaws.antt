@@ -1,4 +1,4 @@
--- The zones that a split or a join leaves may stand where the zones before might.
+-- The zones after a split or a join are valid if the zones before are.
 use Rattle.std.proofs.Common.{◌≡◌, ◌<◌, ◌^◌, ◌+◌, ◌-◌, ℕ, true, Option, Some, None, unwrap_or, refl, sym, ap, ◌∙◌}
 use Rattle.std.proofs.Common.{arith}
 use Rattle.std.specs.FinMap as map
@@ -67,7 +67,7 @@ module _ (axis : Axis) (z : Zone) (f : FitsZone z) where
       record
       { target = f.target; gens = entries.All-remove FitsEntry z.gens (range_operator axis) f.gens; mods = f.mods }
 
--- ---- the range that holds
+-- ---- the effective range
 
 either_range : (o : Option ℕ) (d : ℕ) → ((w : ℕ) → o ≡ Some w → IsRange w) → IsRange d → IsRange (unwrap_or o d)
 either_range None d h r = r
@@ -90,7 +90,7 @@ module _ (at : Level) (axis : Axis) where
   pub own_holds : (z : Zone) → AreGenerators at z.gens → IsRange (own_amount axis z)
   own_holds z v = either_range (own_range axis z) whole_range (λ w e. set_range z.gens w v e) (omega arith, omega arith)
 
--- ---- the ranges of the parts
+-- ---- the ranges of both halves
 
 module _ (axis : Axis) (m : ℕ) (global : GlobalZone) (z : Zone) (h : IsSplitAt axis m global z)
     (r : IsRange (range_of axis global z)) where

@@ -1,4 +1,4 @@
--- Two members in the place of one, and one in the place of two.
+-- One member of a list replaced by two, and two replaced by one.
 use Rattle.std.proofs.Common.{◌≡◌, ◌<◌, ◌+◌, ℕ, zero, suc, List, [], ◌∷◌, length, Some, refl, ap, ◌∙◌, insert}
 use Rattle.std.proofs.Common.{remove, arith, add-one}
 use Rattle.std.specs.Prelude.{slice_get, slice_set}
@@ -14,7 +14,7 @@ set_twice [] k x y = refl
 set_twice (z ∷ zs) zero x y = refl
 set_twice (z ∷ zs) (suc k) x y = ap (λ ws. z ∷ ws) (set_twice zs k x y)
 
--- what stands before an insertion is set before or after it
+-- setting a member and an insertion after it commute
 set_before : {X : Type 0} (xs : List X) (k : ℕ) (x y : X) → k < length xs
     → slice_set (insert xs (suc k) y) k x ≡ insert (slice_set xs k x) (suc k) y
 set_before [] k x y h = absurd (omega arith)
@@ -68,7 +68,7 @@ module _ {X : Type 0} (xs : List X) (k : ℕ) (x y : X) (first : slice_get xs k 
       (set_twice (remove xs (suc k)) k z x ∙ slice_set_same (remove xs (suc k)) k x left_first)
       ∙ insert-remove xs (suc k) y second')
 
--- ---- what holds of all
+-- ---- properties of all members
 
 pub all_set : {X : Type 0} (P : X → Type 0) (xs : List X) (k : ℕ) (x : X) → P x → AllByRecursion P xs
     → AllByRecursion P (slice_set xs k x)
@@ -102,7 +102,7 @@ all_at P [] k x e v = cc
 all_at P (y ∷ ys) zero x e v = let same : y ≡ x = cc in rw same at v.0
 all_at P (y ∷ ys) (suc k) x e v = all_at P ys k x e v.1
 
--- ---- one member changed twice, and by what gives the same
+-- ---- one member changed twice, and by equal changes
 
 pub changed_twice : {X : Type 0} (xs : List X) (i : ℕ) (f g : X → X) (x : X) → slice_get xs i ≡ Some x
     → changed (changed xs i f) i g ≡ slice_set xs i (g (f x))

@@ -1,4 +1,4 @@
--- Zones split and joined: what takes each back, and when that can be done.
+-- Split and join of zones: their undo laws, and when each can be done.
 use Rattle.std.proofs.Common.{◌≡◌, ℕ, Bool, true, false, ◌<◌, ◌≤◌, ◌+◌, ◌-◌, ◌==◌, nat_le, nat_lt, List, Option}
 use Rattle.std.proofs.Common.{Some, None, cond, unwrap_or, refl, sym, ap, ◌∙◌, arith}
 use Rattle.std.proofs.lemmas.Bool.Decides.{nat_tests}
@@ -77,7 +77,7 @@ at_split axis m global z h =
     let w = range_of axis global z in
     both (nat_lt (low_end w) m) (nat_le m (high_end w)) (is_lt (low_end w) m h.above) (is_le m (high_end w) h.within)
 
--- a bare zone would have both ranges together
+-- without a range of its own, the joined zone inherits both ranges together
 abbrev pub IsInherited : Axis → Keep → GlobalZone → ℕ → Type 0
 IsInherited axis keeping.Keep global amount = Unit {0}
 IsInherited axis keeping.Bare global amount = amount ≡ inherited_range axis global
@@ -212,7 +212,7 @@ own_with axis w z = get_inserted z.gens (range_operator axis) w
 pub own_without : (axis : Axis) (z : Zone) → own_range axis (without_range axis z) ≡ None
 own_without axis z = get_removed z.gens (range_operator axis)
 
--- ---- a split, joined
+-- ---- the join after a split
 
 module _ (axis : Axis) (m : ℕ) (global : GlobalZone) (z : Zone) (small : m < 256) where
   lower_amount : ℕ
@@ -295,7 +295,7 @@ split_undone {H} owners i k axis m x z there zone small h =
     (λ (x : WithZones H). with_zones (zones_joined axis (keep_for axis z) x.zones k) x) x there
     (ap (λ zones. with_zones zones x) (split_joined axis m x.global z small x.zones k zone))
 
--- ---- a join, split
+-- ---- the split after a join
 
 module _ (axis : Axis) (keep : Keep) (global : GlobalZone) (y z : Zone) (h : AreJoined axis keep global y z) where
   rejoined : (keep : Keep) (w : ℕ) → with_range axis w (joined axis keep y z) ≡ with_range axis w y

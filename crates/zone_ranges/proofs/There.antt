@@ -1,4 +1,4 @@
--- Members and zones that are there, and what the code leaves of them.
+-- Owners and zones that exist, and what the code makes of them.
 use Rattle.std.proofs.Common.{◌≡◌, ◌↔◌, Bool, true≢false, ◌<◌, ◌≤◌, ◌+◌, ◌-◌, ℕ, true, false, List, length, insert}
 use Rattle.std.proofs.Common.{remove, Option, Some, None, IsTrue, refl, sym, ap, subst, ◌∙◌, arith, add-one}
 use Rattle.std.specs.Prelude.{slice_get, slice_set, IsSomeAnd, IfSome}
@@ -34,7 +34,7 @@ use Rattle.zone_ranges.specs.Alike.{AgreesBut, AgreeBut, AgreesButAt}
 use Rattle.std.specs.List.{AllByRecursion}
 use Rattle.generators.specs.Gens.{Gens}
 
--- a zone of a member
+-- a zone of an owner
 pub record ZoneThere {H : Type 0} (owners : List (WithZones H)) (i k : ℕ) : Type 0 where
   pub member : WithZones H
   pub there : slice_get owners i ≡ Some member
@@ -73,7 +73,7 @@ module _ {H : Type 0} (owners : List (WithZones H)) (i k : ℕ) (t : ZoneThere o
       changed-found t.member.zones k (λ (z : Zone). zone_with_settings (f (settings_of_zone z)) z) t.zone
       t.zone_there
 
-  -- the count of zones stays
+  -- the number of zones does not change
   pub place_stays : (op amount : ℕ)
       → IsSomeAnd (zone_count_at (gen_set owners i (place.Zone k) op amount) i) (λ count. k + 1 ≤ count)
   place_stays op amount =
@@ -96,7 +96,7 @@ module _ {H : Type 0} (owners : List (WithZones H)) (i k : ℕ) (t : ZoneThere o
       omega (arith, same, lt) in
       rw now many
 
-  -- with the setting alone there is less than with a zone behind it
+  -- flat lists that can hold both changes can hold the setting alone
   pub set_storable : {at : Level} (op amount : ℕ) (upper : Zone)
       → AreStorable at (zone_added (gen_set owners i (place.Zone k) op amount) i (k + 1) upper)
       → AreStorable at (gen_set owners i (place.Zone k) op amount)
@@ -167,7 +167,7 @@ module _ {H : Type 0} (owners : List (WithZones H)) (i k : ℕ) (t : ZoneThere o
         ≡ zone_joined owners i k axis keeping.Bare
     join_put_bare axis = put_joined (λ s. with_gens (map.remove s.gens (range_operator axis)) s) axis keeping.Bare refl
 
-    -- the first zone is there without the second
+    -- the first zone exists without the second
     pub left_there : ZoneThere (zone_removed owners i (k + 1)) i k
     left_there = record {
       member = with_zones (remove t.member.zones (k + 1)) t.member;
@@ -234,7 +234,7 @@ pub there_joined : {H : Type 0} (axis : Axis) (keep : Keep) (owners : List (With
     → joins_at axis keep owners i k ≡ are_joinable axis keep t.member.global t.zone z
 there_joined axis _ owners i k t z e = rw (t.there, t.zone_there, e) refl
 
--- ---- two zones of one member
+-- ---- two zones of one owner
 
 module _ {H : Type 0} (owners : List (WithZones H)) (i k : ℕ) (t : ZoneThere owners i k) where
   pub beside : (l : ℕ) → HasPlace owners i (place.Zone l) → (z : Zone) × (slice_get t.member.zones l ≡ Some z)
@@ -279,7 +279,7 @@ are_alike_by_mods axis y z r s target t h k =
     answers_same {P = y.mods ≡ z.mods} s (are_alike axis y z) k (λ a. ap (λ (x : Zone). x.mods) (alike_is axis y z a))
     (λ e. is_alike axis y z ((alike_zones axis y z).0 (target, h.0 t, e)))
 
--- ---- an operator that has the amount again that it had
+-- ---- an operator with its old amount restored
 
 pub gen_restored : {H : Type 0} (owners : List (WithZones H)) (i k op amount : ℕ) (was : Option ℕ)
     → HasPlace owners i (place.Zone k) → was ≡ amount_at owners i (place.Zone k) op
@@ -289,11 +289,11 @@ pub gen_restored : {H : Type 0} (owners : List (WithZones H)) (i k op amount : �
 gen_restored owners i k op amount None h e = gen_set_cleared owners i (place.Zone k) op amount h (sym e)
 gen_restored owners i k op amount (Some w) h e = gen_set_back owners i (place.Zone k) op w amount (sym e)
 
--- ---- what a join leaves
+-- ---- the result of a join
 
 module _ {H : Type 0} (owners : List (WithZones H)) (i k : ℕ) (axis : Axis) (keep : Keep)
     (h : JoinThere axis keep owners i k) where
-  -- the first zone, with the amount that it gets
+  -- the first zone, with its new amount
   abbrev Joined : Option ℕ → Type 0
   Joined was =
       option_map_or (λ amount. gen_set (zone_removed owners i (k + 1)) i (place.Zone k) (range_operator axis) amount)
@@ -307,7 +307,7 @@ module _ {H : Type 0} (owners : List (WithZones H)) (i k : ℕ) (axis : Axis) (k
   pub bared : (was : Option ℕ) → keep ≡ keeping.Bare → was ≡ None → Joined was
   bared was e f = rw (e, f) (join_put_bare owners i k h.at h.second h.next axis)
 
--- ---- a split and a join as zones that are put there
+-- ---- a split and a join, as changes of the list of zones
 
 module _ {H : Type 0} (owners : List (WithZones H)) (i k : ℕ) (t : ZoneThere owners i k) where
   pub zones_there : zones_at owners i ≡ Some t.member.zones

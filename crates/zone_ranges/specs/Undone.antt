@@ -1,4 +1,4 @@
--- A split and a join take each other back, and each can be done where the other was.
+-- A split and a join undo each other, and after each of them the other can be done.
 use Rattle.std.specs.Prelude.{◌≡◌, ◌<◌, ◌+◌, ◌^◌, ℕ, true, List, Some, slice_get, unwrap_or}
 use Rattle.generators.specs.Ranges.{IsRange}
 use Rattle.bank_parts.specs.declared.parts.GlobalZone.{GlobalZone}
@@ -10,14 +10,15 @@ use Rattle.zone_ranges.specs.Ranges.{low_end, whole_range, own_range}
 use Rattle.zone_ranges.specs.Splits.{is_inside, lower_part, upper_part, zone_split, are_joinable, joined}
 use Rattle.zone_ranges.specs.Splits.{zone_joined, keep_for}
 
--- where a zone's own range begins
+-- the low end of the range that the zone sets itself
 abbrev pub own_low : Axis → Zone → ℕ
 own_low axis z = low_end (unwrap_or (own_range axis z) whole_range)
 
--- where it ends and begins
+-- the range that the zone sets itself
 abbrev pub own_amount : Axis → Zone → ℕ
 own_amount axis z = unwrap_or (own_range axis z) whole_range
 
+-- the join undoes the split
 abbrev pub SplitUndone : Type 0 → Type 0
 SplitUndone H =
     (owners : List (WithZones H)) (i k : ℕ) (axis : Axis) (m : ℕ) (x : WithZones H) (z : Zone)
@@ -25,16 +26,19 @@ SplitUndone H =
     → m < 2 ^ 8 → is_inside axis m x.global z ≡ true
     → zone_joined (zone_split owners i k axis m) i k axis (keep_for axis z) ≡ owners
 
+-- the split undoes the join
 abbrev pub JoinUndone : Type 0 → Type 0
 JoinUndone H = (owners : List (WithZones H)) (i k : ℕ) (axis : Axis) (keep : Keep) (x : WithZones H) (y z : Zone)
     → slice_get owners i ≡ Some x → slice_get x.zones k ≡ Some y → slice_get x.zones (k + 1) ≡ Some z
     → are_joinable axis keep x.global y z ≡ true
     → zone_split (zone_joined owners i k axis keep) i k axis (own_low axis z) ≡ owners
 
+-- after a split the two zones can be joined
 abbrev pub SplitIsJoinable : Type 0
 SplitIsJoinable = (axis : Axis) (m : ℕ) (global : GlobalZone) (z : Zone) → m < 2 ^ 8 → is_inside axis m global z ≡ true
     → are_joinable axis (keep_for axis z) global (lower_part axis m global z) (upper_part axis m global z) ≡ true
 
+-- after a join the zone can be split
 abbrev pub JoinIsSplittable : Type 0
 JoinIsSplittable =
     (axis : Axis) (keep : Keep) (global : GlobalZone) (y z : Zone) → are_joinable axis keep global y z ≡ true

@@ -1,4 +1,4 @@
-//! Whether two zones agree in all but their own ranges on an axis.
+//! Whether two zones differ only in their own ranges on an axis.
 ghost use Rattle.std.specs.Prelude.{◌≡◌, ◌↔◌, IsTrue, IfSome};
 ghost use Rattle.std.specs.List.{AllByRecursion};
 ghost use Rattle.std.specs.FinMap.{remove};
@@ -35,7 +35,7 @@ pub(crate) fn are_alike<H: OwnerHead>(
     )
 }
 
-// Whether two zones set all operators but one alike.
+// Whether two zones have the same generators, apart from one operator.
 fn same_but<H: OwnerHead>(
     owners: &Owners<H>,
     i: usize,
@@ -55,7 +55,7 @@ fn same_but<H: OwnerHead>(
         && agree_but(owners, i, second, operator, of_first)
 }
 
-// Whether a zone sets each operator but one as these entries do.
+// Whether a zone has each of these generators, apart from one operator.
 fn agree_but<H: OwnerHead>(
     owners: &Owners<H>,
     i: usize,

@@ -1,6 +1,6 @@
-//! What is said of a range besides its ends.
+//! The axis of a range, and the range of a joined zone.
 
-/// What a range is of.
+/// Whether a range is one of keys or of velocities.
 #[derive(Clone, Copy, Debug, PartialEq, Eq)]
 pub enum Axis {
     /// The key of a note: generator 43 (SoundFont 2.04, section 8.1.2).
@@ -9,10 +9,10 @@ pub enum Axis {
     Vel,
 }
 
-/// Whether the zone that two zones become has their ranges together as its own range.
+/// Whether the zone that results from a join gets a range of its own: that of both zones together.
 #[derive(Clone, Copy, Debug, PartialEq, Eq)]
 pub enum Keep {
     Keep,
-    /// It has none of its own, and takes that of its global zone, else 0 to 127.
+    /// It has no range of its own, and inherits that of its global zone, else 0 to 127.
     Bare,
 }

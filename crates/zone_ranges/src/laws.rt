@@ -1,7 +1,7 @@
-//! The laws of splits and joins. A function here does nothing: the law is its contract.
+//! The laws of splits and joins. A function here does nothing: its contract is the law.
 ghost use Rattle.zone_ranges.specs.Undone.{SplitUndone, JoinUndone, SplitIsJoinable, JoinIsSplittable};
 
-/// A split and a join take each other back, and each can be done where the other was.
+/// A split and a join undo each other, and after each of them the other can be done.
 pub fn splits_and_joins_undone<H>()
     ensures split { SplitUndone H }
     ensures join { JoinUndone H }

@@ -1,5 +1,5 @@
-//! The ranges of keys and of velocities that hold for zones; zones split in two at a key or a velocity,
-//! and neighbours joined again.
+//! The effective key and velocity ranges of zones; split of a zone in two at a key or a velocity, and join of two
+//! neighbouring zones.
 #![tactic(auto)]
 
 mod alike;

@@ -1,4 +1,4 @@
-//! The range that holds for a zone.
+//! The effective range of a zone.
 ghost use Rattle.std.specs.Prelude.{◌≡◌, ◌<◌, length, slice_get, Some, IfSome};
 ghost use Rattle.std.specs.Option.{option_map};
 ghost use Rattle.bank_parts.specs.declared.owners.ZonePlace.TheVariants as place;
@@ -35,7 +35,7 @@ pub(crate) fn own_range<H: OwnerHead>(
     owners.amount(i, ZonePlace::Zone(k), range_operator(axis))
 }
 
-// The range that a zone without its own has, as an amount.
+// The range of a zone without its own, as an amount.
 pub(crate) fn inherited_range<H: OwnerHead>(owners: &Owners<H>, i: usize, axis: Axis) -> u16
     requires { i < length owners.now }
     ensures { IfSome (slice_get owners.now i) (λ x. result ≡ inherited_range axis x.global) }
@@ -45,8 +45,8 @@ pub(crate) fn inherited_range<H: OwnerHead>(owners: &Owners<H>, i: usize, axis: 
         .unwrap_or(WHOLE_RANGE)
 }
 
-/// The range of keys or of velocities that holds for zone `k` of number `i`, both of which are there:
-/// its own, else its global zone's, else 0 to 127. Its ends are those that the file has.
+/// The effective key or velocity range of zone `k` of owner `i`: its own, else that of its global zone, else 0 to
+/// 127. The ends are those stored in the bank.
 pub fn zone_range<H: OwnerHead>(owners: &Owners<H>, i: u32, k: u32, axis: Axis) -> Range
     requires { HasPlace owners.now i (place.Zone k) }
     ensures low { option_map low_end (range_at axis owners.now i k) ≡ Some result.low }

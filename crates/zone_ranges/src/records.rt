@@ -1,4 +1,4 @@
-//! How many records a split of a zone adds, and how many a join takes.
+//! How many records a split of a zone adds, and how many a join removes.
 ghost use Rattle.std.specs.Prelude.{◌≡◌, ◌+◌, IfSome};
 ghost use Rattle.bank_parts.specs.declared.owners.ZonePlace.TheVariants as place;
 ghost use Rattle.bank_parts.specs.Counts.{all_counted};
@@ -9,8 +9,8 @@ use crate::axes::{Axis, Keep};
 use crate::ranges::own_range;
 use bank_parts::{OwnerHead, Owners, Records, ZonePlace};
 
-/// The records that a split of zone `k` of number `i`, both of which are there, adds: those of the
-/// zone, and two ranges where it has none of its own. A sum that would pass 2^64 stays below it.
+/// The records that a split of zone `k` of owner `i` adds: those of the zone, and two ranges if it has none of its
+/// own. Each number saturates at 2^64 - 1.
 pub fn split_records<H: OwnerHead>(owners: &Owners<H>, i: u32, k: u32, axis: Axis) -> Records
     requires { HasPlace owners.now i (place.Zone k) }
     ensures { IfSome (zone_at owners.now i k) (λ z. result ≡ all_counted (split_records axis z)) }
@@ -22,8 +22,8 @@ pub fn split_records<H: OwnerHead>(owners: &Owners<H>, i: u32, k: u32, axis: Axi
     records_with(owners, i as usize, k as usize, more)
 }
 
-/// The records that a join of zones `k` and `k + 1` of number `i`, all of which are there, takes: those
-/// of the second, and the range that a bare one loses. A sum that would pass 2^64 stays below it.
+/// The records that a join of zones `k` and `k + 1` of owner `i` removes: those of the second zone, and the range of
+/// the first if the joined zone is to have none. Each number saturates at 2^64 - 1.
 pub fn join_records<H: OwnerHead>(owners: &Owners<H>, i: u32, k: u32, keep: Keep) -> Records
     requires { HasPlace owners.now i (place.Zone (k + 1)) }
     ensures { IfSome (zone_at owners.now i (k + 1)) (λ z. result ≡ all_counted (join_records keep z)) }
@@ -35,7 +35,7 @@ pub fn join_records<H: OwnerHead>(owners: &Owners<H>, i: u32, k: u32, keep: Keep
     records_with(owners, i as usize, k as usize + 1, more)
 }
 
-// A zone more, with its modulators, and with so many generators more than it has.
+// The records of a zone, with so many more generators.
 fn records_with<H: OwnerHead>(owners: &Owners<H>, i: usize, k: usize, more: usize) -> Records
     requires { HasPlace owners.now i (place.Zone k) }
     ensures { IfSome (zone_at owners.now i k) (λ z. result ≡ all_counted (records_with more z)) }

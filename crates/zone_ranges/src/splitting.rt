@@ -1,4 +1,4 @@
-//! A zone split in two, and two zones joined, in presets or in instruments.
+//! Split of a zone in two, and join of two zones, in presets or instruments.
 ghost use Rattle.std.specs.Prelude.{◌≡◌, ◌+◌, true, slice_get, Some, IsSome, IfSome, OnOk, OnErr};
 ghost use Rattle.std.specs.Option.{option_map_or};
 ghost use Rattle.bank_parts.specs.declared.owners.ZonePlace.TheVariants as place;
@@ -18,8 +18,8 @@ use generators::Range;
 use sf_base::OutOfMemory;
 use std::alloc::Global;
 
-/// Whether zone `k` of number `i` is there and can be split at a key or a velocity: it lies in the
-/// range that holds for the zone, and not at its low end.
+/// Whether zone `k` of owner `i` exists and can be split at a key or a velocity: `at` lies in its effective range,
+/// but not at the low end.
 pub fn splits<H: OwnerHead>(owners: &Owners<H>, i: u32, k: u32, axis: Axis, at: u8) -> bool
     ensures { result ≡ splits_at axis at owners.now i k }
 {
@@ -30,9 +30,9 @@ pub fn splits<H: OwnerHead>(owners: &Owners<H>, i: u32, k: u32, axis: Axis, at: 
     range.low < at && at <= range.high
 }
 
-/// Whether zones `k` and `k + 1` of number `i` are there and can be joined: they agree in all but their
-/// own ranges on the axis, the second's begins one above the first's end, and a zone without a range of
-/// its own would have both together.
+/// Whether zones `k` and `k + 1` of owner `i` exist and can be joined: they differ only in their own ranges on the
+/// axis, the second range begins one above the end of the first and, for `Keep::Bare`, both ranges together are the
+/// one that the joined zone inherits.
 pub fn joins<H: OwnerHead>(owners: &Owners<H>, i: u32, k: u32, axis: Axis, keep: Keep) -> bool
     ensures { result ≡ joins_at axis keep owners.now i k }
 {
@@ -45,7 +45,7 @@ pub fn joins<H: OwnerHead>(owners: &Owners<H>, i: u32, k: u32, axis: Axis, keep:
         && have_neighbours(owners, i, first, second, axis, keep)
 }
 
-// Whether both zones have ranges of their own, and these are neighbours.
+// Whether both zones have ranges of their own, which are neighbours.
 fn have_neighbours<H: OwnerHead>(
     owners: &Owners<H>,
     i: usize,
@@ -81,7 +81,7 @@ fn are_neighbours(keep: Keep, inherited: u16, first: u16, second: u16) -> bool
     }
 }
 
-// From the low end of the one to the high end of the other.
+// From the low end of the first range to the high end of the second.
 fn joint_range(first: u16, second: u16) -> u16
     ensures { result ≡ joint_range first second }
 {
@@ -90,8 +90,8 @@ fn joint_range(first: u16, second: u16) -> u16
     Range { low, high }.to_amount()
 }
 
-/// Splits zone `k` of number `i` at a key or a velocity, from which on the second zone holds. When out of
-/// memory, nothing changes.
+/// Splits zone `k` of owner `i` at a key or a velocity, which is the low end of the new second zone. On `OutOfMemory`
+/// nothing changes.
 pub fn split_zone<H: OwnerHead>(
     owners: &mut Owners<H>,
     alloc: Global,
@@ -121,7 +121,7 @@ pub fn split_zone<H: OwnerHead>(
     Ok(())
 }
 
-// Gives zone `k` this amount, and puts a zone in behind it. When out of memory, nothing changes.
+// Sets the operator of zone `k` to this amount, and inserts a zone after it. On `OutOfMemory` nothing changes.
 fn put_parts<H: OwnerHead>(
     owners: &mut Owners<H>,
     i: u32,
@@ -146,7 +146,7 @@ fn put_parts<H: OwnerHead>(
     }
 }
 
-// Gives an operator that is set the amount that it had. Takes no memory.
+// Restores the old amount of an operator that is set now, or clears it if it had none. Allocates nothing.
 fn set_back<H: OwnerHead>(
     owners: &mut Owners<H>,
     i: usize,
@@ -169,7 +169,7 @@ fn set_back<H: OwnerHead>(
     }
 }
 
-/// Joins zones `k` and `k + 1` of number `i`. When out of memory, nothing changes.
+/// Joins zones `k` and `k + 1` of owner `i`. On `OutOfMemory` nothing changes.
 pub fn join_zones<H: OwnerHead>(
     owners: &mut Owners<H>,
     alloc: Global,

@@ -3,7 +3,7 @@ use Rattle.sample_view.specs.Pieces.{joined_bytes}
 use Rattle.bank_equality.specs.Unread.{bytes_left, slices_left}
 use Rattle.bank_equality.proofs.points.same_bytes.Given as goal
 
--- what is left is the same exactly where all is
+-- the unread bytes are equal exactly if all bytes are
 abbrev pub invariant-loop-left : goal.invariant-loop-left
 invariant-loop-left l = (joined_bytes l.fn.a ≡ joined_bytes l.fn.b) ↔ (bytes_left l.left ≡ bytes_left l.right)
 
