@@ -196,7 +196,7 @@ in_sum a r l e =
     let mods = ap (λ (s : Records). s.mods) e in
     record { zones = omega arith; gens = omega arith; mods = omega arith }
 
--- the totals with so many more records, and what they count then
+-- a way to add records to totals, and what the totals count then
 pub record Grow (plus : Totals → Records → Totals) (Has : Totals → Records → Type 0) : Type 0 where
   pub within : (t : Totals) (r : Records) → broken (plus t r) ≡ None → broken t ≡ None
   pub whole : (t : Totals) (r : Records) → broken (plus t r) ≡ None → all_counted r ≡ r

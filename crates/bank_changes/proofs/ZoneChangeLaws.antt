@@ -34,7 +34,7 @@ use Rattle.bank_changes.proofs.ZoneLaws.{records_of_zones, totals_zones_more, to
 
 -- ---- owners and zones that exist
 
--- an owner with so many zones
+-- an owner and the number of its zones
 pub own_zones_there : (b : Parts) (o : Owner) (P : ℕ → Type 0) → IsSomeAnd (own_zone_count b o) P
     → There (zones_of b o) (λ zones. P (length zones))
 own_zones_there b (owner.Preset p) P h = list.zones_there b.presets p P h

@@ -6,7 +6,7 @@ use Rattle.bank_validity.specs.declared.totals.LevelTotals.{LevelTotals}
 use Rattle.bank_validity.specs.declared.totals.Totals.{Totals}
 use Rattle.bank_validity.specs.Limits.{totals_at, level_changed, plus_records, AreCounted}
 
--- the totals after so many more records
+-- the totals after the records r are added
 abbrev pub with_records : Level → Totals → Records → Totals
 with_records at t r = level_changed at (plus_records r) t
 
@@ -15,6 +15,6 @@ abbrev pub with_records_counted : Level → Totals → Records → Totals
 with_records_counted at t r =
     level_changed at (λ (l : LevelTotals). record l { records = all_counted (records_sum l.records r) }) t
 
--- the totals count at least so many records
+-- the totals count at least the records r
 abbrev pub HasRecords : Level → Totals → Records → Type 0
 HasRecords at t r = AreCounted r (totals_at at t)

@@ -10,7 +10,7 @@ use bank_parts::Records;
 use bank_validity::{Limit, Totals};
 use generators::Level;
 
-/// The first limit that is broken after so many more records. Their numbers may be saturated, as those of
+/// The first limit that is broken after `more` records are added. Their numbers may be saturated, as those of
 /// `Zone::records` are.
 pub fn broken_with_records(totals: Totals, at: Level, more: Records) -> Option<Limit>
     requires { broken totals ≡ None }
@@ -19,7 +19,7 @@ pub fn broken_with_records(totals: Totals, at: Level, more: Records) -> Option<L
     plus_records(totals, at, more).broken()
 }
 
-/// The totals after so many more records.
+/// The totals after `more` records are added.
 pub fn with_records(totals: Totals, at: Level, more: Records) -> Totals
     requires { broken (with_records at totals more) ≡ None }
     ensures { result ≡ with_records at totals more }
@@ -27,7 +27,7 @@ pub fn with_records(totals: Totals, at: Level, more: Records) -> Totals
     plus_records(totals, at, more)
 }
 
-/// The totals without so many of the records.
+/// The totals after `less` of the records are removed.
 pub fn without_records(totals: Totals, at: Level, less: Records) -> Totals
     requires { HasRecords at totals less }
     ensures { with_records at result less ≡ totals }

@@ -94,7 +94,7 @@ impl<'a> Bank<'a> {
         set_tune(&mut self.parts, number, rate, key, correction)
     }
 
-    /// The first limit that is broken after so many more points in one of the samples. `more` may be saturated.
+    /// The first limit that is broken after `more` points are added to one of the samples. `more` may be saturated.
     pub fn broken_with_points(&self, more: usize) -> Option<Limit>
         ensures { (number : ℕ) (front back : List ℕ) → number < length self.now.samples → more ≡ counted (length front + length back)
             → result ≡ broken_limit (sample_extended self.now number front back) }

@@ -81,7 +81,7 @@ bag_held bags i k own b more there within a s z g m =
     let mods_grow = grows (λ (b : Bag). b.mods) bags i k own b there within in
     holds_more a s bags more (omega arith) (omega arith) (omega arith)
 
--- a bag changed by F, which adds so many records
+-- a bag changed by F, which adds `more` records
 pub sent_held : {H : Type 0} {at : Level} {hs : List H} {owners : List (WithZones H)} (bags : List (List Bag)) (i k : ℕ)
     (own : List Bag) (b : Bag) (F : Bag → Bag) (more : Records) → slice_get bags i ≡ Some own
     → slice_get own k ≡ Some b → AreOf (target_operator at) hs (bag_changed bags i k F) owners → AreStorable at owners

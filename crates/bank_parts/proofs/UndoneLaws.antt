@@ -69,7 +69,7 @@ module _ {H : Type 0} (owners : List (WithZones H)) (i : ℕ) where
       ∙ given_by_part (λ (s : Settings). s.mods) (λ (mods : List Modulator). slice_get mods j)
       (settings_at owners i at)
 
-  -- an owner with so many zones
+  -- an owner and the number of its zones
   pub zones_there : (P : ℕ → Type 0) → IsSomeAnd (zone_count_at owners i) P
       → There (zones_at owners i) (λ zones. P (length zones))
   zones_there P h = here (slice_get owners i) h

@@ -25,7 +25,7 @@ use Rattle.bank_parts.proofs.ReadLaws.{amount-last}
 use Rattle.bank_parts.proofs.MemberLaws.{sent}
 use Rattle.bank_parts.proofs.PlaceLaws.{OwnerAt, owner_found, of_some, bags_counted, global_counted}
 
--- ---- an owner with so many zones
+-- ---- an owner and the number of its zones
 
 pub record ZonesAt {H : Type 0} (op : ℕ) (bags : List (List Bag)) (owners : List (WithZones H)) (i : ℕ)
     (P : ℕ → Type 0) : Type 0 where

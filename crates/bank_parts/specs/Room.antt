@@ -39,7 +39,7 @@ records_of_zones zones =
       mods = sum_by (λ (z : Zone). length z.mods) zones;
     }
 
--- flat lists can hold so many more records
+-- flat lists with these bags can hold `more` records in addition
 pub record CanHold (bags : List (List Bag)) (more : Records) : Type 0 where
   pub zones : length (all_bags bags) + more.zones < 2 ^ 16
   pub gens : length (gens_in (all_bags bags)) + more.gens < 2 ^ 16

@@ -12,7 +12,7 @@ use generators::GenMap;
 use owner_bags::OwnerBags;
 use sf_base::OutOfMemory;
 
-/// Whether flat lists can hold so many more records.
+/// Whether flat lists can hold `more` records in addition.
 pub(crate) fn can_hold(bags: &OwnerBags, more: Records) -> bool
     ensures { IsTrue result ↔ CanHold bags.now.owners more }
 {
@@ -33,7 +33,7 @@ fn fits_index(count: usize, more: usize) -> bool
     count.saturating_add(more) < 65536
 }
 
-/// Reserves memory for so many more owners and records. The contents do not change.
+/// Reserves memory for more owners and records. The contents do not change.
 pub(crate) fn make_room(
     bags: &mut OwnerBags,
     owners: usize,

@@ -59,7 +59,7 @@ within_totals t e = record {
 pub not_over : (most n : ℕ) → n ≤ most → nat_lt most n ≡ false
 not_over most n h = grind (arith, nat_tests)
 
--- with so many points, which may exceed their limit
+-- with another number of points, which may exceed the limit
 pub broken_points : (t : Totals) → AreWithin t → (p : ℕ)
     → broken (let u : Totals = record t { points = p } in u) ≡ (if nat_lt POINTS p then Some limit.Points else None)
 unfolding broken

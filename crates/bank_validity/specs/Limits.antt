@@ -55,7 +55,7 @@ broken t =
 abbrev pub broken_limit : Parts → Option Limit
 broken_limit b = broken (totals_of b)
 
--- the totals after a sample with so many points is added
+-- the totals after a sample with these points is added
 abbrev pub with_sample : Totals → ℕ → Totals
 with_sample t points = record t { samples = t.samples + 1; points = t.points + (points + ZERO_POINTS) }
 
@@ -71,11 +71,11 @@ abbrev pub level_changed : Level → (LevelTotals → LevelTotals) → Totals �
 level_changed level.Preset f t = record t { presets = f t.presets }
 level_changed level.Inst f t = record t { instruments = f t.instruments }
 
--- so many more records
+-- the records r added
 abbrev pub plus_records : Records → LevelTotals → LevelTotals
 plus_records r l = record l { records = records_sum l.records r }
 
--- one more preset or instrument, with so many records
+-- a preset or an instrument with the records r added
 abbrev pub plus_owner : Records → LevelTotals → LevelTotals
 plus_owner r l = record { count = l.count + 1; records = records_sum l.records r }
 
@@ -83,7 +83,7 @@ plus_owner r l = record { count = l.count + 1; records = records_sum l.records r
 abbrev pub level_counted : LevelTotals → LevelTotals
 level_counted l = record { count = counted l.count; records = all_counted l.records }
 
--- the totals after a preset or an instrument with so many records is added
+-- the totals after a preset or an instrument with the records r is added
 abbrev pub with_owner : Level → Totals → Records → Totals
 with_owner at t r = level_changed at (plus_owner r) t
 
@@ -91,13 +91,13 @@ with_owner at t r = level_changed at (plus_owner r) t
 abbrev pub with_owner_counted : Level → Totals → Records → Totals
 with_owner_counted at t r = level_changed at (λ l. level_counted (plus_owner r l)) t
 
--- the level counts at least so many records
+-- the level counts at least the records r
 pub record AreCounted (r : Records) (l : LevelTotals) : Type 0 where
   pub zones : r.zones ≤ l.records.zones
   pub gens : r.gens ≤ l.records.gens
   pub mods : r.mods ≤ l.records.mods
 
--- the totals count at least one preset or instrument, and so many records
+-- the totals count at least one preset or instrument, and the records r
 abbrev pub HasOwner : Level → Totals → Records → Type 0
 HasOwner at t r = (0 < (totals_at at t).count) × AreCounted r (totals_at at t)
 

@@ -68,7 +68,7 @@ impl Totals {
         }
     }
 
-    /// The first limit that is broken after a sample with so many points is added.
+    /// The first limit that is broken after a sample with `points` points is added.
     pub fn broken_with_sample(self, points: usize) -> Option<Limit>
         requires { broken self ≡ None }
         ensures { result ≡ broken (with_sample self points) }
@@ -86,7 +86,7 @@ impl Totals {
         None
     }
 
-    /// The totals after a sample with so many points is added.
+    /// The totals after a sample with `points` points is added.
     pub fn with_sample(self, points: usize) -> Totals
         requires { broken (with_sample self points) ≡ None }
         ensures { result ≡ with_sample self points }
@@ -98,7 +98,7 @@ impl Totals {
         }
     }
 
-    /// The totals without one of the samples, which has so many points.
+    /// The totals after a sample with `points` points is removed.
     pub fn without_sample(self, points: usize) -> Totals
         requires samples { 0 < self.samples }
         requires points { points + ZERO_POINTS ≤ self.points }
@@ -111,7 +111,7 @@ impl Totals {
         }
     }
 
-    /// The first limit that is broken after a preset or an instrument with so many records is added. Their numbers
+    /// The first limit that is broken after a preset or an instrument with `more` records is added. Their numbers
     /// may be saturated, as those of `WithZones::records` are.
     pub fn broken_with_owner(self, at: Level, more: Records) -> Option<Limit>
         requires { broken self ≡ None }
@@ -120,7 +120,7 @@ impl Totals {
         self.plus_owner(at, more).broken()
     }
 
-    /// The totals after a preset or an instrument with so many records is added.
+    /// The totals after a preset or an instrument with `more` records is added.
     pub fn with_owner(self, at: Level, more: Records) -> Totals
         requires { broken (with_owner at self more) ≡ None }
         ensures { result ≡ with_owner at self more }
@@ -128,7 +128,7 @@ impl Totals {
         self.plus_owner(at, more)
     }
 
-    /// The totals without one of the presets or instruments, which has so many records.
+    /// The totals after a preset or an instrument with `less` records is removed.
     pub fn without_owner(self, at: Level, less: Records) -> Totals
         requires { HasOwner at self less }
         ensures { with_owner at result less ≡ self }
@@ -155,7 +155,7 @@ impl Totals {
 }
 
 impl LevelTotals {
-    /// The level with so many more records. Each number saturates at 2^64 - 1.
+    /// The totals of a level after `more` records are added. Each number saturates at 2^64 - 1.
     pub fn plus(self, more: Records) -> LevelTotals
         ensures { result ≡ record self { records = all_counted (records_sum self.records more) } }
     {
@@ -169,7 +169,7 @@ impl LevelTotals {
         }
     }
 
-    /// The level without so many of the records.
+    /// The totals of a level after `less` of the records are removed.
     pub fn without(self, less: Records) -> LevelTotals
         requires { AreCounted less self }
         ensures { plus_records less result ≡ self }

@@ -142,7 +142,7 @@ joins_at axis keep owners i k = option_map_or (λ x. joins axis keep k x) (slice
 
 -- ---- records
 
--- the records of the zone, with so many more generators
+-- the records of the zone with `more` generators in addition
 abbrev pub records_with : ℕ → Zone → Records
 records_with more z = record { zones = 1; gens = len z.gens + more; mods = length z.mods }
 

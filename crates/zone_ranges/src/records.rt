@@ -35,7 +35,7 @@ pub fn join_records<H: OwnerHead>(owners: &Owners<H>, i: u32, k: u32, keep: Keep
     records_with(owners, i as usize, k as usize + 1, more)
 }
 
-// The records of a zone, with so many more generators.
+// The records of a zone with `more` generators in addition.
 fn records_with<H: OwnerHead>(owners: &Owners<H>, i: usize, k: usize, more: usize) -> Records
     requires { HasPlace owners.now i (place.Zone k) }
     ensures { IfSome (zone_at owners.now i k) (λ z. result ≡ all_counted (records_with more z)) }
