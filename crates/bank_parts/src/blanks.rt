@@ -1,4 +1,4 @@
-//! Blank values, which fill the unused capacity of a bank's lists.
+//! Blank values, which fill unused positions in a bank's lists.
 use crate::parts::{Head, Kind, Sample};
 use sample_view::Points;
 use sf_base::{Blank, Name20};

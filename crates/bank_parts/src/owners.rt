@@ -24,8 +24,8 @@ pub enum ZonePlace {
 /// The presets or the instruments of a bank, in order. They are stored as in a file, as heads and flat lists of
 /// records, so a zone cannot be borrowed whole, only its contents.
 ///
-/// The calls return `OutOfMemory` for what flat lists can't hold: more than 65,535 zones, generators or modulators in
-/// all, or a map with the operator of targets (SoundFont 2.04, sections 7.3 to 7.9).
+/// Flat lists hold at most 65,535 zones, generators and modulators in all, and no map with the operator of targets
+/// (SoundFont 2.04, sections 7.3 to 7.9). A call that adds some requires that the result fits.
 pub struct Owners<H: OwnerHead> {
     pub(crate) heads: EndedList<H>,
     pub(crate) bags: OwnerBags,

@@ -1,5 +1,5 @@
-//! The capacity of flat lists: fewer than 65,536 records of each kind, and no map with the operator of targets, since
-//! a target could not be told from it.
+//! The capacity of flat lists: fewer than 65,536 records of each kind, and no map with the operator of targets, which
+//! could not be distinguished from a target.
 ghost use Rattle.std.specs.Prelude.{◌≡◌, ◌≤◌, ◌<◌, ◌+◌, ◌^◌, ◌↔◌, IsTrue, OnOk, is_some};
 ghost use Rattle.std.specs.FinMap.{get};
 ghost use Rattle.std.specs.List.{list_any};
