@@ -1,4 +1,4 @@
--- Steps of a group that are done one after the other.
+-- The steps of a group, applied in order.
 use Rattle.std.proofs.Common.{◌≡◌, ◌<◌, ◌+◌, ℕ, suc, List, [], ◌∷◌, ◌++◌, length, get_or, drop, reverse, None, refl}
 use Rattle.std.proofs.Common.{sym, ◌∙◌, ap, append_assoc, drop-cons, arith}
 use Rattle.std.proofs.lemmas.List.{reverse-append}
@@ -10,8 +10,8 @@ use Rattle.edit_refusals.specs.Edits.{first_refused}
 use Rattle.edit_forms.specs.Steps.{inverse}
 use Rattle.bank_edits.specs.GroupChanges.{IsStepDone}
 
--- What the steps make of the first bank is what those that are left, the first of which is number `n`,
--- make of the bank now, and the inverses so far, turned round, end the list that takes all back.
+-- After n steps, applying the remaining steps to the current bank gives the same refusal and the same final bank as
+-- applying all steps to the first bank, and the undo list ends with the reversed inverses so far.
 pub record SoFar (n : ℕ) (first now : Parts) (steps rest inverses : List Step) : Type 0 where
   pub refused : first_refused 0 first steps ≡ first_refused n now rest
   pub changed : after_all raw first steps ≡ after_all raw now rest
@@ -21,7 +21,7 @@ accepted_on : (n : ℕ) (b : Parts) (s : Step) (rest : List Step) → refusal b 
     → first_refused n b (s ∷ rest) ≡ first_refused (suc n) (raw b s) rest
 accepted_on n b s rest h = rw h refl
 
--- step `n` is done
+-- after step `n`
 module _ (n : ℕ) (first now changed : Parts) (steps inverses : List Step) (s back : Step) where
   next_done : (rest : List Step) → SoFar n first now steps (s ∷ rest) inverses → IsStepDone now changed s back
       → SoFar (suc n) first changed steps rest (inverses ++ back ∷ [])

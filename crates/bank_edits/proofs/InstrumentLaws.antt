@@ -1,4 +1,4 @@
--- Undo restores, for the forms that edit instruments.
+-- Undo restores the bank, for the forms that edit instruments.
 use Rattle.std.proofs.Common.{◌≡◌, ℕ, List, length, Some, refl, sym, ap, arith}
 use Rattle.std.proofs.lemmas.List.Edits.{length-insert, length-remove}
 use Rattle.std.specs.Prelude.{slice_get}
@@ -31,7 +31,7 @@ use Rattle.bank_edits.proofs.UndoneBy.{IsTaken, IsUndone, undone_by}
 use Rattle.edit_forms.specs.declared.instruments.InstrumentStep.{InstrumentStep}
 use Rattle.edit_forms.specs.Steps.{inverse}
 
--- ---- what the bank returns of what it replaced or took out makes the step that takes the change back
+-- ---- the inverse step, built from what the bank returns
 
 pub inverse_of_rename_instrument : (b : Parts) (i : ℕ) (name old : List ℕ) → head_at b.instruments i ≡ Some old
     → steps.Instrument (RenameInstrument i old) ≡ inverse b (steps.Instrument (RenameInstrument i name))
@@ -114,7 +114,7 @@ undone_move_instrument b i j s t =
       redone = refl;
     })
 
--- ---- all of them
+-- ---- all these forms
 
 pub undone_instrument : (b : Parts) (s : InstrumentStep) → IsSound b → IsTaken b (steps.Instrument s)
     → IsUndone b (steps.Instrument s)

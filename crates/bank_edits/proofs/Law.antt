@@ -1,4 +1,4 @@
--- Undo restores, for one step and for a group of them.
+-- Undo restores the bank, for one step and for a group of steps.
 use Rattle.std.proofs.Common.{◌≡◌, ℕ, suc, Option, None, Some, List, [], ◌∷◌, refl, ap}
 use Rattle.std.specs.List.{AllByRecursion}
 use Rattle.std.specs.Option.{option_map}
@@ -24,7 +24,7 @@ no_cause : (c : Option Cause) → option_map Of c ≡ None → c ≡ None
 no_cause None h = refl
 no_cause (Some cause) h = cc
 
--- ---- a group is taken where each of its steps is, in its turn
+-- ---- a group is accepted if each step is accepted on the bank after the steps before it
 
 abbrev StepsTaken : Parts → List Step → Type 0
 StepsTaken = AllTakenBy raw IsTaken

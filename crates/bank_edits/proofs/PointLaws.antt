@@ -1,4 +1,4 @@
--- Undo restores, for the forms that edit one sample's points, loop, kind or pitch.
+-- Undo restores the bank, for the forms that edit one sample's points, loop, kind or pitch.
 use Rattle.std.proofs.Common.{◌≡◌, ◌<◌, ◌≤◌, ◌+◌, ◌-◌, ◌^◌, ℕ, ℤ, List, length, take, drop, slice_get, Option, Some}
 use Rattle.std.proofs.Common.{refl, ap, arith, FitsSigned, w8}
 use Rattle.std.proofs.lemmas.List.Elements.{All-take, All-drop, All-from_recursion, recursion_from_All}
@@ -24,7 +24,7 @@ use Rattle.edit_forms.specs.declared.points.PointStep.{PointStep}
 use Rattle.std.specs.Prelude.{slice_get, IfSome}
 use Rattle.edit_forms.specs.Steps.{inverse}
 
--- ---- what the bank returns of what it replaced or took out makes the step that takes the change back
+-- ---- the inverse step, built from what the bank returns
 
 module _ (b : Parts) (i : ℕ) (lt : i < length b.samples) where
   pub correction_fits : IsSound b → (old : ℤ) → IfSome (slice_get b.samples i) (λ (s : Sample). old ≡ s.correction)
@@ -188,7 +188,7 @@ undone_set_tune b i rate key correction s t =
       redone = rw then_is refl;
     })
 
--- ---- all of them
+-- ---- all these forms
 
 pub undone_points : (b : Parts) (i : ℕ) (s : PointStep) → IsSound b → IsTaken b (steps.Points i s)
     → IsUndone b (steps.Points i s)

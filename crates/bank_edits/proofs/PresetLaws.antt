@@ -1,4 +1,4 @@
--- Undo restores, for the forms that edit presets.
+-- Undo restores the bank, for the forms that edit presets.
 use Rattle.std.proofs.Common.{◌≡◌, ℕ, List, length, Some, refl, sym, arith}
 use Rattle.std.proofs.lemmas.List.Edits.{length-insert, length-remove}
 use Rattle.std.specs.Prelude.{slice_get}
@@ -28,7 +28,7 @@ use Rattle.edit_forms.specs.declared.presets.PresetStep.{PresetStep}
 use Rattle.bank_parts.specs.Owners.{head_at}
 use Rattle.edit_forms.specs.Steps.{inverse}
 
--- ---- what the bank returns of what it replaced or took out makes the step that takes the change back
+-- ---- the inverse step, built from what the bank returns
 
 pub inverse_of_set_head : (b : Parts) (i : ℕ) (name : List ℕ) (number bank : ℕ) (old : Head)
     → head_at b.presets i ≡ Some old
@@ -107,7 +107,7 @@ undone_set_head b i name number bank s t =
       redone = let now = read_head_set b i name number bank x e in rw now refl;
     })
 
--- ---- all of them
+-- ---- all these forms
 
 pub undone_preset : (b : Parts) (s : PresetStep) → IsSound b → IsTaken b (steps.Preset s) → IsUndone b (steps.Preset s)
 undone_preset b (AddPreset i p) = undone_add_preset b i p

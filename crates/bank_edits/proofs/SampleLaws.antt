@@ -1,4 +1,4 @@
--- Undo restores, for the forms that edit samples.
+-- Undo restores the bank, for the forms that edit samples.
 use Rattle.std.proofs.Common.{◌≡◌, ◌≤◌, ◌+◌, ℕ, List, length, map, remove, Some, refl, sym, ap, arith, ◌<◌}
 use Rattle.std.proofs.lemmas.List.{length-map}
 use Rattle.std.proofs.lemmas.List.Edits.{length-insert, length-remove}
@@ -27,7 +27,7 @@ use Rattle.bank_edits.proofs.UndoneBy.{IsTaken, IsUndone, undone_by}
 use Rattle.edit_forms.specs.declared.samples.SampleStep.{SampleStep}
 use Rattle.edit_forms.specs.Steps.{inverse}
 
--- ---- what the bank returns of what it replaced or took out makes the step that takes the change back
+-- ---- the inverse step, built from what the bank returns
 
 pub inverse_of_rename : (b : Parts) (i : ℕ) (name old : List ℕ) → i < length b.samples
     → IfSome (slice_get b.samples i) (λ (s : Sample). old ≡ s.name)
@@ -120,7 +120,7 @@ undone_move_sample b i j s t =
       redone = refl;
     })
 
--- ---- all of them
+-- ---- all these forms
 
 pub undone_sample : (b : Parts) (s : SampleStep) → IsSound b → IsTaken b (steps.Sample s) → IsUndone b (steps.Sample s)
 undone_sample b (RenameSample i name) = undone_rename b i name

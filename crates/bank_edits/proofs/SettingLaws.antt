@@ -1,4 +1,4 @@
--- Undo restores, for the forms that edit generators and modulators.
+-- Undo restores the bank, for the forms that edit generators and modulators.
 use Rattle.std.proofs.Common.{◌≡◌, ◌<◌, ◌^◌, ℕ, List, Option, Some, None, refl, sym, subst, ◌∙◌, ap, ◌≤◌, length}
 use Rattle.std.proofs.Common.{insert, remove, arith}
 use Rattle.std.specs.FinMap as map
@@ -39,7 +39,7 @@ use Rattle.modulators.specs.Modulators.{FitsModulator}
 use Rattle.edit_forms.specs.declared.settings.SettingStep.{SettingStep}
 use Rattle.edit_forms.specs.Steps.{inverse}
 
--- ---- what the bank returns of what it replaced or took out makes the step that takes the change back
+-- ---- the inverse step, built from what the bank returns
 
 module _ (b : Parts) (o : Owner) (at : Place) (j : ℕ) where
   pub inverse_of_remove_mod : (m : Modulator) → mod_at b o at j ≡ Some m
@@ -91,7 +91,7 @@ read_cleared : (b : Parts) (o : Owner) (at : Place) (op : ℕ) → amount_of (ge
 read_cleared b (owner.Preset p) at op = gen_cleared_read b.presets p (zone_place at) op
 read_cleared b (owner.Inst i) at op = gen_cleared_read b.instruments i (zone_place at) op
 
--- ---- what takes each change back
+-- ---- how each change is undone
 
 restored_set : (b : Parts) (o : Owner) (at : Place) (op was amount : ℕ) → amount_of b o at op ≡ Some was
     → gen_set (gen_set b o at op amount) o at op was ≡ b
@@ -193,7 +193,7 @@ module _ (b : Parts) (o : Owner) (at : Place) (s : Settings) (e : settings_of b 
   mod_found : (j : ℕ) (m : Modulator) → slice_get s.mods j ≡ Some m → mod_at b o at j ≡ Some m
   mod_found j m h = ap (option_and_then (λ (mods : List Modulator). slice_get mods j)) (mods_found b o at s e) ∙ h
 
--- ---- what takes each change back
+-- ---- how each change is undone
 
 restored_added : (b : Parts) (o : Owner) (at : Place) (j : ℕ) (m : Modulator)
     → IsSomeAnd (mods_of b o at) (λ mods. j ≤ length mods) → mod_removed (mod_added b o at j m) o at j ≡ b
@@ -317,7 +317,7 @@ undone_set_mod b o at j m s t =
       redone = rw new refl;
     })
 
--- ---- all of them
+-- ---- all these forms
 
 pub undone_setting : (b : Parts) (o : Owner) (at : Place) (s : SettingStep) → IsSound b
     → IsTaken b (steps.Setting o at s) → IsUndone b (steps.Setting o at s)

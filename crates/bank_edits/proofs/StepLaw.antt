@@ -1,4 +1,4 @@
--- Undo restores, for every step.
+-- Undo restores the bank, for every step.
 use Rattle.bank_parts.specs.declared.parts.Parts.{Parts}
 use Rattle.bank_parts.specs.Sound.{IsSound}
 use Rattle.edit_forms.specs.declared.step.Step.{Step}

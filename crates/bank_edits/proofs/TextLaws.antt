@@ -1,4 +1,4 @@
--- Undo restores, for the form that edits a text.
+-- Undo restores the bank, for the form that edits a text.
 use Rattle.std.proofs.Common.{ℕ, List, refl, ap}
 use Rattle.bank_parts.specs.declared.texts.Texts.{Texts}
 use Rattle.bank_parts.specs.declared.texts.InfoId.{InfoId}
@@ -27,7 +27,7 @@ undone_set_info b id text s t =
       redone = ap (λ (old : List ℕ). steps.Text (SetInfo id old)) (text_of-set b.texts id text);
     })
 
--- ---- all of them
+-- ---- all these forms
 
 pub undone_text : (b : Parts) (s : TextStep) → IsSound b → IsTaken b (steps.Text s) → IsUndone b (steps.Text s)
 undone_text b (SetInfo id text) = undone_set_info b id text

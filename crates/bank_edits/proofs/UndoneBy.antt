@@ -1,4 +1,4 @@
--- How a form's law follows from its facts.
+-- The undo law of a form, from facts about its inverse.
 use Rattle.std.proofs.Common.{◌≡◌, None, sym, subst}
 use Rattle.bank_parts.specs.declared.parts.Parts.{Parts}
 use Rattle.bank_parts.specs.Sound.{IsSound}
@@ -9,16 +9,16 @@ use Rattle.edit_forms.specs.Steps.{inverse}
 use Rattle.edit_refusals.proofs.Accepted.{NoneStands, accepted_by}
 use Rattle.bank_edits.specs.Undoing.{IsUndoneBy}
 
--- the bank takes the step
+-- the bank accepts the step
 pub record IsTaken (b : Parts) (s : Step) : Type 0 where
   pub fits : FitsStep s
   pub accepted : refusal b s ≡ None
 
--- the changed bank takes the step's inverse, which gives the bank back
+-- the changed bank accepts the inverse step, which restores the bank
 abbrev pub IsUndone : Parts → Step → Type 0
 IsUndone b s = IsUndoneBy raw inverse IsTaken b s
 
--- The facts about the inverse as it computes. That it breaks no limit follows from what it restores.
+-- Facts about a step and its computed inverse. The inverse breaks no limit, because the restored bank is sound.
 pub record Facts (b : Parts) (s back : Step) : Type 0 where
   pub is : inverse b s ≡ back
   pub sound : IsSound (raw b s)

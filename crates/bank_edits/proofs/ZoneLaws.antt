@@ -1,4 +1,4 @@
--- Undo restores, for the forms that edit the zones of presets and instruments.
+-- Undo restores the bank, for the forms that edit the zones of presets and instruments.
 use Rattle.std.proofs.Common.{◌≡◌, ◌<◌, ◌≤◌, ℕ, List, length, insert, remove, Option, Some, refl, sym, subst, ap}
 use Rattle.std.proofs.Common.{◌∙◌, arith, ◌+◌, ◌^◌, true, unwrap_or}
 use Rattle.std.specs.Prelude.{IsSomeAnd, slice_get}
@@ -53,18 +53,18 @@ use Rattle.zone_ranges.proofs.PartLaws.{own_holds}
 use Rattle.edit_forms.specs.declared.zones.ZoneStep.{ZoneStep}
 use Rattle.edit_forms.specs.Steps.{inverse}
 
--- ---- what the bank returns of what it replaced or took out makes the step that takes the change back
+-- ---- the inverse step, built from what the bank returns
 
 pub inverse_of_set_target : (b : Parts) (o : Owner) (k target was : ℕ) → target_of b o k ≡ Some was
     → steps.Zone o (SetTarget k was) ≡ inverse b (steps.Zone o (SetTarget k target))
 inverse_of_set_target b o k target was e = rw e refl
 
--- ---- what is there after a change
+-- ---- what exists after a change
 
 some_same : {X : Type 0} (o : Option X) (x y : X) → o ≡ Some x → o ≡ Some y → x ≡ y
 some_same o x y e h = cc
 
--- so many zones of a member, after they are sent through f
+-- the number of zones of owner i after f changes its zones
 counted_at : {H : Type 0} (owners : List (WithZones H)) (i : ℕ) (f : List Zone → List Zone) (zones : List Zone)
     (P : ℕ → Type 0)
     → zones_at owners i ≡ Some zones → P (length (f zones))
@@ -98,7 +98,7 @@ module _ (zones : List Zone) (k : ℕ) (P : ℕ → Type 0) where
   counted_target b (owner.Inst i) target e h =
       counted_at b.instruments i (λ zs. changed zs k (with_target target)) zones P e h
 
--- the members that zones may target stay as many
+-- the number of possible targets does not change
 targets_stay-removed : (b : Parts) (o : Owner) (k : ℕ) → target_count (zone_removed b o k) o ≡ target_count b o
 targets_stay-removed b (owner.Preset p) k = refl
 targets_stay-removed b (owner.Inst i) k = refl
@@ -331,7 +331,7 @@ with_presets b presets = record b { presets = presets }
 abbrev with_instruments : Parts → List (WithZones (List ℕ)) → Parts
 with_instruments b instruments = record b { instruments = instruments }
 
--- what becomes of a split
+-- reading after a split
 record IsSplit (b : Parts) (o : Owner) (k : ℕ) (axis : Axis) (m : ℕ) : Type 0 where
   zone : Zone
   zone_is : zone_of b o k ≡ Some zone
@@ -383,7 +383,7 @@ range_is b o zones axis sound there k z at =
     let v = all_at (IsZone (level_of o) (target_count b o)) zones k z at (zones_valid b o zones sound there) in
     own_holds (level_of o) axis z v.gens
 
--- what becomes of a join
+-- reading after a join
 record IsJoin (b : Parts) (o : Owner) (k : ℕ) (axis : Axis) (keep : Keep) : Type 0 where
   second : Zone
   second_is : zone_of b o (k + 1) ≡ Some second
@@ -467,7 +467,7 @@ undone_join_zone b o k axis keep s t =
       redone = rw now (ap (λ keep. steps.Zone o (JoinZone k axis keep)) f.keeps);
     })
 
--- ---- all of them
+-- ---- all these forms
 
 pub undone_zone : (b : Parts) (o : Owner) (s : ZoneStep) → IsSound b → IsTaken b (steps.Zone o s)
     → IsUndone b (steps.Zone o s)

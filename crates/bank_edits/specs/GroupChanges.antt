@@ -1,4 +1,4 @@
--- What one step of a group answers.
+-- The result of one step of a group.
 use Rattle.std.specs.Prelude.{◌≡◌, ℕ, None, Some}
 use Rattle.bank_parts.specs.declared.parts.Parts.{Parts}
 use Rattle.edit_forms.specs.declared.step.Step.{Step}
@@ -8,13 +8,13 @@ use Rattle.edit_refusals.specs.declared.refusal.Refusal.TheVariants.{GroupRefuse
 use Rattle.edit_forms.specs.Steps.{raw, refusal}
 use Rattle.edit_forms.specs.Steps.{inverse}
 
--- the step was done, and `back` takes it back
+-- the step was applied, and `back` is its inverse
 pub record IsStepDone (old new : Parts) (s back : Step) : Type 0 where
   pub accepted : refusal old s ≡ None
   pub changed : new ≡ raw old s
   pub taken_back : back ≡ inverse old s
 
--- step `n` of its group was refused by its cause, or no memory was there
+-- step `n` of its group was refused with its cause, or an allocation failed
 abbrev pub StepStops : Parts → ℕ → Step → Refusal → Type 0
 StepStops b n s OutOfMemory = Unit {0}
 StepStops b n s (GroupRefused place cause) = (place ≡ n) × (refusal b s ≡ Some cause)

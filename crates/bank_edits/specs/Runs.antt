@@ -1,4 +1,4 @@
--- Edits in a row.
+-- Sequences of edits.
 use Rattle.std.specs.Prelude.{List}
 use Rattle.bank_parts.specs.declared.parts.Parts.{Parts}
 use Rattle.bank_parts.specs.Sound.{IsSound}
@@ -9,7 +9,7 @@ use Rattle.bank_edits.specs.EditChanges.{inverse}
 use Rattle.bank_edits.specs.Undoing.{IsUndoneBy, AllTakenBy}
 use Rattle.bank_edits.specs.Undone.{IsTaken}
 
--- each edit is taken in its turn
+-- each edit is accepted on the bank after the edits before it
 abbrev pub AllTaken : Parts → List Edit → Type 0
 AllTaken b es = AllTakenBy raw IsTaken b es
 
@@ -17,11 +17,11 @@ AllTaken b es = AllTakenBy raw IsTaken b es
 abbrev pub after_all : Parts → List Edit → Parts
 after_all b es = row.after_all raw b es
 
--- the edits that take them back, the last one's first
+-- the inverses of the edits, the last edit's first
 abbrev pub undo_list : Parts → List Edit → List Edit
 undo_list b es = row.undo_list raw inverse b es
 
--- the changed bank takes the undo list, which gives the bank back
+-- the changed bank accepts the undo list, which restores the bank
 abbrev pub AreUndone : Parts → List Edit → Type 0
 AreUndone b es = IsUndoneBy after_all undo_list AllTaken b es
 

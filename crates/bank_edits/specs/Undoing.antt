@@ -1,10 +1,9 @@
--- Changes of a bank that can be taken back, whatever they are: steps, edits, or lists of them.
+-- Changes of a bank that can be undone, for any type of change: steps, edits, or lists of them.
 use Rattle.std.specs.Prelude.{◌≡◌, List, [], ◌∷◌}
 use Rattle.bank_parts.specs.declared.parts.Parts.{Parts}
 use Rattle.bank_parts.specs.Sound.{IsSound}
 
--- The changed bank is sound. It takes the inverse of x, which gives the bank back, and the inverse of
--- that is x.
+-- The changed bank is sound and accepts the inverse of x, which restores the bank; the inverse of the inverse is x.
 pub record IsUndoneBy {X : Type 0} (change : Parts → X → Parts) (inverse : Parts → X → X)
     (Takes : Parts → X → Type 0) (b : Parts) (x : X) : Type 0 where
   pub sound : IsSound (change b x)
@@ -12,7 +11,7 @@ pub record IsUndoneBy {X : Type 0} (change : Parts → X → Parts) (inverse : P
   pub restored : change (change b x) (inverse b x) ≡ b
   pub redone : inverse (change b x) (inverse b x) ≡ x
 
--- each is taken in its turn
+-- each change is accepted on the bank after the changes before it
 abbrev pub AllTakenBy : {X : Type 0} → (Parts → X → Parts) → (Parts → X → Type 0) → Parts → List X → Type 0
 AllTakenBy change Takes b [] = Unit {0}
 AllTakenBy change Takes b (x ∷ xs) = Takes b x × AllTakenBy change Takes (change b x) xs

@@ -1,4 +1,4 @@
--- Undo restores.
+-- The undo law of edits.
 use Rattle.std.specs.Prelude.{◌≡◌, None}
 use Rattle.bank_parts.specs.declared.parts.Parts.{Parts}
 use Rattle.bank_parts.specs.Sound.{IsSound}
@@ -8,12 +8,12 @@ use Rattle.edit_refusals.specs.Edits.{raw, refusal}
 use Rattle.bank_edits.specs.EditChanges.{inverse}
 use Rattle.bank_edits.specs.Undoing.{IsUndoneBy}
 
--- its numbers, names and texts are in the ranges of their fields, and it is not refused
+-- the bank accepts the edit: its numbers, names and texts are in range, and it is not refused
 pub record IsTaken (b : Parts) (e : Edit) : Type 0 where
   pub fits : FitsEdit e
   pub accepted : refusal b e ≡ None
 
--- the changed bank takes the edit's inverse, which gives the bank back
+-- the changed bank accepts the inverse edit, which restores the bank
 abbrev pub IsUndone : Parts → Edit → Type 0
 IsUndone b e = IsUndoneBy raw inverse IsTaken b e
 

@@ -1,4 +1,4 @@
-//! One edit, done or refused.
+//! One edit, applied or refused.
 ghost use Rattle.std.specs.Prelude.{◌≡◌, None, MatchResult, IsOk, IfOk};
 ghost use Rattle.bank_parts.specs.Sound.{IsSound};
 ghost use Rattle.edit_forms.specs.Fits.{FitsEdit};
@@ -12,10 +12,11 @@ use edit_forms::Edit;
 use edit_refusals::Refusal;
 use std::alloc::Global;
 
-/// Does the edit and returns the one that takes it back, into which what one step removed is moved. Or
-/// refuses it, returns it, and changes nothing. One step is refused by the first cause that stands;
-/// `OutOfMemory` comes only where none does, and only for what grows the bank. A group is refused by its
-/// first step that is, or when out of memory in any case.
+/// Applies an edit to the bank and returns its inverse. What a step removes is moved into the inverse.
+///
+/// A refused edit is returned with the reason, and the bank is unchanged. One step is refused for the
+/// first cause that applies, a group for its first refused step. `OutOfMemory` is returned for one step
+/// only if no cause applies and the step allocates; for a group it may be returned in any case.
 pub fn apply<'a>(
     alloc: Global,
     bank: &mut Bank<'a>,
@@ -29,7 +30,7 @@ pub fn apply<'a>(
     ensures fits { FitsEdit edit.entry }
     ensures back_fits { IfOk result FitsEdit }
 {
-    // The laws are called for what they say of the bank and of both edits.
+    // These calls prove facts about the bank and the edits.
     edit.fits();
     bank.soundness();
     let outcome = match edit.into_steps() {

@@ -1,4 +1,4 @@
-//! What a group does: its steps in their order, all of them or none.
+//! A group of steps: either all are applied or none.
 ghost use Rattle.std.specs.Prelude.{MatchResult};
 ghost use Rattle.edit_forms.specs.declared.edit.Edit.TheVariants as edits;
 ghost use Rattle.bank_edits.specs.EditChanges.{IsDone, IsRefused, IsWhy};
@@ -11,8 +11,7 @@ use edit_refusals::{Refusal, refuse};
 use numbered_lists::NumberedList;
 use std::alloc::Global;
 
-/// Does the steps on a copy of the bank, which takes its place at the end. Where a step is refused, or
-/// memory is out, the copy is dropped.
+/// Applies the steps to a copy of the bank, and replaces the bank by the copy if all succeed.
 pub(crate) fn apply_group<'a>(
     alloc: Global,
     bank: &mut Bank<'a>,
@@ -33,7 +32,7 @@ pub(crate) fn apply_group<'a>(
     }
 }
 
-// Does the steps in their order, and gives those that take them back, the last one's first.
+// Applies the steps in order, and returns their inverses, the last step's first.
 fn change_all<'a>(
     alloc: Global,
     bank: &mut Bank<'a>,
@@ -55,7 +54,7 @@ fn change_all<'a>(
     Ok(NumberedList::from_vec(inverses))
 }
 
-// Does a copy of the step, which is the group's number `place`, and gives the one that takes it back.
+// Applies a copy of step number `place` of the group, and returns its inverse.
 fn change_by_copy<'a>(
     alloc: Global,
     bank: &mut Bank<'a>,

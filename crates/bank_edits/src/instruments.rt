@@ -1,4 +1,4 @@
-//! What each form that edits instruments does.
+//! How each form that edits instruments is applied.
 ghost use Rattle.std.specs.Prelude.{◌≡◌, None, Ok, IsOk};
 ghost use Rattle.bank_parts.specs.Sound.{IsSound};
 ghost use Rattle.edit_forms.specs.declared.instruments.InstrumentStep.TheVariants as form;

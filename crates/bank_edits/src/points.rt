@@ -1,4 +1,4 @@
-//! What each form that edits what one sample holds does.
+//! How each form that edits one sample's contents is applied.
 ghost use Rattle.std.specs.Prelude.{◌≡◌, None, Ok, IsOk};
 ghost use Rattle.bank_parts.specs.Sound.{IsSound};
 ghost use Rattle.edit_forms.specs.declared.points.PointStep.TheVariants as form;

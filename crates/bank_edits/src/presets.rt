@@ -1,4 +1,4 @@
-//! What each form that edits presets does.
+//! How each form that edits presets is applied.
 ghost use Rattle.std.specs.Prelude.{◌≡◌, None, Ok, IsOk};
 ghost use Rattle.bank_parts.specs.Sound.{IsSound};
 ghost use Rattle.edit_forms.specs.declared.presets.PresetStep.TheVariants as form;

@@ -1,4 +1,4 @@
-//! What each form that edits the list of samples does.
+//! How each form that edits the list of samples is applied.
 ghost use Rattle.std.specs.Prelude.{◌≡◌, None, Ok, IsOk};
 ghost use Rattle.bank_parts.specs.Sound.{IsSound};
 ghost use Rattle.edit_forms.specs.declared.samples.SampleStep.TheVariants as form;

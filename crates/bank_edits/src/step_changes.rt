@@ -1,4 +1,4 @@
-//! One step: refused, or done by the change of its form.
+//! One step: refused, or applied by its form.
 ghost use Rattle.std.specs.Prelude.{◌≡◌, None, MatchResult, IsOk};
 ghost use Rattle.bank_parts.specs.Sound.{IsSound};
 ghost use Rattle.edit_forms.specs.declared.edit.Edit.TheVariants as edits;
@@ -20,11 +20,11 @@ use edit_forms::{Edit, Step};
 use edit_refusals::{Refusal, refuse};
 use std::alloc::Global;
 
-/// The step that takes a step back; or when out of memory, the step itself.
+/// The inverse of a step; or the step itself, if an allocation failed.
 pub(crate) type Back<'a> = Result<Step<'a>, Step<'a>>;
 
-/// Does the step and returns the one that takes it back. Or refuses it by the first cause that stands,
-/// or when out of memory, returns it, and changes nothing.
+/// Applies the step and returns its inverse. A step that is refused, or for which an allocation fails, is
+/// returned with the reason, and the bank is unchanged.
 pub(crate) fn apply_step<'a>(
     alloc: Global,
     bank: &mut Bank<'a>,
@@ -43,7 +43,7 @@ pub(crate) fn apply_step<'a>(
     }
 }
 
-/// Does the step and returns the one that takes it back, or returns it when out of memory.
+/// Applies an accepted step and returns its inverse, or returns the step if an allocation failed.
 pub(crate) fn change_step<'a>(alloc: Global, bank: &mut Bank<'a>, step: Step<'a>) -> Back<'a>
     requires sound { IsSound bank.old }
     requires accepted { refusal bank.old step ≡ None }

@@ -1,4 +1,4 @@
-//! What each form that edits the zones of presets and instruments does.
+//! How each form that edits the zones of presets and instruments is applied.
 ghost use Rattle.std.specs.Prelude.{◌≡◌, None, Ok, IsOk, IfSome};
 ghost use Rattle.bank_parts.specs.Sound.{IsSound};
 ghost use Rattle.edit_forms.specs.declared.zones.ZoneStep.TheVariants as form;
@@ -147,7 +147,7 @@ fn join_zone<'a>(
 
 // ---- a zone's own range
 
-// Whether the zone keeps a range of its own when a split of it is taken back.
+// Whether the zone has a range of its own, which the join that undoes its split must keep.
 
 fn keep_for(bank: &Bank<'_>, owner: Owner, zone: u32, axis: Axis) -> Keep
     ensures { IfSome (zone_of bank.now owner zone) (λ z. result ≡ keep_for axis z) }
@@ -158,7 +158,7 @@ fn keep_for(bank: &Bank<'_>, owner: Owner, zone: u32, axis: Axis) -> Keep
     }
 }
 
-// Where the zone's own range begins.
+// The low end of the zone's own range, or 0 if it has none.
 
 fn own_low(bank: &Bank<'_>, owner: Owner, zone: u32, axis: Axis) -> u8
     ensures { IfSome (zone_of bank.now owner zone) (λ z. result ≡ own_low axis z) }

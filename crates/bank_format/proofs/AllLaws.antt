@@ -1,4 +1,4 @@
--- What each element of lists has, each element of the joined list has.
+-- A property of every element of each list holds for every element of the joined list.
 use Rattle.std.proofs.Common.{List, [], ◌∷◌, ◌++◌}
 use Rattle.std.specs.Prelude.{flat_map}
 use Rattle.std.specs.List.{AllByRecursion}

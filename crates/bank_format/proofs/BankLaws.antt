@@ -1,4 +1,4 @@
--- The chunks of a bank read as the bank, with no counts.
+-- The chunks of a bank read as that bank, with all counts zero.
 use Rattle.std.proofs.Common.{◌≡◌, ◌+◌, ℕ, List, [], ◌∷◌, length, map, Option, None, refl, ap, ◌∙◌, arith, is_some}
 use Rattle.std.specs.Prelude.{flat_map, count_by}
 use Rattle.std.proofs.lemmas.List.{length-append}

@@ -1,4 +1,4 @@
--- Sums and counts of lists in which nothing counts.
+-- Sums and counts are zero when every element counts zero.
 use Rattle.std.proofs.Common.{◌≡◌, ℕ, Bool, false, cond, List, [], ◌∷◌, map, refl, ap, arith}
 use Rattle.std.specs.Prelude.{count_by, sum_by}
 use Rattle.std.specs.List.{AllByRecursion}
@@ -14,7 +14,7 @@ pub count-none : {X : Type 0} (p : X → Bool) (x : X) (xs : List X) → p x ≡
     → count_by p (x ∷ xs) ≡ 0
 count-none p x xs one rest = sum-none (λ y. one_if (p y)) x xs (ap one_if one) rest
 
--- a sum over what is made of each element
+-- a sum over the images of the elements
 pub sum-none_by : {X Y : Type 0} (P : X → Type 0) (f : Y → ℕ) (g : X → Y) → ((x : X) → P x → f (g x) ≡ 0)
     → (xs : List X) → AllByRecursion P xs → sum_by f (map g xs) ≡ 0
 sum-none_by P f g h [] v = refl

@@ -1,4 +1,4 @@
--- What stands before the first zero of a field is a name.
+-- The bytes of a field before its first zero are a valid name.
 use Rattle.std.proofs.Common.{◌≡◌, ◌≤◌, ◌<◌, ◌↔◌, ℕ, zero, suc, List, [], ◌∷◌, length, get_or, Result, Ok, Err, refl}
 use Rattle.std.proofs.Common.{arith}
 use Rattle.std.specs.List.{Contains}

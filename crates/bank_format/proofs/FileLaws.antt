@@ -1,4 +1,4 @@
--- The chunks of a bank break no step, and are small enough for their sizes.
+-- The chunks of a bank pass every check, and their lengths fit in the 32-bit size fields.
 use Rattle.std.proofs.Common.{◌≡◌, ◌≤◌, ◌<◌, ◌+◌, ◌%◌, ◌^◌, ℕ, Bool, true, false, cond, eqb, List, [], ◌∷◌, ◌++◌}
 use Rattle.std.proofs.Common.{length, replicate, None, refl, ap, ◌∙◌, arith}
 use Rattle.std.specs.Prelude.{flat_map}
@@ -34,7 +34,7 @@ use Rattle.bank_format.proofs.BankLaws.{points-again, length-all_points, rows-sh
 use Rattle.bank_format.proofs.PdtaLaws.{Measured, measured, TablesCount, tables_fit, tables_count, count_steps_hold}
 use Rattle.bank_format.proofs.PdtaLaws.{size_steps_hold}
 
--- ---- the steps of the chunks
+-- ---- the checks of the chunks
 
 chunk_steps_hold : (b : Parts) (t : Tables) → first_broken (chunk_steps (info b) (pdta t)) ≡ None
 unfolding chunk_steps info pdta IFIL PHDR PBAG PMOD PGEN INST IBAG IMOD IGEN SHDR
@@ -88,7 +88,7 @@ length-text_body x =
     two true = omega arith
     two false = omega arith
 
--- chunks that fit, and are small
+-- chunks whose sizes fit in 32 bits, and whose total length is at most `most`
 pub record Small (most : ℕ) (cs : List Chunk) : Type 0 where
   pub fits : AllByRecursion FitsChunk cs
   pub small_enough : length (spell cs) ≤ most

@@ -1,4 +1,4 @@
--- What the lists of records of a bank hold, and that each record fits.
+-- What the record lists of a bank contain, and that the fields of each record are in range.
 use Rattle.std.proofs.Common.{◌≡◌, ◌≤◌, ◌<◌, ◌+◌, ◌^◌, ℕ, true, false, eqb, List, [], ◌∷◌, ◌++◌, length, map, Option}
 use Rattle.std.proofs.Common.{Some, None, refl, arith, inl, inr}
 use Rattle.std.specs.Prelude.{sum_by, flat_map}
@@ -62,7 +62,7 @@ length-by h c same (y ∷ ys) =
     let w = sum_by-cons c y ys in
     omega (arith, a, r, s, w)
 
--- what bags hold
+-- the numbers of bags, generators and modulators in a list of bags
 pub record Holds (bags : List Bagged) (zones gens mods : ℕ) : Type 0 where
   pub zones_are : length bags ≡ zones
   pub gens_are : total (sizes gens_in_bag bags) ≡ gens
@@ -139,7 +139,7 @@ bags_fit bags g m =
     all_bags (starts (sizes gens_in_bag bags)) (starts (sizes mods_in_bag bags))
     (small_starts (sizes gens_in_bag bags) g) (small_starts (sizes mods_in_bag bags) m)
 
--- ---- what bags hold fits
+-- ---- the fields of generators and modulators are in range
 
 pub record FitsBagged (r : Bagged) : Type 0 where
   pub gens : AllByRecursion FitsGenerator r.gens
@@ -186,7 +186,7 @@ gen_list_fit bags v =
     (all-flat_map FitsGenerator FitsBagged (λ (r : Bagged). r.gens) (λ r w. w.gens) bags v)
     (record { operator = omega arith; amount = omega arith }, tt)
 
--- the modulator that ends a list
+-- the terminal modulator
 pub modulator_end_fits : FitsModulator modulator_end
 modulator_end_fits =
     record {

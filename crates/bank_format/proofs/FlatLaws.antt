@@ -23,7 +23,7 @@ use Rattle.bank_format.specs.Tables.{Headers, bag, bag_list, mod_list, gen_list,
 use Rattle.bank_format.specs.Tables.{bags_of, all_bags, heads_from, presets, instruments, tables_of}
 use Rattle.bank_format.specs.FlatTables.{headers_of, bag_of, generator_of, AreOfLists, TablesAreFlat}
 
--- ---- one bag, of flat lists and of a table
+-- ---- one bag, in flat lists and in a table
 
 abbrev as_bagged : Bag → Bagged
 as_bagged b = record { gens = map generator_of b.gens; mods = b.mods }

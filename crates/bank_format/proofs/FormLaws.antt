@@ -1,4 +1,4 @@
--- A RIFF file of a form, as it is spelled: its window is what follows the form, and its steps hold.
+-- A RIFF file built from a form and a body: its window is the body, and it passes the RIFF checks.
 use Rattle.std.proofs.Common.{◌≡◌, ◌≤◌, ◌<◌, ◌+◌, ◌%◌, ◌^◌, ℕ, true, leb, List, ◌++◌, length, take, drop, None, refl}
 use Rattle.std.proofs.Common.{sym, ap, ◌∙◌, append_assoc, arith}
 use Rattle.std.specs.Prelude.{bytes_eq}

@@ -1,4 +1,4 @@
--- The bags that were written of a global zone and zones give them back, and nothing is counted.
+-- Reading the bags written for a global zone and zones returns these, with all counts zero.
 use Rattle.std.proofs.Common.{◌≡◌, ◌+◌, ℕ, true, false, not, eqb, List, [], ◌∷◌, length, map, filter, refl, sym, ap}
 use Rattle.std.proofs.Common.{subst, ◌∙◌, arith, inl, inr}
 use Rattle.std.specs.Prelude.{count_by, sum_by, filter_map}
@@ -68,7 +68,7 @@ module _ (at : Level) (n : ℕ) where
 
   -- ---- with the global zone
 
-  -- all that is read of the bags of a header
+  -- the result of reading the bags of a header
   pub record Again (bags : List Bagged) (g : GlobalZone) (zs : List Zone) : Type 0 where
     pub global : global_read at bags ≡ g
     pub zones : zones_read at bags ≡ zs
@@ -76,7 +76,7 @@ module _ (at : Level) (n : ℕ) where
     pub dropped : gens_dropped at bags ≡ 0
     pub mended : ranges_mended at bags ≡ 0
 
-  -- where no bag stands for the global zone
+  -- a header without a bag for the global zone
   without : (zs : List Zone) → Zones zs → Again (written zs) no_global zs
   unfolding global_read zones_read ignored gens_dropped ranges_mended looked_at
   without [] v = record { global = refl; zones = refl; ignored = refl; dropped = refl; mended = refl }
@@ -109,7 +109,7 @@ module _ (at : Level) (n : ℕ) where
             (mended-global at gs g) (none_mended zs v));
       }
 
-  -- an empty global zone is none
+  -- a global zone without generators and modulators equals the empty one
   empty_global : (g : GlobalZone) → len g.gens + length g.mods ≡ 0 → no_global ≡ g
   empty_global g e =
       let l = len-entries g.gens in
@@ -119,7 +119,7 @@ module _ (at : Level) (n : ℕ) where
       let mods : [] ≡ g.mods = sym (no_elements g.mods (omega (arith, e))) in
       λ i. record { gens = gens i; mods = mods i }
 
-  -- The bags of a header are read as what was written.
+  -- Reading the written bags of a header returns its global zone and zones.
   pub header-again : (g : GlobalZone) (zs : List Zone) → AreZones at n g zs → Again (bags_written at g zs) g zs
   unfolding bags_written
   header-again g zs v =

@@ -23,7 +23,7 @@ use Rattle.bank_format.proofs.FitLaws.{sizes-append, total-by, length-by, Holds,
 
 -- ---- bags
 
--- the bag after these, where the indexes begin at g and m
+-- the bag after these, when the generator and modulator indexes start at g and m
 bag_behind : (xs ys : List Bagged) (g m : ℕ)
     → slice_get
     (together bag (g ∷ ends g (sizes gens_in_bag (xs ++ ys))) (m ∷ ends m (sizes mods_in_bag (xs ++ ys))))
@@ -40,7 +40,7 @@ bag_behind (x ∷ xs) ys g m =
     omega arith in
     bag_behind xs ys (g + length x.gens) (m + length x.mods) ∙ λ i. Some (bag (gens i) (mods i))
 
--- the same by what these hold
+-- the same, by the numbers of generators and modulators of these bags
 says : (bags xs ys : List Bagged) (zones gens mods : ℕ) → xs ++ ys ≡ bags → Holds xs zones gens mods
     → slice_get (bag_list bags) zones ≡ Some (bag gens mods)
 unfolding bag_list
@@ -65,7 +65,7 @@ both_hold xs ys z g m z2 g2 m2 h k =
       mods_are = omega (arith, sizes-append mods_in_bag xs ys, hm, km);
     }
 
--- the bags of some zones, then those of the others
+-- the bags of the first zones, then those of the others
 bags-split : (at : Level) (g : GlobalZone) (zs : List Zone) (j : ℕ)
     → bags_written at g (take j zs) ++ map (zone_written at) (drop j zs) ≡ bags_written at g zs
 unfolding bags_written
@@ -116,7 +116,7 @@ module _ {H : Type 0} (at : Level) where
       → flat_map own_bags (take i os) ++ flat_map own_bags (drop i os) ≡ flat_map own_bags os
   split i os = sym (flat_map-append own_bags (take i os) (drop i os)) ∙ ap (flat_map own_bags) (take-append-drop i os)
 
-  -- the bags of the first i, and of the first j zones of the next one
+  -- the bags of the first i owners, and of the first j zones of owner i
   split-zones : (i j : ℕ) (os : List (WithZones H)) (o : WithZones H) → slice_get os i ≡ Some o
       → (flat_map own_bags (take i os) ++ bags_written at o.global (take j o.zones))
       ++ (map (zone_written at) (drop j o.zones) ++ flat_map own_bags (drop (suc i) os))

@@ -1,4 +1,4 @@
--- The running indexes of a bank's tables break no step, and no target of its zones does.
+-- The running indexes of a bank's tables pass the index checks, and the targets of its zones the target checks.
 use Rattle.std.proofs.Common.{◌≡◌, ◌≤◌, ◌+◌, ◌-◌, ℕ, suc, true, leb, ltb, List, [], ◌∷◌, length, map, None, refl}
 use Rattle.std.proofs.Common.{sym, ap, ◌∙◌, arith}
 use Rattle.std.specs.Prelude.{flat_map, nat_le}

@@ -1,4 +1,4 @@
--- What stands before the first zero, and a text that zeros follow.
+-- The bytes before the first zero, also of a text padded with zeros.
 use Rattle.std.proofs.Common.{◌≡◌, ◌≤◌, ◌<◌, ◌-◌, ℕ, zero, suc, List, [], ◌∷◌, ◌++◌, length, replicate, refl, ap}
 use Rattle.std.proofs.Common.{◌∙◌, arith}
 use Rattle.std.specs.List.{AllByRecursion}
@@ -18,7 +18,7 @@ before_zero-whole : (n : List ℕ) → AllByRecursion IsTextByte n → before_ze
 before_zero-whole [] h = refl
 before_zero-whole (b ∷ n) h = before_zero-byte b n h.0.0 ∙ ap (λ (x : List ℕ). b ∷ x) (before_zero-whole n h.1)
 
--- a text is found before the zeros that follow it
+-- the bytes before the first zero of a padded text are the text
 pub before_zero-zeros : (n : List ℕ) (k : ℕ) → AllByRecursion IsTextByte n → before_zero (n ++ replicate k 0) ≡ n
 before_zero-zeros n zero h = ap before_zero (append-nil n) ∙ before_zero-whole n h
 before_zero-zeros n (suc k) h = before_zero-then n (replicate k 0) h
@@ -30,7 +30,7 @@ pub length-filled : (n : List ℕ) → length n ≤ 20 → length (filled n) ≡
 length-filled n le =
     omega (arith, length-append n (replicate (20 - length n) 0), length-replicate {A = ℕ} (20 - length n) 0)
 
--- what stands before the first zero of bytes has no zero
+-- the bytes before the first zero contain no zero
 pub before_zero-bytes : (bs : List ℕ) → AllByRecursion (λ b. b < 256) bs → AllByRecursion IsTextByte (before_zero bs)
 before_zero-bytes [] h = tt
 before_zero-bytes (zero ∷ bs) h = tt

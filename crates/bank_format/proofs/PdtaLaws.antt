@@ -1,4 +1,4 @@
--- The nine lists of records are found again in their chunks, and their sizes and counts break no step.
+-- The nine record lists are found in their chunks, and pass the checks of sizes and counts.
 use Rattle.std.proofs.Common.{◌≡◌, ◌≤◌, ◌*◌, ◌%◌, ℕ, true, eqb, leb, List, [], ◌∷◌, length, None, refl, ap, ◌∙◌, arith}
 use Rattle.std.specs.Prelude.{flat_map}
 use Rattle.std.specs.List.{AllByRecursion}
@@ -182,7 +182,7 @@ module _ (b : Parts) (v : IsValid b) where
         shdr = (omega (arith, ls), omega (arith, ls, lh, ns));
       }
 
--- ---- steps
+-- ---- checks
 
 pub count_steps_hold : (t : Tables) → TablesCount t → first_broken (count_steps t) ≡ None
 unfolding count_steps
@@ -213,7 +213,7 @@ count_steps_hold t c =
     )
     refl)
 
--- what the bodies measure
+-- the record counts, computed from the chunk bodies
 pub record Measured (t : Tables) : Type 0 where
   pub phdr : length (flat_map preset_head_bytes t.phdr) ≡ length t.phdr * 38
   pub pbag : length (flat_map bag_bytes t.pbag) ≡ length t.pbag * 4

@@ -1,4 +1,4 @@
--- All that stands in a window of bytes is bytes.
+-- The chunks and lists in a sequence of bytes consist of bytes.
 use Rattle.std.proofs.Common.{◌<◌, ◌+◌, ◌%◌, ℕ, zero, suc, Bool, true, false, cond, ltb, List, [], ◌∷◌, length, take}
 use Rattle.std.proofs.Common.{drop, Option, Some, Ok, Err}
 use Rattle.std.specs.Prelude.{unwrap_or, find, bytes_eq}
@@ -22,7 +22,7 @@ drop_bytes n xs h = All-drop IsByte n xs h
 no_bytes : AreBytes []
 no_bytes = All-nil IsByte
 
--- each byte in turn
+-- All, by recursion over the list
 pub in_turn : (xs : List ℕ) → AreBytes xs → AllByRecursion IsByte xs
 in_turn xs h = recursion_from_All IsByte xs h
 
@@ -31,7 +31,7 @@ in_turn xs h = recursion_from_All IsByte xs h
 abbrev pub OfBytes : Chunk → Type 0
 OfBytes c = AreBytes c.body
 
--- one turn of a walk
+-- one iteration of a walk over chunks
 turn_bytes : (short fits : Bool) (c : Chunk) (items : List Item) → OfBytes c → AllByRecursion OfBytes (chunks_in items)
     → AllByRecursion OfBytes (chunks_in (cond short [] (cond fits (Ok c ∷ items) (Err truncated ∷ []))))
 turn_bytes true fits c items one rest = tt
@@ -50,7 +50,7 @@ pub walk_bytes : (w : List ℕ) → AreBytes w → AllByRecursion OfBytes (chunk
 unfolding walk
 walk_bytes w h = walked (length w) w h
 
--- what is found among chunks of bytes, without its first n
+-- the body of a chunk after its first n bytes
 abbrev found_body : ℕ → Option Chunk → List ℕ
 found_body n o = unwrap_or (option_map (λ (c : Chunk). drop n c.body) o) []
 

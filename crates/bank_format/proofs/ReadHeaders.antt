@@ -1,5 +1,5 @@
--- What is read of the bags of a preset or an instrument: a global zone and zones, which are valid but for
--- the zones' targets, fit, and count no more than the bags hold.
+-- The global zone and zones read from the bags of a preset or an instrument: they are valid except for targets, fit,
+-- and have no more generators and modulators than the bags.
 use Rattle.std.proofs.Common.{◌≡◌, ◌≤◌, ◌<◌, ◌+◌, ◌^◌, ℕ, Bool, true, false, cond, eqb, List, [], ◌∷◌, length, Some}
 use Rattle.std.proofs.Common.{None, refl, ap, subst, arith}
 use Rattle.std.specs.Prelude.{is_some, sum_by, filter_map}
@@ -19,19 +19,19 @@ use Rattle.bank_format.specs.Zones.{Bagged, is_target, target_of, gens_read, zon
 use Rattle.bank_format.specs.Zones.{no_global, has_target, global_read}
 use Rattle.bank_format.proofs.ReadZones.{gens_valid, gens_fit, len-gens_read, len-none, one_for}
 
--- a bag of records that bytes hold
+-- a bag whose records are read from bytes
 pub record FitsBagged (r : Bagged) : Type 0 where
   pub gens : AllByRecursion FitsGenerator r.gens
   pub mods : AllByRecursion FitsModulator r.mods
 
--- how many generators and modulators a bag holds
+-- how many generators and modulators a bag has
 abbrev pub gens_in : Bagged → ℕ
 gens_in r = length r.gens
 
 abbrev pub mods_in : Bagged → ℕ
 mods_in r = length r.mods
 
--- how many a zone has, with its target
+-- how many generators (with the target) and modulators a zone has
 abbrev zone_gens : Zone → ℕ
 zone_gens z = len z.gens + 1
 
@@ -45,7 +45,7 @@ module _ (at : Level) where
   abbrev later_zones : List Bagged → List Zone
   later_zones bags = filter_map (zone_read at) bags
 
-  -- ---- generators that the level allows
+  -- ---- generators that are allowed at the level
 
   abbrev pub HasGenerators : Zone → Type 0
   HasGenerators z = AreGenerators at z.gens
@@ -69,7 +69,7 @@ module _ (at : Level) where
         | false ↦ gens_valid at r.gens
       ]
 
-  -- ---- numbers that fit
+  -- ---- numbers in range
 
   target_fits : (rs : List Generator) → AllByRecursion FitsGenerator rs → (t : ℕ) → target_of at rs ≡ Some t
       → t < 2 ^ 16
@@ -108,7 +108,7 @@ module _ (at : Level) where
     | false ↦ record { gens = gens_fit at r.gens v.0.gens; mods = v.0.mods }
   ]
 
-  -- ---- how much the zones count
+  -- ---- the totals of the zones
 
   pub record AreCounted (bags : List Bagged) (g : GlobalZone) (zs : List Zone) : Type 0 where
     pub zones : zone_count g zs ≤ length bags
@@ -148,7 +148,7 @@ module _ (at : Level) where
             }
       ]) refl
 
-  -- an empty global zone counts nothing, any other one
+  -- an empty global zone has total zero, any other one its own totals
   no_global_count : global_count no_global ≡ 0
   no_global_count = ap (λ (n : ℕ). cond (eqb (n + 0) 0) 0 1) len-none
 

@@ -1,4 +1,4 @@
--- The presets and instruments that are read of heads and windows of bags.
+-- The presets and instruments read from headers and windows of bags.
 use Rattle.std.proofs.Common.{◌≡◌, ◌≤◌, ◌<◌, ℕ, ltb, List, [], ◌∷◌, ◌++◌, length, map, None, arith}
 use Rattle.std.specs.Prelude.{sum_by, flat_map}
 use Rattle.std.specs.List.{AllByRecursion}
@@ -31,7 +31,7 @@ use Rattle.bank_format.proofs.ReadHeaders.{HasGenerators, zones_hold, global_hol
 use Rattle.bank_format.proofs.ReadHeaders.{gens_in, mods_in}
 use Rattle.bank_format.proofs.ReadTables.{AllFit, AreWithin}
 
--- ---- heads that were read of bytes
+-- ---- headers read from bytes
 
 pub record ReadPresetHead (h : PresetHead) : Type 0 where
   pub fits : FitsPresetHead h
@@ -58,7 +58,7 @@ pub instrument_heads_read : (bytes : List ℕ) → AreBytes bytes
     → AllByRecursion ReadInstrumentHead (records 22 instrument_head_of bytes)
 instrument_heads_read = records-fit 22 instrument_head_of ReadInstrumentHead instrument_head_read
 
--- ---- facts of lists
+-- ---- lemmas about lists
 
 both_hold : {X : Type 0} (P Q R : X → Type 0) → ((x : X) → P x → Q x → R x) → (xs : List X) → AllByRecursion P xs
     → AllByRecursion Q xs → AllByRecursion R xs
@@ -102,7 +102,7 @@ module _ {H R : Type 0} (h : Headers H R) (rs : List R) (ws : List (List Bagged)
   abbrev owners : List (WithZones H)
   owners = together (owner_read h) rs ws
 
-  -- valid but for the targets
+  -- valid except for targets
   record IsNear (name_of : H → List ℕ) (x : WithZones H) : Type 0 where
     name : IsName (name_of x.head)
     global : AreGenerators h.level x.global.gens
@@ -171,7 +171,7 @@ module _ {H R : Type 0} (h : Headers H R) (rs : List R) (ws : List (List Bagged)
             );
       }
 
--- ---- those of presets, and those of instruments
+-- ---- presets, then instruments
 
 pub preset_named : (r : PresetHead) → ReadPresetHead r → IsName (before_zero r.name)
 preset_named r v = name_valid r.name v.name v.fits.name

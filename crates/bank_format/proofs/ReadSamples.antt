@@ -1,4 +1,4 @@
--- What is read of a sample's head is valid, and fits.
+-- The sample read from a sample header is valid, and its fields are in range.
 use Rattle.std.proofs.Common.{◌≡◌, ◌≤◌, ◌<◌, ◌+◌, ◌-◌, ◌/◌, ◌%◌, ℕ, Bool, true, false, cond, eqb, leb, ltb, ◌&&◌}
 use Rattle.std.proofs.Common.{List, [], ◌∷◌, length, drop, map, Option, Some, None, refl, arith}
 use Rattle.std.specs.Prelude.{sum_by}
@@ -26,7 +26,7 @@ use Rattle.bank_format.proofs.StepLaws.{split_none}
 use Rattle.bank_format.proofs.ReadBytes.{take_bytes}
 use Rattle.bank_format.proofs.ReadTexts.{name_valid}
 
--- a head that was read of bytes
+-- a header read from bytes
 pub record ReadHead (h : SampleHead) : Type 0 where
   pub fits : FitsSampleHead h
   pub name : AreBytes h.name
@@ -38,7 +38,7 @@ head_read bytes b e = record { fits = sample_head_lawful.read_fits bytes b e; na
 pub heads_read : (bytes : List ℕ) → AreBytes bytes → AllByRecursion ReadHead (records 46 sample_head_of bytes)
 heads_read = records-fit 46 sample_head_of ReadHead head_read
 
--- a head that breaks no step
+-- a header that passes its checks
 pub record GoodHead (points : ℕ) (h : SampleHead) : Type 0 where
   pub order : h.start ≤ h.end
   pub inside : h.end ≤ points

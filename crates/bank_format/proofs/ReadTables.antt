@@ -1,5 +1,5 @@
--- The windows of headers over bags, and of bags over their records: they fit where the records do, and hold
--- no more than the lists.
+-- The windows of headers over bags, and of bags over generators and modulators: their records are in range, and their
+-- total length is at most that of the lists.
 use Rattle.std.proofs.Common.{◌≡◌, ◌≤◌, ◌-◌, ℕ, List, length, map, None, arith}
 use Rattle.std.specs.Prelude.{sum_by}
 use Rattle.std.specs.List.{AllByRecursion}
@@ -21,13 +21,13 @@ use Rattle.bank_format.proofs.ReadHeaders.{FitsBagged, gens_in, mods_in}
 abbrev pub AllFit : List Bagged → Type 0
 AllFit bags = AllByRecursion FitsBagged bags
 
--- what all windows of headers hold together
+-- the total length of all windows of headers
 pub record AreWithin (windows : List (List Bagged)) : Type 0 where
   pub zones : sum_by length windows ≤ 65535
   pub gens : sum_by (λ bags. sum_by gens_in bags) windows ≤ 65535
   pub mods : sum_by (λ bags. sum_by mods_in bags) windows ≤ 65535
 
--- the lists of one level have few records
+-- the lists of one level have at most 65,536 records, terminals included
 pub record AreFew (b : List Bag) (g : List Generator) (m : List Modulator) : Type 0 where
   pub bags : length b ≤ 65536
   pub gens : length g ≤ 65536

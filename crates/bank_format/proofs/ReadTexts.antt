@@ -1,4 +1,4 @@
--- The texts and names that are read of bytes are valid, and of bytes.
+-- The texts and names read from bytes are valid, and consist of bytes.
 use Rattle.std.proofs.Common.{◌≡◌, ◌<◌, ℕ, List, [], ◌∷◌, length, take, arith}
 use Rattle.std.specs.List.{AllByRecursion}
 use Rattle.std.proofs.lemmas.List.{length-take}

@@ -1,5 +1,5 @@
--- What the steps of an unbroken file say: lists of few records, windows that hold no more, and heads of
--- samples in order.
+-- What the checks of reading imply: record counts within limits, windows with no more records than the lists, and
+-- sample headers with ordered ranges.
 use Rattle.std.proofs.Common.{◌≡◌, ◌≤◌, ◌-◌, ℕ, Bool, true, leb, List, [], ◌∷◌, length, map, None, arith}
 use Rattle.std.specs.Prelude.{flat_map}
 use Rattle.std.specs.List.{AllByRecursion}
@@ -25,7 +25,7 @@ use Rattle.bank_format.proofs.ReadSamples.{GoodHead, good_head}
 use Rattle.bank_format.proofs.ReadWindows.{indexes_held}
 use Rattle.bank_format.proofs.ReadTables.{AreFew, AreWithin, windows_within}
 
--- the steps on which validity rests
+-- the checks that validity depends on
 pub record Unbroken (info sdta : List Chunk) (t : Tables) : Type 0 where
   pub counts : first_broken (count_steps t) ≡ None
   pub indexes : first_broken (all_index_steps t) ≡ None
@@ -62,7 +62,7 @@ held test f (n ∷ ns) e =
     let both = split_none (test n) (first_broken (map (λ n. step (test n) f) ns)) f e in
     (both.0, held test f ns both.1)
 
--- how many records the lists have at most
+-- upper bounds on the record counts
 pub record FewRecords (t : Tables) : Type 0 where
   pub phdr : length t.phdr ≤ 65536
   pub presets : AreFew t.pbag t.pgen t.pmod

@@ -1,4 +1,4 @@
--- The bank that an unbroken file reads as is valid, and fits.
+-- The bank read from a file that passes every check is valid, and its fields are in range.
 use Rattle.std.proofs.Common.{◌≡◌, ◌-◌, ℕ, List, [], ◌∷◌, length, map, None, arith}
 use Rattle.std.specs.List.{AllByRecursion}
 use Rattle.std.proofs.lemmas.List.{length-map}
@@ -41,7 +41,7 @@ use Rattle.bank_format.proofs.ReadMembers.{preset_named, preset_fits, instrument
 use Rattle.bank_format.proofs.ReadUnbroken.{Unbroken, file_unbroken, few_records, few_in_windows, length-rows}
 use Rattle.bank_format.proofs.ReadUnbroken.{good_heads}
 
--- ---- tables of bytes
+-- ---- tables read from bytes
 
 pub record AreRead (t : Tables) : Type 0 where
   pub phdr : AllByRecursion ReadPresetHead (rows t.phdr)
@@ -71,7 +71,7 @@ tables_read pdta h = record {
   shdr = rows_hold ReadHead _ (heads_read (body_in SHDR pdta) (body_bytes SHDR pdta h));
 }
 
--- ---- the bank of chunks of bytes
+-- ---- the bank read from chunks of bytes
 
 module _ (info sdta : List Chunk) (t : Tables) (hi : AllByRecursion OfBytes info) (hs : AllByRecursion OfBytes sdta)
     (r : AreRead t) where
@@ -155,7 +155,7 @@ module _ (info sdta : List Chunk) (t : Tables) (hi : AllByRecursion OfBytes info
     samples = samples_fit (length heads) (points_in sdta) heads points_words r.shdr;
   }
 
--- ---- the bank of a file
+-- ---- the bank read from a file
 
 pub read_valid : (file : List ℕ) → AreBytes file → fault_of file ≡ None → IsValid (content_in (window file)).bank
 unfolding content_in

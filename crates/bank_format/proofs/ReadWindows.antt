@@ -1,4 +1,4 @@
--- What stands in the windows of a table: the elements of the table, each at most once.
+-- The windows of a table contain elements of the table, each at most once.
 use Rattle.std.proofs.Common.{◌≡◌, ◌≤◌, ◌+◌, ◌-◌, ℕ, zero, suc, true, leb, List, [], ◌∷◌, length, take, drop, None}
 use Rattle.std.proofs.Common.{ap, ◌∙◌, arith}
 use Rattle.std.specs.Prelude.{sum_by, nat_le}
@@ -11,7 +11,7 @@ use Rattle.bank_format.specs.Windows.{windows_from, windows, together}
 use Rattle.bank_format.specs.ReadSteps.{is_rising_from, is_rising, index_steps}
 use Rattle.bank_format.proofs.StepLaws.{split_none}
 
--- ---- indexes that rise, none above the last place
+-- ---- non-decreasing indexes, none greater than the last index
 
 pub record AreIndexes (is : List ℕ) (last : ℕ) : Type 0 where
   pub rising : is_rising is ≡ true
@@ -24,7 +24,7 @@ indexes_held is n e =
     let last = split_none (list_all (λ i. nat_le i (n - 1)) is) _ _ order.1 in
     record { rising = order.0; inside = last.0 }
 
--- ---- what holds of each element of the table
+-- ---- a property of each element of the table
 
 module _ {X : Type 0} (P : X → Type 0) where
   pub all_taken : (n : ℕ) (xs : List X) → AllByRecursion P xs → AllByRecursion P (take n xs)
@@ -48,7 +48,7 @@ module _ {X : Type 0} (P : X → Type 0) where
   all_windows table [] v = tt
   all_windows table (i ∷ is) v = all_from table i is v
 
--- ---- how many elements the windows have together
+-- ---- the total length of the windows
 
 module _ {X : Type 0} (table : List X) (last : ℕ) where
   lengths_from : (at : ℕ) (is : List ℕ) → at ≤ last → is_rising_from at is ≡ true
@@ -71,7 +71,7 @@ module _ {X : Type 0} (table : List X) (last : ℕ) where
       let h = lengths_from i is (leb-true _ _ bound.0) order.1 bound.1 in
       omega (arith, h)
 
--- ---- what they measure together
+-- ---- the sum of a measure over all windows
 
 module _ {X : Type 0} (measure : X → ℕ) (table : List X) where
   abbrev measured : List X → ℕ
@@ -99,7 +99,7 @@ module _ {X : Type 0} (measure : X → ℕ) (table : List X) where
       let h = sums_from i is order.1 in
       omega (arith, parts, h)
 
--- ---- two lists side by side
+-- ---- two lists zipped
 
 module _ {X Y Z : Type 0} (f : X → Y → Z) where
   pub all_together : (P : X → Type 0) (Q : Y → Type 0) (R : Z → Type 0) → ((x : X) (y : Y) → P x → Q y → R (f x y))
@@ -113,7 +113,7 @@ module _ {X Y Z : Type 0} (f : X → Y → Z) where
   length-together-le (x ∷ xs) [] = omega arith
   length-together-le (x ∷ xs) (y ∷ ys) = let h = length-together-le xs ys in omega (arith, h)
 
-  -- a sum is at most that of either list
+  -- the sum over the zipped list is at most the sum over either list
   pub sum-left : (g : Z → ℕ) (k : X → ℕ) → ((x : X) (y : Y) → g (f x y) ≤ k x) → (xs : List X) (ys : List Y)
       → sum_by g (together f xs ys) ≤ sum_by k xs
   sum-left g k h [] ys = omega arith

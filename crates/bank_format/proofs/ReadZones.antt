@@ -1,5 +1,5 @@
--- What is read of a zone's records: generators that the level allows, with ranges in order, and no more
--- of them than there are records.
+-- The zone read from generator records: its generators are allowed at the level, its ranges are ordered, and it has
+-- no more generators than there are records.
 use Rattle.std.proofs.Common.{◌≡◌, ◌≤◌, ◌<◌, ◌+◌, ◌^◌, ℕ, suc, Bool, true, false, cond, eqb, List, [], ◌∷◌, length}
 use Rattle.std.proofs.Common.{map, filter, Option, Some, refl, sym, ◌∙◌, arith}
 use Rattle.std.specs.Prelude.{is_some}
@@ -45,7 +45,7 @@ len-from (e ∷ es) =
 pub len-none : len (gens_of []) ≡ 0
 len-none = len-empty operator_cmp ℕ
 
--- one where there is a target
+-- one if there is a target
 abbrev pub one_for : Option ℕ → ℕ
 one_for target = cond (is_some target) 1 0
 
@@ -83,7 +83,7 @@ module _ (at : Level) where
         all_last (allowed_in at (before_target at rs))
         (all_filtered (λ (r : Generator). is_allowed at r.operator) (before_target at rs) (all_before rs v))
 
-  -- each is allowed
+  -- each kept operator is allowed
   abbrev IsAllowed : Generator → Type 0
   IsAllowed r = is_allowed at r.operator ≡ true
 
@@ -99,7 +99,7 @@ module _ (at : Level) where
   kept_allowed : (rs : List Generator) → AllByRecursion IsAllowed (kept at rs)
   kept_allowed rs = all_last IsAllowed (allowed_in at (before_target at rs)) (filtered_allowed (before_target at rs))
 
-  -- ---- mended ranges
+  -- ---- repaired ranges
 
   mended_is : (r : Generator) → IsAllowed r → IsGenerator at (entry_of (mended r))
   mended_is r a =
@@ -124,7 +124,7 @@ module _ (at : Level) where
   gens_valid rs =
       All-from (IsGenerator at) (map entry_of (map mended (kept at rs))) (all_mended (kept at rs) (kept_allowed rs))
 
-  -- ---- numbers that fit
+  -- ---- numbers in range
 
   mended_fits : (r : Generator) → FitsGenerator r → FitsEntry (entry_of (mended r))
   mended_fits r f =

@@ -1,4 +1,5 @@
--- A canonical file reads as its bank, with no counts: the frame, the lists, and all together.
+-- A canonical file reads as its bank, with all counts zero: first the RIFF chunk, then the lists, then the whole
+-- file.
 use Rattle.std.proofs.Common.{◌≡◌, ◌≤◌, ◌<◌, ◌+◌, ◌^◌, ℕ, true, false, leb, List, [], ◌∷◌, ◌++◌, length, take}
 use Rattle.std.proofs.Common.{Option, Some, None, refl, ap, ◌∙◌, arith, is_some}
 use Rattle.std.specs.Prelude.{unwrap_or, bytes_eq}
@@ -150,7 +151,7 @@ module _ (b : Parts) (v : IsValid b) (f : Fits b) where
   tables_are : tables_in (chunks_of PDTA (spell (lists b))) ≡ tables_of b
   tables_are = ap tables_in pdta_is ∙ tables-again (tables_of b) (tables_fit b v f) (tables_count b v)
 
-  -- ---- the steps
+  -- ---- the checks
 
   frame_holds : first_broken (frame_steps (canon b)) ≡ None
   frame_holds =
@@ -199,6 +200,6 @@ module _ (b : Parts) (v : IsValid b) (f : Fits b) where
       ∙ (λ i. content_of (info_is i) (sdta_is i) (tables_are i))
       ∙ content-again b v f
 
-  -- a canonical file reads as its bank, with no counts
+  -- a canonical file reads as its bank, with all counts zero
   pub reads-again : ReadsAs (canon b) b no_counts
   reads-again = (fault-again, says-again)

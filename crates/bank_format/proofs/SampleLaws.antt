@@ -1,4 +1,4 @@
--- The heads of samples and their points give them back, break no step, and nothing is counted.
+-- Reading the written headers and points of samples returns the samples, passes every check, and counts nothing.
 use Rattle.std.proofs.Common.{◌≡◌, ◌≤◌, ◌<◌, ◌+◌, ◌-◌, ◌/◌, ◌%◌, ℕ, suc, true, false, eqb, leb, ltb, List, [], ◌∷◌}
 use Rattle.std.proofs.Common.{◌++◌, length, map, replicate, Option, Some, None, refl, sym, ap, ◌∙◌, append_assoc}
 use Rattle.std.proofs.Common.{arith}
@@ -50,7 +50,7 @@ some_loop : (a x y : ℕ) → some_pair (a + x - a) (a + y - a) ≡ some_pair x 
 some_loop a x y =
     let p : a + x - a ≡ x = omega arith in let q : a + y - a ≡ y = omega arith in λ i. some_pair (p i) (q i)
 
--- a head with this loop
+-- a header with this loop
 abbrev looped_head : SampleHead → ℕ → Option (ℕ × ℕ) → SampleHead
 looped_head h start looped = record h { loop_start = loop_start_at start looped; loop_end = loop_end_at start looped }
 
@@ -64,7 +64,7 @@ loop-again start s (Some l) v =
 
 -- ---- the kind
 
--- a head with this kind
+-- a header with this kind
 abbrev kind_head : SampleHead → Kind → SampleHead
 kind_head h kind = record h { kind = kind_word kind; link = link_word kind }
 
@@ -119,7 +119,7 @@ samples-again n before (s ∷ ss) v =
     ∙ samples-again n (before ++ points_written s) ss v.1 in
     λ i. first i ∷ others i
 
--- ---- nothing is counted
+-- ---- all counts are zero
 
 pub loops_counted : (n start : ℕ) (ss : List Sample) → AllByRecursion (IsSample n) ss
     → count_by is_loop_lost (sample_heads_from start ss) ≡ 0
@@ -137,7 +137,7 @@ links_counted n start (s ∷ ss) v =
     (kind-again n (sample_head start s) s.kind v.0.kind).1
     (links_counted n (start + length s.points + 46) ss v.1)
 
--- ---- no step is broken
+-- ---- every check passes
 
 kind_bits : (k : Kind) → (eqb (kind_word k / 16 % 2) 0 ≡ true) × (eqb (kind_word k / 32768 % 2) 0 ≡ true)
 kind_bits Mono = (refl, refl)

@@ -1,4 +1,4 @@
--- Steps one after the other.
+-- Checks in sequence.
 use Rattle.std.proofs.Common.{◌≡◌, Bool, true, false, cond, List, [], ◌∷◌, ◌++◌, Option, Some, None, Result, Ok, Err}
 use Rattle.std.proofs.Common.{refl, sym, ap, ◌∙◌}
 use Rattle.std.specs.List.{AllByRecursion}
@@ -6,7 +6,7 @@ use Rattle.std.specs.Prelude.{flat_map}
 use Rattle.std.specs.Result.{IsErrAnd}
 use Rattle.bank_format.specs.Steps.{Step, first_broken, Passes}
 
--- where nothing is broken, a step holds and the rest isn't broken
+-- if nothing fails, the first check holds and the rest have no fault
 pub split_none : {A : Type 0} (b : Bool) (rest : Option A) (fault : A) → cond b rest (Some fault) ≡ None
     → (b ≡ true) × (rest ≡ None)
 split_none true rest fault h = (refl, h)
@@ -18,7 +18,7 @@ fault_either true x y w f g h = g h
 fault_either false x y w f g h = h
 
 module _ {F : Type 0} where
-  -- the steps after those that hold
+  -- appending checks after checks that hold
   pub first_broken-append : (xs ys : List (Step F)) → first_broken xs ≡ None → first_broken (xs ++ ys) ≡ first_broken ys
   first_broken-append [] ys h = refl
   first_broken-append (x ∷ xs) ys h =
@@ -29,13 +29,13 @@ module _ {F : Type 0} where
       → first_broken (xs ++ ys) ≡ None
   then_none xs ys h k = first_broken-append xs ys h ∙ k
 
-  -- the fault of a step is that of all
+  -- the first fault of a list is the first fault of any extension of it
   pub first_broken-front : (xs ys : List (Step F)) (f : F) → first_broken xs ≡ Some f → first_broken (xs ++ ys) ≡ Some f
   first_broken-front [] ys f h = absurd cc
   first_broken-front (x ∷ xs) ys f h =
       fault_either x.holds (first_broken xs) (first_broken (xs ++ ys)) x.fault f (λ e. first_broken-front xs ys f e) h
 
-  -- both parts hold where the whole does
+  -- if an appended list has no fault, neither part has one
   pub both_none : (xs ys : List (Step F)) → first_broken (xs ++ ys) ≡ None
       → (first_broken xs ≡ None) × (first_broken ys ≡ None)
   both_none [] ys h = (refl, h)
@@ -44,13 +44,13 @@ module _ {F : Type 0} where
       let rest = both_none xs ys both.1 in
       (rw both.0 rest.0, rest.1)
 
-  -- all lists of steps of a flat map hold where the whole does
+  -- if a flat map has no fault, no list in it has one
   pub all_none : {X : Type 0} (f : X → List (Step F)) (xs : List X) → first_broken (flat_map f xs) ≡ None
       → AllByRecursion (λ x. first_broken (f x) ≡ None) xs
   all_none f [] h = tt
   all_none f (x ∷ xs) h = let both = both_none (f x) (flat_map f xs) h in (both.0, all_none f xs both.1)
 
-  -- ---- parts of a reader, one after the other
+  -- ---- functions of the reader, called in sequence
 
   -- a fault that is passed on
   pub passes_by : {X Y : Type 0} (view : X → Y) (value : Y) (r : Result X F) (f : F) (xs : List (Step F))
@@ -58,12 +58,12 @@ module _ {F : Type 0} where
   passes_by view value (Ok x) f xs is h = absurd is
   passes_by view value (Err e) f xs is h = h ∙ ap Some (sym is)
 
-  -- a part that fails, first of all
+  -- the first function fails
   pub passes_front : {X Y : Type 0} (view : X → Y) (value : Y) (r : Result X F) (f : F) (xs ys : List (Step F))
       → IsErrAnd r (λ e. e ≡ f) → first_broken xs ≡ Some f → Passes view r (xs ++ ys) value
   passes_front view value r f xs ys is h = passes_by view value r f (xs ++ ys) is (first_broken-front xs ys f h)
 
-  -- a part after one that went through
+  -- a function after one that succeeds
   pub passes_after : {X Y : Type 0} (view : X → Y) (value : Y) (r : Result X F) (xs ys : List (Step F))
       → first_broken xs ≡ None → Passes view r ys value → Passes view r (xs ++ ys) value
   passes_after view value (Ok x) xs ys h k = (then_none xs ys h k.0, k.1)

@@ -1,4 +1,4 @@
--- The tables of a bank give back its presets and instruments, and nothing is counted.
+-- Reading the tables of a bank returns its presets and instruments, with all counts zero.
 use Rattle.std.proofs.Common.{◌≡◌, ◌+◌, ◌-◌, ℕ, suc, List, [], ◌∷◌, length, map, refl, ap, ◌∙◌, arith}
 use Rattle.std.specs.Prelude.{sum_by}
 use Rattle.std.specs.List.{AllByRecursion}
@@ -109,7 +109,7 @@ module _ {H R : Type 0} (h : Headers H R) (written : (n : ℕ) (x : H) → h.fir
         ∙ together-take (owner_read h) (length heads - 1) heads (map own_bags xs) (omega (arith, l, m))
         ∙ owners-again targets 0 xs v
 
--- ---- those of presets, and those of instruments
+-- ---- presets, then instruments
 
 preset_windows-again : (b : Parts) → preset_windows (tables_of b) ≡ map (bags_of level.Preset) b.presets
 unfolding preset_windows tables_of
@@ -136,7 +136,7 @@ all_instruments-again b v =
     all_owners-again instruments (λ n x. refl) (λ n. refl) (λ name. name) (λ n. before_zero-filled)
     (length b.samples) b.instruments _ (instrument_windows-again b) v.instruments
 
--- ---- nothing is counted
+-- ---- all counts are zero
 
 module _ (f : Level → List Bagged → ℕ)
     (h : (at : Level) (n : ℕ) (g : GlobalZone) (zs : List Zone) → Again at n (bags_written at g zs) g zs
@@ -146,7 +146,7 @@ module _ (f : Level → List Bagged → ℕ)
         → f at (bags_written at g zs) ≡ 0
     none_written at n g zs v = h at n g zs (header-again at n g zs v)
 
-    -- a count that is zero for the bags of each header
+    -- a sum over headers, each of whose bags counts zero
     counted_none : (b : Parts) → IsValid b
         → sum_by (f level.Preset) (preset_windows (tables_of b))
         + sum_by (f level.Inst) (instrument_windows (tables_of b))

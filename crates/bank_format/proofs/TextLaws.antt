@@ -1,4 +1,4 @@
--- The texts that were written are read again, and none is cut.
+-- Reading the written texts returns them, and none is truncated.
 use Rattle.std.proofs.Common.{◌≡◌, ◌≤◌, ◌<◌, ◌+◌, ◌^◌, ℕ, true, false, ltb, List, [], ◌∷◌, ◌++◌, length, take, drop}
 use Rattle.std.proofs.Common.{Option, Some, None, refl, ap, ◌∙◌, arith}
 use Rattle.std.specs.Prelude.{unwrap_or}

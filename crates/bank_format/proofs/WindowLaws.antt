@@ -1,11 +1,11 @@
--- Lists that were written one after the other are the windows of their table.
+-- Lists concatenated into a table are the windows of that table at their starts.
 use Rattle.std.proofs.Common.{◌≡◌, ◌≤◌, ◌+◌, ◌-◌, ℕ, zero, suc, List, [], ◌∷◌, ◌++◌, length, take, map, refl, sym}
 use Rattle.std.proofs.Common.{ap, ◌∙◌, append_assoc, arith}
 use Rattle.std.specs.List.{flat_map, slice_range}
 use Rattle.std.proofs.lemmas.List.{length-append, length-map, append-nil, take_at, drop_at}
 use Rattle.bank_format.specs.Windows.{ends, starts, windows_from, windows, together, rows}
 
--- one list behind others and before a rest
+-- a list in the middle of a table
 pub window-again : {X : Type 0} (before xs rest : List X) (a b : ℕ) → a ≡ length before
     → b ≡ length before + length xs → slice_range (before ++ (xs ++ rest)) a b ≡ xs
 window-again before xs rest a b ea eb =
@@ -41,14 +41,14 @@ module _ {X Y : Type 0} (f : Y → List X) where
   pub windows-again : (ys : List Y) (rest : List X) → windows (flat_map f ys ++ rest) (starts (sizes ys)) ≡ map f ys
   windows-again ys rest = windows_from-again [] rest ys 0 refl
 
-  -- the same where nothing follows
+  -- the same when nothing follows the lists
   pub windows-all : (ys : List Y) → windows (flat_map f ys) (starts (sizes ys)) ≡ map f ys
   windows-all ys =
       ap (λ (t : List X). windows t (starts (sizes ys))) (sym (append-nil (flat_map f ys))) ∙ windows-again ys []
 
 -- ---- where lists begin
 
--- the length of all lists of these sizes
+-- the total length of lists of these sizes
 abbrev pub total : List ℕ → ℕ
 total [] = 0
 total (n ∷ ns) = n + total ns
@@ -65,9 +65,9 @@ pub length-starts : {X Y : Type 0} (f : Y → List X) (ys : List Y) → length (
 length-starts f ys =
     let a = length-ends 0 (sizes f ys) in let b = length-map ys (λ y. length (f y)) in omega (arith, a, b)
 
--- ---- side by side
+-- ---- zipped lists
 
--- what was put side by side, taken apart
+-- projecting the zip of two lists
 pub map-together_left : {X Y Z : Type 0} (f : X → Y → Z) (g : Z → X) → ((x : X) (y : Y) → g (f x y) ≡ x)
     → (xs : List X) (ys : List Y) → length xs ≤ length ys → map g (together f xs ys) ≡ xs
 map-together_left f g same [] ys le = refl
@@ -81,13 +81,13 @@ map-together_right f g same [] (y ∷ ys) le = absurd (omega arith)
 map-together_right f g same (x ∷ xs) [] le = refl
 map-together_right f g same (x ∷ xs) (y ∷ ys) le = λ i. same x y i ∷ map-together_right f g same xs ys (omega arith) i
 
--- both parts of the elements of one list, put side by side
+-- zipping the two projections of a list
 pub together-maps : {X Y Z W : Type 0} (f : X → Y → Z) (g : W → X) (h : W → Y) (ws : List W)
     → together f (map g ws) (map h ws) ≡ map (λ w. f (g w) (h w)) ws
 together-maps f g h [] = refl
 together-maps {Z = Z} f g h (w ∷ ws) = ap (λ (zs : List Z). f (g w) (h w) ∷ zs) (together-maps f g h ws)
 
--- elements past the shorter list's end don't count
+-- elements after the shorter list's end are ignored
 pub together-take : {X Y Z : Type 0} (f : X → Y → Z) (n : ℕ) (xs : List X) (ys : List Y) → length ys ≤ n
     → together f (take n xs) ys ≡ together f xs ys
 together-take f zero [] ys le = refl

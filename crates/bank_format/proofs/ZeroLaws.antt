@@ -16,7 +16,7 @@ take_position (suc b ∷ bytes) =
     let next : 1 + prefix_len (λ x. not (x == 0)) bytes ≡ suc (prefix_len (λ x. not (x == 0)) bytes) = omega arith in
     rw (not_zero b, next) (ap (λ bs. suc b ∷ bs) (take_position bytes))
 
--- as a search finds it
+-- the same, found by a search
 pub before_found : (bytes : List ℕ) (found : Option ℕ) (end : ℕ)
     → found
     ≡ cond (ltb (position_or_len (λ b. b == 0) bytes) (length bytes)) (Some (position_or_len (λ b. b == 0) bytes))

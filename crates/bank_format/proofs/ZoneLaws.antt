@@ -1,4 +1,4 @@
--- What was written of a zone is read again, and nothing is counted.
+-- Reading the written records of a zone returns the zone, and counts nothing.
 use Rattle.std.proofs.Common.{◌≡◌, ℕ, true, false, cond, not, ◌==◌, ◌&&◌, eqb, List, [], ◌∷◌, ◌++◌, length, map}
 use Rattle.std.proofs.Common.{Option, Some, None, refl, ap, ◌∙◌, arith, inl, inr, is_some}
 use Rattle.std.specs.Prelude.{count_by, IsTrue}
@@ -33,7 +33,7 @@ Entries = List (ℕ × ℕ)
 abbrev pub spelled : Entries → List Generator
 spelled es = map (λ e. generator e.0 e.1) es
 
--- ---- no allowed operator is a target
+-- ---- no allowed operator is a target operator
 
 module _ (at : Level) where
   no_target : (op : ℕ) → is_allowed at op ≡ true → eqb op (target_operator at) ≡ false
@@ -42,7 +42,7 @@ module _ (at : Level) where
   target_self : eqb (target_operator at) (target_operator at) ≡ true
   target_self = eq-eqb _ _ refl
 
-  -- up to the target, and the target itself
+  -- the records before the target, and the target itself
   before_target-again : (es : Entries) (t : ℕ) → AllByRecursion (IsGenerator at) es
       → before_target at (spelled es ++ generator (target_operator at) t ∷ []) ≡ spelled es
   before_target-again [] t v = rw target_self refl
@@ -55,7 +55,7 @@ module _ (at : Level) where
   target_of-again [] t v = rw target_self refl
   target_of-again (e ∷ es) t v = rw (no_target e.0 v.0.allowed) (target_of-again es t v.1)
 
-  -- the same of a global zone, which has none
+  -- the same for a global zone, which has no target
   before_target-none : (es : Entries) → AllByRecursion (IsGenerator at) es → before_target at (spelled es) ≡ spelled es
   before_target-none [] v = refl
   before_target-none (e ∷ es) v =
@@ -71,7 +71,7 @@ module _ (at : Level) where
   allowed_in-again (e ∷ es) v =
       rw v.0.allowed (ap (λ (rs : List Generator). generator e.0 e.1 ∷ rs) (allowed_in-again es v.1))
 
--- ---- in order no operator stands twice
+-- ---- in canonical order each operator occurs once
 
 less_other : (op x : ℕ) → IsTrue (is_lt (operator_cmp op x)) → eqb x op ≡ false
 less_other op x h = elim (cases_eq x op) [
@@ -92,7 +92,7 @@ last_of_each-again (e ∷ es) h =
     let both = both_true (below_all operator_cmp e.0 es) (is_sorted operator_cmp es) h in
     rw (none_same e.0 es both.0) (ap (λ (rs : List Generator). generator e.0 e.1 ∷ rs) (last_of_each-again es both.1))
 
--- ---- ranges in order stay
+-- ---- ordered ranges are unchanged
 
 range-again : (w : ℕ) → IsRange w → range_mended w ≡ w
 range-again w r = grind (arith, nat_tests)

@@ -1,4 +1,4 @@
--- The one spelling of a bank: the canonical file.
+-- The canonical file of a bank.
 use Rattle.std.specs.Prelude.{ℕ, List, [], ◌∷◌, ◌++◌, flat_map}
 use Rattle.byteorder.specs.Endian.{little_bytes}
 use Rattle.sample_view.specs.Words.{word_bytes}
@@ -14,19 +14,19 @@ use Rattle.bank_format.specs.Tables.{Tables, tables_of, all_points}
 abbrev pub made : List ℕ → List ℕ → Chunk
 made name body = record { id = name; body = body }
 
--- a list of a form
+-- a LIST chunk of a form
 abbrev pub list_of : List ℕ → List Chunk → Chunk
 list_of form chunks = made LIST (form ++ spell chunks)
 
 abbrev pub text_chunk : List ℕ → List ℕ → Chunk
 text_chunk name text = made name (text_body text)
 
--- a text that is written only where it is not empty
+-- a text chunk, omitted if the text is empty
 abbrev pub text_chunk_if : List ℕ → List ℕ → List Chunk
 text_chunk_if name [] = []
 text_chunk_if name (c ∷ text) = text_chunk name (c ∷ text) ∷ []
 
--- major version 2, and the minor one
+-- `ifil`: the major version 2, and the minor version
 abbrev pub version : Parts → List ℕ
 version b = little_bytes 2 2 ++ little_bytes 2 b.minor
 

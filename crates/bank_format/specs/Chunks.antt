@@ -1,4 +1,4 @@
--- The windows of a file, and the chunks and tables in them.
+-- Chunks, lists and tables of a file. The window of a file is the body of its RIFF chunk after the form.
 use Rattle.std.specs.Prelude.{◌+◌, ℕ, List, [], ◌∷◌, take, drop, unwrap_or}
 use Rattle.sf_base.specs.Fields.{field_at}
 use Rattle.sample_view.specs.Words.{words}
@@ -16,11 +16,11 @@ use Rattle.bank_format.specs.Tables.{Tables, modulator_end}
 abbrev pub riff_size : List ℕ → ℕ
 riff_size file = field_at 4 4 file
 
--- the RIFF body after its form
+-- the body of the RIFF chunk after its form
 unfoldable pub window : List ℕ → List ℕ
 window file = drop 12 (take (8 + riff_size file) file)
 
--- the window of the first list of a form, after the form
+-- the body of the first LIST chunk of a form, after the form; empty if there is none
 unfoldable pub list_window : List ℕ → List ℕ → List ℕ
 list_window form w = unwrap_or (first_list form (chunks_in (walk w))) []
 
@@ -28,13 +28,13 @@ list_window form w = unwrap_or (first_list form (chunks_in (walk w))) []
 abbrev pub chunks_of : List ℕ → List ℕ → List Chunk
 chunks_of form w = chunks_in (walk (list_window form w))
 
--- the body of the first chunk of an id; of a missing one no bytes
+-- the body of the first chunk with an id; empty if there is none
 abbrev pub body_in : List ℕ → List Chunk → List ℕ
 body_in name chunks = unwrap_or (first_body name chunks) []
 
 -- ---- the nine lists of records
 
--- a list of modulators that holds none reads as one zero record
+-- an empty list of modulators reads as one zero record, its terminal
 abbrev pub or_zero : List Modulator → List Modulator
 or_zero [] = modulator_end ∷ []
 or_zero (m ∷ modulators) = m ∷ modulators
@@ -52,6 +52,6 @@ tables_in pdta = record {
   shdr = records 46 sample_head_of (body_in id.SHDR pdta);
 }
 
--- the points, as words; a missing chunk holds none
+-- the points of `smpl` as 16-bit words; none if the chunk is missing
 unfoldable pub points_in : List Chunk → List ℕ
 points_in sdta = words (body_in id.SMPL sdta)

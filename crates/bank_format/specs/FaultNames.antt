@@ -1,4 +1,4 @@
--- The number and the name by which each fault of reading is told.
+-- The number and the name of each fault of reading, as fault lines print them.
 use Rattle.std.specs.Prelude.{ℕ, List, codes}
 use Rattle.bank_format.specs.declared.fault.ReadFault.{ReadFault}
 use Rattle.bank_format.specs.declared.fault.ReadFault.TheVariants.{NotRiff, NotSfbk, Truncated, MissingList}

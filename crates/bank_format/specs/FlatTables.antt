@@ -9,7 +9,7 @@ use Rattle.bank_parts.specs.FlatLists.{FlatLists, lists_of}
 use Rattle.bank_format.specs.Zones.{generator}
 use Rattle.bank_format.specs.Tables.{Headers, bag, presets, instruments, tables_of}
 
--- a header for each, with the number of its first bag, and the last with the number of all bags
+-- a header for each owner, with the index of its first bag, and the terminal, with the number of all bags
 abbrev pub headers_of : {H R : Type 0} → Headers H R → List (WithZones H) → List ℕ → List R
 headers_of h owners [] = []
 headers_of h [] (at ∷ first_bags) = h.last at ∷ []
@@ -21,7 +21,7 @@ bag_of at = bag at.0 at.1
 abbrev pub generator_of : ℕ × ℕ → Generator
 generator_of e = generator e.0 e.1
 
--- the four tables of presets, or of instruments
+-- the four tables of presets, or of instruments, are these flat lists
 pub record AreOfLists {H R : Type 0} (h : Headers H R) (owners : List (WithZones H)) (l : FlatLists) (heads : List R)
     (bags : List Bag) (mods : List Modulator) (gens : List Generator) : Type 0 where
   pub heads_are : heads ≡ headers_of h owners l.first_bags

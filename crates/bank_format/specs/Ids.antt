@@ -1,4 +1,4 @@
--- The ids of chunks and lists, as bytes.
+-- The ids of chunks and lists, as bytes (SoundFont 2.04, section 4).
 use Rattle.std.specs.Prelude.{ℕ, List, codes}
 
 unfoldable pub RIFF : List ℕ
@@ -17,7 +17,7 @@ SDTA = codes "sdta"
 unfoldable pub PDTA : List ℕ
 PDTA = codes "pdta"
 
--- the version, and the eight texts that are kept
+-- the version, and the eight texts that a bank keeps
 unfoldable pub IFIL : List ℕ
 IFIL = codes "ifil"
 
@@ -45,7 +45,7 @@ ICMT = codes "ICMT"
 unfoldable pub ISFT : List ℕ
 ISFT = codes "ISFT"
 
--- the points, and the eight bits that each has more in a 24-bit bank
+-- the points, and their 8 low-order bits in a 24-bit bank
 unfoldable pub SMPL : List ℕ
 SMPL = codes "smpl"
 
@@ -80,7 +80,7 @@ IGEN = codes "igen"
 unfoldable pub SHDR : List ℕ
 SHDR = codes "shdr"
 
--- the names of the three terminals, and the engine of a file that names none
+-- the names of the three terminals, and the engine assumed when a file names none
 unfoldable pub EOP : List ℕ
 EOP = codes "EOP"
 

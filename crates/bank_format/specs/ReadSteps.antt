@@ -1,4 +1,4 @@
--- The steps of reading, in their order. The first that a file breaks gives its fault.
+-- The checks of reading, in order. The first check that a file fails determines its fault.
 use Rattle.std.specs.Prelude.{◌≡◌, ◌+◌, ◌-◌, ◌%◌, ◌/◌, ℕ, List, [], ◌∷◌, ◌++◌, length, take, drop, map, flat_map}
 use Rattle.std.specs.Prelude.{sum_by, Option, None, is_some, Bool, true, nat_le, nat_lt, ◌==◌, ◌&&◌, bytes_eq}
 use Rattle.std.specs.List.{list_all}
@@ -23,9 +23,9 @@ use Rattle.bank_format.specs.Tables.{Tables}
 use Rattle.bank_format.specs.Chunks.{riff_size, window, list_window, chunks_of, body_in, tables_in, points_in}
 use Rattle.bank_format.specs.Reading.{bank_of, content_in}
 
--- ---- the frame of the file
+-- ---- the RIFF chunk
 
--- a RIFF file of a form, with the faults of one that is no RIFF file, that is cut, and that has another form
+-- the RIFF chunk of a form: its id, its size, and its form, each with a fault
 unfoldable pub form_steps : {F : Type 0} → List ℕ → F → F → F → List ℕ → List (Step F)
 form_steps form not_riff truncated other_form file =
     step (bytes_eq (take 4 file) id.RIFF) not_riff
@@ -38,7 +38,7 @@ form_steps form not_riff truncated other_form file =
 abbrev pub frame_steps : List ℕ → List (Step ReadFault)
 frame_steps file = form_steps id.SFBK fault.NotRiff fault.Truncated fault.NotSfbk file
 
--- ---- the three lists: the window is walked, each list is there, and each is walked
+-- ---- the three lists: the window consists of whole chunks, each list exists, and consists of whole chunks
 
 abbrev pub list_step : List ℕ → List ℕ → Step ReadFault
 list_step form w = step (is_some (first_list form (chunks_in (walk w)))) fault.MissingList
@@ -53,7 +53,7 @@ list_steps w =
     ∷ walk_step (list_window id.INFO w) ∷ walk_step (list_window id.SDTA w) ∷ walk_step (list_window id.PDTA w)
     ∷ []
 
--- ---- the chunks that have to be there, and the version
+-- ---- the required chunks, and the version
 
 abbrev pub chunk_step : List Chunk → List ℕ → Step ReadFault
 chunk_step chunks name = step (is_some (first_body name chunks)) fault.MissingChunk
@@ -67,7 +67,7 @@ chunk_steps info pdta =
     ∷ (map (chunk_step pdta) nine
     ++ step (length (body_in id.IFIL info) == 4 && field_at 0 2 (body_in id.IFIL info) == 2) fault.Version ∷ [])
 
--- ---- each of the nine lists is whole records long
+-- ---- the length of each of the nine lists is a multiple of its record size
 
 abbrev pub size_step : List Chunk → List ℕ → ℕ → Step ReadFault
 size_step pdta name size = step (length (body_in name pdta) % size == 0) fault.RecordSize
@@ -79,7 +79,7 @@ size_steps pdta =
     ∷ size_step pdta id.SHDR 46
     ∷ []
 
--- ---- how many records each has
+-- ---- each of the nine lists has a terminal, and at most RECORDS records
 
 abbrev pub record_counts : Tables → List ℕ
 record_counts t =
@@ -91,12 +91,12 @@ count_steps t =
     map (λ n. step (nat_le 1 n) fault.NoTerminal) (record_counts t)
     ++ map (λ n. step (nat_le n RECORDS) fault.TooMany) (record_counts t)
 
--- ---- points of whole words
+-- ---- the points are an even number of bytes
 
 unfoldable pub point_steps : List Chunk → List (Step ReadFault)
 point_steps sdta = step (length (body_in id.SMPL sdta) % 2 == 0) fault.OddSamples ∷ []
 
--- ---- the indexes of a list that point into one of n records: none falls, none passes the last record
+-- ---- indexes into a list of n records are non-decreasing, and at most n - 1
 
 abbrev pub is_rising_from : ℕ → List ℕ → Bool
 is_rising_from at [] = true
@@ -120,7 +120,8 @@ all_index_steps t =
     ++ (index_steps (map (λ (h : InstrumentHead). h.bag) t.inst) (length t.ibag)
     ++ bag_steps t.ibag (length t.igen) (length t.imod)))
 
--- ---- each sample in order: the bit 0x0010 of its type, the bit 0x8000, and the range of its points
+-- ---- each sample header: not packed (bit 0x0010 of its type), not in ROM (bit 0x8000), and a range within the
+-- points
 
 unfoldable pub sample_step : ℕ → SampleHead → List (Step ReadFault)
 sample_step points h =
@@ -129,7 +130,7 @@ sample_step points h =
     ∷ step (nat_le h.start h.end && nat_le h.end points) fault.SampleRange
     ∷ []
 
--- ---- the target of each zone that is kept: an instrument in a preset, a sample in an instrument
+-- ---- the target of each zone that is kept: an instrument of the bank in a preset, a sample in an instrument
 
 abbrev pub target_step : ℕ → ReadFault → Zone → Step ReadFault
 target_step targets missing z = step (nat_lt z.target targets) missing
@@ -142,15 +143,15 @@ target_steps b =
     targets_of (length b.instruments) fault.BadInstrument b.presets
     ++ targets_of (length b.samples) fault.BadSample b.instruments
 
--- ---- the points of all samples, each sample's with the zero points that follow them
+-- ---- the points of all samples, with the zero points after each, are at most POINTS
 
 unfoldable pub total_steps : List SampleHead → List (Step ReadFault)
 total_steps heads =
     step (nat_le (sum_by (λ (h : SampleHead). h.end - h.start + ZERO_POINTS) heads) POINTS) fault.TooMany ∷ []
 
--- ---- together
+-- ---- all checks
 
--- the chunks of the three lists
+-- the checks of the chunks of the three lists
 unfoldable pub content_steps : List Chunk → List Chunk → List Chunk → Tables → List (Step ReadFault)
 content_steps info sdta pdta t =
     chunk_steps info pdta
@@ -171,10 +172,10 @@ window_steps w =
 unfoldable pub steps : List ℕ → List (Step ReadFault)
 steps file = frame_steps file ++ window_steps (window file)
 
--- The first broken step of a file gives its fault.
+-- The fault of a file is that of the first check that fails.
 abbrev pub fault_of : List ℕ → Option ReadFault
 fault_of file = first_broken (steps file)
 
--- Where no step is broken the file reads as one bank, with one record of counts.
+-- The file passes every check, and its content is this bank with these counts.
 abbrev pub ReadsAs : List ℕ → Parts → Counts → Type 0
 ReadsAs file b counts = (fault_of file ≡ None) × (content_in (window file) ≡ record { bank = b; counts = counts })

@@ -1,4 +1,4 @@
--- What a file says: a bank, and the counts of what was dropped or mended.
+-- The content of a file: a bank, and the counts of what was dropped or repaired.
 use Rattle.std.specs.Prelude.{◌+◌, ℕ, List, length, map, count_by, sum_by, is_some, if◌then◌else◌}
 use Rattle.sf_base.specs.Fields.{field_at}
 use Rattle.riff_chunks.specs.Walk.{Chunk}
@@ -27,29 +27,29 @@ use Rattle.bank_format.specs.Chunks.{tables_in, points_in, chunks_of, body_in}
 abbrev pub bagged : List Generator → List Modulator → Bagged
 bagged gens mods = record { gens = gens; mods = mods }
 
--- Each bag is a window over the generators and one over the modulators.
+-- The generators and modulators of each bag, up to the indexes of the next bag.
 unfoldable pub bags_in : List Bag → List Generator → List Modulator → List Bagged
 bags_in bags gens mods =
     together bagged (windows gens (map (λ (r : Bag). r.gens) bags)) (windows mods (map (λ (r : Bag). r.mods) bags))
 
--- The bags of each header are a window over the bags.
+-- The bags of each header, up to the first bag of the next header.
 unfoldable pub preset_windows : Tables → List (List Bagged)
 preset_windows t = windows (bags_in t.pbag t.pgen t.pmod) (map (λ (h : PresetHead). h.bag) t.phdr)
 
 unfoldable pub instrument_windows : Tables → List (List Bagged)
 instrument_windows t = windows (bags_in t.ibag t.igen t.imod) (map (λ (h : InstrumentHead). h.bag) t.inst)
 
--- a header, and the bags that are its own
+-- the owner of a header and its bags
 abbrev pub owner_read : {H R : Type 0} → Headers H R → R → List Bagged → WithZones H
 owner_read h r bags = record { head = h.read r; global = global_read h.level bags; zones = zones_read h.level bags }
 
 -- ---- samples
 
--- the samples of these heads, whose points are among these
+-- the samples of these headers, with their points
 abbrev pub samples_read : List ℕ → List SampleHead → List Sample
 samples_read points heads = map (sample_read (length heads) points) heads
 
--- ---- of the chunks of the lists INFO and sdta, and the tables of pdta
+-- ---- from the chunks of the lists INFO and sdta, and the tables of pdta
 
 unfoldable pub bank_of : List Chunk → List Chunk → Tables → Parts
 bank_of info sdta t = record {
@@ -60,7 +60,7 @@ bank_of info sdta t = record {
   samples = samples_read (points_in sdta) (rows t.shdr);
 }
 
--- one where there is a chunk of the eight further bits of each point
+-- 1 if there is a chunk `sm24`, which is dropped
 abbrev pub sm24_dropped : List Chunk → ℕ
 sm24_dropped sdta = if is_some (first_body id.SM24 sdta) then 1 else 0
 
@@ -82,7 +82,7 @@ counts_of info sdta t = record {
 abbrev pub no_counts : Counts
 no_counts = record { texts = 0; sm24 = 0; zones = 0; gens = 0; ranges = 0; loops = 0; links = 0 }
 
--- all that a file says
+-- the content of a file
 pub record Content : Type 0 where
   pub bank : Parts
   pub counts : Counts
@@ -90,6 +90,6 @@ pub record Content : Type 0 where
 abbrev pub content_of : List Chunk → List Chunk → Tables → Content
 content_of info sdta t = record { bank = bank_of info sdta t; counts = counts_of info sdta t }
 
--- what a window says: the body of the file's RIFF chunk after its form
+-- the content of a window: of the body of the file's RIFF chunk after its form
 unfoldable pub content_in : List ℕ → Content
 content_in w = content_of (chunks_of id.INFO w) (chunks_of id.SDTA w) (tables_in (chunks_of id.PDTA w))

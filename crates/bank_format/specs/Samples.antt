@@ -1,4 +1,4 @@
--- What is read of a sample.
+-- Reading a sample from its header (SoundFont 2.04, section 7.10).
 use Rattle.std.specs.Prelude.{◌-◌, ◌==◌, ℕ, List, Option, Some, None, Bool, nat_le, nat_lt, ◌&&◌, ◌||◌, not}
 use Rattle.std.specs.Prelude.{if◌then◌else◌}
 use Rattle.std.specs.List.{slice_range}
@@ -13,17 +13,17 @@ use Rattle.hydra_records.specs.declared.head.SampleHead.{SampleHead}
 abbrev pub has_loop : SampleHead → Bool
 has_loop h = nat_le h.start h.loop_start && nat_lt h.loop_start h.loop_end && nat_le h.loop_end h.end
 
--- counted from the sample's start
+-- relative to the sample's start
 unfoldable pub loop_read : SampleHead → Option (ℕ × ℕ)
 loop_read h = if has_loop h then Some (h.loop_start - h.start, h.loop_end - h.start) else None
 
--- a loop that is none is lost, unless both its ends are the same
+-- an invalid loop is counted as lost, unless both its ends are equal
 unfoldable pub is_loop_lost : SampleHead → Bool
 is_loop_lost h = not (has_loop h) && not (h.loop_start == h.loop_end)
 
--- ---- the kind, where there are n samples
+-- ---- the kind, in a bank of n samples
 
--- a link that names no sample makes the sample mono
+-- a link to a sample that does not exist makes the sample mono
 abbrev pub link_read : ℕ → (ℕ → Kind) → ℕ → Kind
 link_read n kind link = if nat_lt link n then kind link else Mono
 
@@ -37,11 +37,11 @@ kind_read n h =
 abbrev pub is_linked : SampleHead → Bool
 is_linked h = h.kind == 2 || h.kind == 4 || h.kind == 8
 
--- a link of no sample, or a type that is none of the four and not 0
+-- a link to a sample that does not exist, or an unknown type other than 0
 unfoldable pub is_link_lost : ℕ → SampleHead → Bool
 is_link_lost n h = if is_linked h then not (nat_lt h.link n) else not (h.kind == 1 || h.kind == 0)
 
--- ---- the sample, of n, whose points are among these
+-- ---- the sample, in a bank of n samples
 
 unfoldable pub sample_read : ℕ → List ℕ → SampleHead → Sample
 sample_read n points h = record {

@@ -1,4 +1,4 @@
--- A bank as the nine lists of records that a file holds.
+-- A bank as the nine record lists of a file (SoundFont 2.04, section 7).
 use Rattle.std.specs.Prelude.{◌+◌, ℕ, List, [], ◌∷◌, ◌++◌, length, map, flat_map, pos, Option, Some, None, replicate}
 use Rattle.sf_base.specs.Names.{before_zero, filled}
 use Rattle.sf_base.specs.declared.limits.TheConstants.{ZERO_POINTS}
@@ -32,7 +32,7 @@ pub record Tables : Type 0 where
   pub igen : List Generator
   pub shdr : List SampleHead
 
--- ---- the records that end the lists: of headers with the number of all bags before
+-- ---- the terminal records; that of headers has the total number of bags
 
 abbrev pub preset_end : ℕ → PresetHead
 preset_end at = record { name = filled EOP; number = 0; bank = 0; bag = at; library = 0; genre = 0; morphology = 0 }
@@ -63,12 +63,12 @@ sample_end =
       kind = 0;
     }
 
--- ---- the bags of one level, in three lists
+-- ---- the bags of one level, as three lists
 
 abbrev pub bag : ℕ → ℕ → Bag
 bag gens mods = record { gens = gens; mods = mods }
 
--- each bag's indexes are the numbers of generators and modulators before it; the last has the totals
+-- the indexes of each bag count the generators and modulators of the bags before it; the terminal has the totals
 unfoldable pub bag_list : List Bagged → List Bag
 bag_list bags =
     together bag (starts (map (λ (r : Bagged). length r.gens) bags))
@@ -80,9 +80,9 @@ mod_list bags = flat_map (λ (r : Bagged). r.mods) bags ++ modulator_end ∷ []
 unfoldable pub gen_list : List Bagged → List Generator
 gen_list bags = flat_map (λ (r : Bagged). r.gens) bags ++ generator_end ∷ []
 
--- ---- headers: the bag index of each is the number of bags of those before it
+-- ---- headers: the bag index of each counts the bags of the headers before it
 
--- the headers of presets, or of instruments: how one is written and read, and the last
+-- the headers of presets, or of instruments: how a header is written and read, and the terminal
 pub record Headers (H R : Type 0) : Type 0 where
   pub level : Level
   pub written : ℕ → H → R
@@ -164,14 +164,14 @@ kind_word (Right link) = 2
 kind_word (Left link) = 4
 kind_word (Linked link) = 8
 
--- a mono sample's link is 0
+-- the link of a mono sample is 0
 abbrev pub link_word : Kind → ℕ
 link_word Mono = 0
 link_word (Right link) = link
 link_word (Left link) = link
 link_word (Linked link) = link
 
--- a loop is written from the sample's start; none, as both equal to the start
+-- loop points are written as absolute positions; without a loop both are the start of the sample
 abbrev pub loop_start_at : ℕ → Option (ℕ × ℕ) → ℕ
 loop_start_at start None = start
 loop_start_at start (Some looped) = start + looped.0
@@ -194,11 +194,11 @@ sample_head start s = record {
   kind = kind_word s.kind;
 }
 
--- a sample's points, and the zero points that follow them
+-- a sample's points, and the zero points after them
 abbrev pub points_written : Sample → List ℕ
 points_written s = s.points ++ replicate ZERO_POINTS 0
 
--- the heads of samples: each begins where those before it end, with their zero points
+-- the headers of samples: each sample starts after the points and zero points of those before it
 abbrev pub sample_heads_from : ℕ → List Sample → List SampleHead
 sample_heads_from start [] = []
 sample_heads_from start (s ∷ samples) =

@@ -1,4 +1,4 @@
--- How texts are written, and what is read of them.
+-- Writing and reading the texts of INFO.
 use Rattle.std.specs.Prelude.{◌+◌, ◌%◌, ◌==◌, ℕ, List, [], ◌∷◌, ◌++◌, length, take, replicate, unwrap_or, nat_lt}
 use Rattle.std.specs.Prelude.{if◌then◌else◌}
 use Rattle.sf_base.specs.Names.{before_zero}
@@ -8,11 +8,11 @@ use Rattle.riff_chunks.specs.Finding.{first_body}
 use Rattle.bank_parts.specs.declared.texts.Texts.{Texts}
 use Rattle.bank_format.specs.Ids as id
 
--- a text is followed by one zero byte if its length is odd, else by two
+-- a text is padded with one zero byte if its length is odd, otherwise with two
 abbrev pub text_body : List ℕ → List ℕ
 text_body text = text ++ replicate (if length text % 2 == 1 then 1 else 2) 0
 
--- the first text of an id, before it is cut; a missing one is empty
+-- the text of the first chunk with an id, before it is truncated; empty if there is none
 abbrev pub text_in : List ℕ → List Chunk → List ℕ
 text_in name info = before_zero (unwrap_or (first_body name info) [])
 
@@ -21,7 +21,7 @@ abbrev pub engine_read : List ℕ → List ℕ
 engine_read [] = id.EMU8000
 engine_read (c ∷ text) = c ∷ text
 
--- the eight texts, each cut to the length that it may have
+-- the eight texts, each truncated to its maximum length
 unfoldable pub texts_read : List Chunk → Texts
 texts_read info = record {
   engine = engine_read (take TEXT_LENGTH (text_in id.ISNG info));
@@ -34,11 +34,11 @@ texts_read info = record {
   software = take TEXT_LENGTH (text_in id.ISFT info);
 }
 
--- one where the text is longer
+-- 1 if the text is longer than `most`
 abbrev pub over : ℕ → List ℕ → ℕ
 over most text = if nat_lt most (length text) then 1 else 0
 
--- how many are cut
+-- how many texts are truncated
 unfoldable pub texts_cut : List Chunk → ℕ
 texts_cut info =
     over TEXT_LENGTH (text_in id.ISNG info)

@@ -1,13 +1,13 @@
--- Lists that lie one after the other in a table, and the running indexes at which they begin.
+-- Slices of a table between running indexes.
 use Rattle.std.specs.Prelude.{◌+◌, ◌-◌, ℕ, List, [], ◌∷◌, length, take}
 use Rattle.std.specs.List.{slice_range}
 
--- where the next list begins, after each list of these sizes
+-- the running sums of these sizes, from `at`
 abbrev pub ends : ℕ → List ℕ → List ℕ
 ends at [] = []
 ends at (n ∷ ns) = (at + n) ∷ ends (at + n) ns
 
--- where each list of these sizes begins, and after them the total
+-- the index at which each list of these sizes starts, and last the total
 abbrev pub starts : List ℕ → List ℕ
 starts ns = 0 ∷ ends 0 ns
 
@@ -15,17 +15,17 @@ abbrev pub windows_from : {X : Type 0} → List X → ℕ → List ℕ → List 
 windows_from table at [] = []
 windows_from table at (i ∷ is) = slice_range table at i ∷ windows_from table i is
 
--- the parts of a table from each index up to the next
+-- the slices of a table from each index to the next
 abbrev pub windows : {X : Type 0} → List X → List ℕ → List (List X)
 windows table [] = []
 windows table (i ∷ is) = windows_from table i is
 
--- two lists side by side, up to the shorter one's end
+-- the two lists zipped by f, up to the end of the shorter one
 abbrev pub together : {X Y Z : Type 0} → (X → Y → Z) → List X → List Y → List Z
 together f [] ys = []
 together f (x ∷ xs) [] = []
 together f (x ∷ xs) (y ∷ ys) = f x y ∷ together f xs ys
 
--- the records of a list without the last, which is its terminal
+-- the records of a list without the last, its terminal
 abbrev pub rows : {X : Type 0} → List X → List X
 rows records = take (length records - 1) records

@@ -1,5 +1,4 @@
--- A zone as the tables hold it: generator records and modulators. How it is written, and what is
--- read of it.
+-- A zone as generator records and modulators: writing and reading it.
 use Rattle.std.specs.Prelude.{◌+◌, ◌-◌, ◌*◌, ◌/◌, ◌%◌, ◌==◌, ◌&&◌, ℕ, List, [], ◌∷◌, ◌++◌, length, map, filter}
 use Rattle.std.specs.Prelude.{filter_map, count_by, sum_by, min, Option, Bool, is_some, not, nat_le, if◌then◌else◌}
 use Rattle.std.specs.List.{list_any, find}
@@ -14,7 +13,7 @@ use Rattle.bank_parts.specs.declared.parts.GlobalZone.{GlobalZone}
 use Rattle.bank_parts.specs.declared.parts.Zone.{Zone}
 use Rattle.hydra_records.specs.declared.zone.Generator.{Generator}
 
--- what a bag holds
+-- the generators and modulators of a bag
 pub record Bagged : Type 0 where
   pub gens : List Generator
   pub mods : List Modulator
@@ -24,19 +23,19 @@ pub record Bagged : Type 0 where
 abbrev pub generator : ℕ → ℕ → Generator
 generator op w = record { operator = op; amount = w }
 
--- in canonical order, which is the order of the map
+-- in canonical order, the order of the map
 abbrev pub gens_written : Gens → List Generator
 gens_written gs = map (λ e. generator e.0 e.1) (entries gs)
 
 abbrev pub zone_written : Level → Zone → Bagged
 zone_written at z = record { gens = gens_written z.gens ++ generator (target_operator at) z.target ∷ []; mods = z.mods }
 
--- an empty global zone is none, and has no bag
+-- a global zone without generators and modulators has no bag
 abbrev pub global_written : GlobalZone → List Bagged
 global_written g =
     if len g.gens + length g.mods == 0 then [] else record { gens = gens_written g.gens; mods = g.mods } ∷ []
 
--- the bags of a preset or an instrument: its global zone first, then its zones in order
+-- the bags of a preset or an instrument: that of its global zone first, then those of its zones in order
 unfoldable pub bags_written : Level → GlobalZone → List Zone → List Bagged
 bags_written at g zs = global_written g ++ map (zone_written at) zs
 
@@ -45,37 +44,37 @@ bags_written at g zs = global_written g ++ map (zone_written at) zs
 abbrev pub is_target : Level → Generator → Bool
 is_target at r = r.operator == target_operator at
 
--- the amount of the first target
+-- the amount of the first target record
 abbrev pub target_of : Level → List Generator → Option ℕ
 target_of at rs = option_map (λ (r : Generator). r.amount) (find (is_target at) rs)
 
--- the records up to the first target
+-- the records before the first target record
 abbrev pub before_target : Level → List Generator → List Generator
 before_target at [] = []
 before_target at (r ∷ rs) = if is_target at r then [] else r ∷ before_target at rs
 
--- those that the level allows
+-- those whose operator is allowed at the level
 abbrev pub allowed_in : Level → List Generator → List Generator
 allowed_in at rs = filter (λ (r : Generator). is_allowed at r.operator) rs
 
--- the last record of each operator
+-- for each operator its last record
 abbrev pub last_of_each : List Generator → List Generator
 last_of_each [] = []
 last_of_each (r ∷ rs) =
     if list_any (λ (x : Generator). x.operator == r.operator) rs then last_of_each rs else r ∷ last_of_each rs
 
--- the records that are kept
+-- the records that are kept as generators
 abbrev pub kept : Level → List Generator → List Generator
 kept at rs = last_of_each (allowed_in at (before_target at rs))
 
 abbrev pub is_range : Generator → Bool
 is_range r = is_range_operator r.operator
 
--- an end over 127 is cut to 127
+-- an end above 127 becomes 127
 abbrev pub cut_end : ℕ → ℕ
 cut_end e = min e 127
 
--- then ends in the wrong order are exchanged
+-- ends in the wrong order are exchanged
 abbrev pub in_order : ℕ → ℕ → ℕ
 in_order low high = if nat_le low high then low + 256 * high else high + 256 * low
 
@@ -94,11 +93,11 @@ gens_read at rs = gens_of (map mended (kept at rs))
 abbrev pub zone_of : Level → Bagged → ℕ → Zone
 zone_of at r t = record { target = t; gens = gens_read at r.gens; mods = r.mods }
 
--- a bag without a target is no zone
+-- a bag without a target is not a zone
 abbrev pub zone_read : Level → Bagged → Option Zone
 zone_read at r = option_map (zone_of at r) (target_of at r.gens)
 
--- the zones of a header's bags
+-- the zones in the bags of a header
 unfoldable pub zones_read : Level → List Bagged → List Zone
 zones_read at bags = filter_map (zone_read at) bags
 
@@ -108,28 +107,28 @@ no_global = record { gens = gens_of []; mods = [] }
 abbrev pub has_target : Level → Bagged → Bool
 has_target at r = is_some (target_of at r.gens)
 
--- the first bag, if it has no target
+-- the first bag is the global zone, if it has no target
 unfoldable pub global_read : Level → List Bagged → GlobalZone
 global_read at [] = no_global
 global_read at (r ∷ bags) = if has_target at r then no_global else record { gens = gens_read at r.gens; mods = r.mods }
 
 -- ---- counted
 
--- the first bag, and the later ones that have a target
+-- the first bag, and the later ones with a target
 unfoldable pub looked_at : Level → List Bagged → List Bagged
 looked_at at [] = []
 looked_at at (r ∷ bags) = r ∷ filter (has_target at) bags
 
--- the later bags without a target
+-- the number of later bags without a target
 unfoldable pub ignored : Level → List Bagged → ℕ
 ignored at [] = 0
 ignored at (r ∷ bags) = count_by (λ x. not (has_target at x)) bags
 
--- all records but the kept ones and the target
+-- the number of records that are neither kept nor the target
 abbrev pub dropped : Level → List Generator → ℕ
 dropped at rs = length rs - (length (kept at rs) + (if is_some (target_of at rs) then 1 else 0))
 
--- the kept ranges that are not in order
+-- a kept range that must be repaired
 abbrev pub is_mended : Generator → Bool
 is_mended r = is_range r && not (range_mended r.amount == r.amount)
 

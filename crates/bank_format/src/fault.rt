@@ -1,4 +1,4 @@
-//! The answers of a reader.
+//! The faults and the counts of reading.
 ghost use Rattle.std.specs.Prelude.{◌≡◌};
 ghost use Rattle.sf_base.specs.declared.memory.Failure.TheVariants as failures;
 ghost use Rattle.bank_format.specs.declared.fault.ReadFault.TheVariants as faults;
@@ -8,7 +8,7 @@ use riff_chunks::Truncated;
 use sf_base::Failure;
 use thiserror::Error;
 
-/// The first step of reading that a file breaks.
+/// Why a file is rejected: the first check of reading that it fails.
 #[derive(Clone, Copy, Debug, PartialEq, Eq, Error)]
 pub enum ReadFault {
     #[error("the file does not begin with RIFF")]
@@ -48,14 +48,14 @@ pub enum ReadFault {
 }
 
 impl ReadFault {
-    /// The number by which a fault line tells it.
+    /// The number of the fault, as fault lines print it.
     pub fn number(self) -> u8
         ensures { result ≡ number_of self }
     {
         self as u8
     }
 
-    /// The name by which a fault line tells it.
+    /// The name of the fault, as fault lines print it.
     pub fn name(self) -> &'static str
         ensures { result.now ≡ name_of self }
     {
@@ -97,21 +97,21 @@ impl From<ReadFault> for Failure<ReadFault> {
     }
 }
 
-/// What a reader dropped or mended, each counted.
+/// How many parts of a file were dropped or repaired while it was read.
 #[derive(Clone, Copy, Debug, PartialEq, Eq)]
 pub struct Counts {
-    /// Texts that were cut.
+    /// Texts that were truncated to their maximum length.
     pub texts: u64,
-    /// 1 where the eight further bits of 24-bit points were dropped.
+    /// 1 if the file has a chunk `sm24`, the low-order bytes of 24-bit points, which are dropped.
     pub sm24: u64,
-    /// Zones without a target that were ignored.
+    /// Zones without a target that were dropped.
     pub zones: u64,
     /// Generator records that were dropped.
     pub gens: u64,
-    /// Ranges that were cut or turned.
+    /// Key and velocity ranges that were repaired: ends above 127, or in the wrong order.
     pub ranges: u64,
-    /// Loops that do not lie in their sample.
+    /// Loops that were dropped because they are not inside their sample.
     pub loops: u64,
-    /// Samples whose type or link says nothing.
+    /// Samples with an unknown type, or with a link to a sample that does not exist, which become mono.
     pub links: u64,
 }

@@ -6,15 +6,16 @@ ghost use Rattle.bank_format.specs.ReadSteps.{form_steps};
 
 use sf_base::{front_of, part_of, rest_from, u32_at};
 
-/// The bytes of the RIFF chunk's id and size.
+/// The length of a chunk's id and size in bytes.
 const HEAD_LENGTH: usize = 8;
 
-/// The bytes of the form after them.
+/// The length of a form in bytes.
 const FORM_LENGTH: usize = 4;
 
-/// What follows the form in the RIFF chunk of a file, or the fault of one that is no RIFF file, that
-/// is cut, or that has another form. The chunk may lack its last pad byte, and what follows it is
-/// ignored.
+/// Returns the body of a file's RIFF chunk after its form, or the fault given for a file that is not
+/// RIFF, is truncated, or has another form.
+///
+/// The pad byte of the chunk may be missing, and bytes after the chunk are ignored.
 #[tactic(auto, unfolding(crate::specs::ReadSteps::form_steps, crate::specs::Chunks::window, crate::specs::Ids::RIFF))]
 pub fn window_of<F: Copy>(
     file: &[u8],

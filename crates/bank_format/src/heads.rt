@@ -1,4 +1,4 @@
-//! What a preset or an instrument is besides its zones, as a file's records hold it.
+//! Heads of presets and instruments as records of `phdr` and `inst`.
 ghost use Rattle.std.specs.Prelude.{◌≡◌, refl};
 ghost use Rattle.bank_format.specs.Tables.{Headers, presets, instruments};
 
@@ -7,32 +7,32 @@ use bank_parts::{Head, OwnerHead};
 use hydra_records::{InstrumentHead, PresetHead, Record};
 use sf_base::Name20;
 
-/// What a preset or an instrument is besides its zones: a record of `phdr` or `inst` holds it, and where
-/// the bags begin (SoundFont 2.04, sections 7.2 and 7.6).
+/// The head of a preset or an instrument, as stored in a record of `phdr` or `inst` (SoundFont 2.04,
+/// sections 7.2 and 7.6).
 pub trait RecordedHead: OwnerHead + Drop {
-    /// The record that holds it in a file.
+    /// The record type of the file.
     type Record: Record + Copy;
 
-    /// How it is written and read.
+    /// How a head is written to a record and read from it.
     ghost headers: { Headers Self Self.Record };
 
-    /// What a record holds.
+    /// Reads the head from a record.
     fn of_record(row: &Self::Record) -> Self
         ensures { result ≡ headers.read row.now };
 
-    /// The number of the first bag that a record's zones have.
+    /// The index of the first bag of the record's zones.
     fn first_bag(row: &Self::Record) -> u16
         ensures { result ≡ headers.first_bag row.now };
 
-    /// The record that holds it, where `bag` is the number of its first bag.
+    /// The record of this head, where `bag` is the index of its first bag.
     fn record(&self, bag: u16) -> Self::Record
         ensures { result ≡ headers.written bag self.now };
 
-    /// The last record of the list, its terminal, where there are `bags` bags.
+    /// The terminal record of the list, where `bags` is the number of all bags.
     fn last(bags: u16) -> Self::Record
         ensures { result ≡ headers.last bags };
 
-    /// The list of its records and its zones are of one level.
+    /// The records and the zones are of the same level.
     ghost same_level: { headers.level ≡ Self.OwnerHead.LEVEL };
 }
 

@@ -1,4 +1,4 @@
-//! Laws of the format.
+//! Theorems about the file format.
 ghost use Rattle.std.specs.Prelude.{◌≡◌, ℕ, List, None};
 ghost use Rattle.hydra_records.specs.Records.{AreBytes};
 ghost use Rattle.bank_parts.specs.declared.parts.Parts.{Parts};
@@ -11,19 +11,20 @@ ghost use Rattle.bank_format.specs.Chunks.{window};
 ghost use Rattle.bank_format.specs.Reading.{content_in, no_counts};
 ghost use Rattle.bank_format.specs.ReadSteps.{fault_of, ReadsAs};
 
-/// The canonical file of a valid bank reads as that bank, with no counts.
+/// The canonical file of a valid bank reads as that bank, with all counts zero.
 pub fn canonical_files_read_back()
     ensures { (b : Parts) → IsValid b → Fits b → ReadsAs (canon b) b no_counts }
 {}
 
-/// The bank that a file reads as is valid, and its numbers, names and texts lie in the ranges of their fields.
+/// The bank read from a file is valid, and its numbers, names and texts are in the ranges of their
+/// fields.
 pub fn read_banks_are_valid()
     ensures valid { (file : List ℕ) → AreBytes file → fault_of file ≡ None → IsValid (content_in (window file)).bank }
     ensures fits { (file : List ℕ) → AreBytes file → Fits (content_in (window file)).bank }
 {}
 
-/// The indexes in the tables of a bank count what stands before in the bank's own lists: a header's, the
-/// zones of the headers before it; a bag's, the generators and the modulators of the zones before it.
+/// Each index in the tables of a bank is a sum over the bank's own lists: a header counts the bags of the
+/// headers before it, a bag the generators and modulators of the zones before it.
 pub fn indexes_are_sums()
     ensures { (b : Parts) → IndexesAreSums b }
 {}

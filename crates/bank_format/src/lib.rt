@@ -1,6 +1,8 @@
-//! What a SoundFont 2 file says: its canonical spelling, the steps of reading it with their faults,
-//! and the law that a canonical file reads back. Definitions, the types of their answers, the RIFF chunk
-//! of a file, the heads of presets and instruments as records, and laws.
+//! The SoundFont 2 file format: what a file means, its canonical form, the checks of reading with their
+//! faults, and the theorem that a canonical file reads back as its bank.
+//!
+//! It has definitions, the faults and counts of reading, the RIFF chunk of a file, the heads of presets
+//! and instruments as records, and theorems.
 #![tactic(auto)]
 
 mod fault;

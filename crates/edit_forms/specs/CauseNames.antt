@@ -1,4 +1,4 @@
--- The number, the name and the limit by which each cause is told.
+-- The number, the name and the limit of each cause, as fault lines print them.
 use Rattle.std.specs.Prelude.{ℕ, List, Option, Some, None, codes}
 use Rattle.bank_validity.specs.declared.limits.Limit.{Limit}
 use Rattle.edit_forms.specs.declared.cause.Cause.{Cause}
@@ -48,7 +48,7 @@ name_of BadLoop = codes "BadLoop"
 name_of BadText = codes "BadText"
 name_of (Full limit) = codes "Full"
 
--- the limit that the bank would break
+-- the limit that the edit would break
 abbrev pub limit_of : Cause → Option Limit
 limit_of (Full limit) = Some limit
 limit_of _ = None

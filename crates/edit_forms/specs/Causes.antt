@@ -1,4 +1,4 @@
--- The tests that refuse an edit, each with the cause that it tells.
+-- The tests of whether an edit is refused, each with its cause.
 use Rattle.std.specs.Prelude.{ℕ, ◌+◌, ◌==◌, ◌||◌, ◌&&◌, nat_le, nat_lt, not, Bool, false, Option, Some, None, List}
 use Rattle.std.specs.Prelude.{[], ◌∷◌, length, unwrap_or, if◌then◌else◌}
 use Rattle.std.specs.List.{list_any}
@@ -35,7 +35,7 @@ use Rattle.edit_forms.specs.declared.cause.Cause.TheVariants.{BadGenerator, NotS
 use Rattle.edit_forms.specs.declared.cause.Cause.TheVariants.{NotJoinable, LinkedModulator, TooShort, LoopCut}
 use Rattle.edit_forms.specs.declared.cause.Cause.TheVariants.{BadLoop, BadText}
 
--- a cause of refusal, and whether it stands
+-- a cause of refusal, and whether it applies
 pub record Test : Type 0 where
   pub stands : Bool
   pub cause : Cause
@@ -43,7 +43,7 @@ pub record Test : Type 0 where
 abbrev pub test : Bool → Cause → Test
 test stands cause = record { stands = stands; cause = cause }
 
--- the first that stands, and else the last word
+-- the first cause that applies, otherwise `last`
 abbrev pub first_cause : List Test → Option Cause → Option Cause
 first_cause [] last = last
 first_cause (t ∷ others) last = if t.stands then Some t.cause else first_cause others last
@@ -56,7 +56,7 @@ no_such_preset b preset = test (nat_le (length b.presets) preset) NoSuchPreset
 abbrev pub no_such_instrument : Parts → ℕ → Test
 no_such_instrument b instrument = test (nat_le (length b.instruments) instrument) NoSuchInstrument
 
--- a zone of a preset targets it
+-- a zone of a preset targets the instrument
 abbrev pub used_instrument : Parts → ℕ → Test
 used_instrument b instrument = test (instrument_in_use b instrument) InUse
 
@@ -66,28 +66,28 @@ no_such_owner b (owner.Inst i) = no_such_instrument b i
 
 -- ---- zones of a preset or an instrument
 
--- how many an owner has, the global one not counted; none where there is no such owner
+-- the number of zones of an owner without its global zone; 0 if there is no such owner
 abbrev pub zone_total : Parts → Owner → ℕ
 zone_total b o = unwrap_or (own_zone_count b o) 0
 
 abbrev pub no_such_zone : Parts → Owner → ℕ → Test
 no_such_zone b o k = test (nat_le (zone_total b o) k) NoSuchZone
 
--- the global zone is always there
+-- every owner has a global zone
 abbrev pub no_such_zone_at : Parts → Owner → Place → Test
 no_such_zone_at b o place.Global = test false NoSuchZone
 no_such_zone_at b o (place.Zone k) = no_such_zone b o k
 
--- the cause of a target that names no member
+-- the cause for a target that does not exist
 abbrev pub target_cause : Owner → Cause
 target_cause (owner.Preset p) = NoSuchInstrument
 target_cause (owner.Inst i) = NoSuchSample
 
--- the target of one zone is past the members that its level may target
+-- the target of a zone exists: an instrument for a preset, a sample for an instrument
 abbrev pub no_such_target_of : Parts → Owner → ℕ → Test
 no_such_target_of b o target = test (nat_le (target_count b o) target) (target_cause o)
 
--- one zone's operators and ranges
+-- the operators and ranges of one zone
 
 abbrev pub bad_generators : Level → Zone → Test
 bad_generators at zone = test (sets_foreign at zone.gens) BadGenerator
@@ -95,12 +95,12 @@ bad_generators at zone = test (sets_foreign at zone.gens) BadGenerator
 abbrev pub bad_ranges : Zone → Test
 bad_ranges zone = test (sets_bad_range zone.gens) BadRange
 
--- not `lo < M <= hi` for the range that holds for the zone
+-- not `lo < M <= hi` for the effective range of the zone
 abbrev pub split_outside : Parts → Owner → ℕ → Axis → ℕ → Test
 split_outside b o k axis m = test (not (can_split b o k axis m)) SplitOutside
 
--- the zone and the next don't agree in all but their own ranges on the axis, or these are not neighbours,
--- or a bare zone would have another range
+-- the zone and the next differ in more than their own ranges on the axis, their ranges are not adjacent,
+-- or without a range of its own the joined zone would have another effective range
 abbrev pub not_joinable : Parts → Owner → ℕ → Axis → Keep → Test
 not_joinable b o k axis keep = test (not (can_join b o k axis keep)) NotJoinable
 
@@ -109,34 +109,34 @@ not_joinable b o k axis keep = test (not (can_join b o k axis keep)) NotJoinable
 abbrev pub foreign_operator : Level → ℕ → Test
 foreign_operator at op = test (not (is_allowed at op)) BadGenerator
 
--- a range without `low <= high <= 127`
+-- not `low <= high <= 127`
 abbrev pub bad_amount : ℕ → ℕ → Test
 bad_amount op amount = test (is_bad_range (op, amount)) BadRange
 
 abbrev pub not_set : Parts → Owner → Place → ℕ → Test
 not_set b o at op = test (not (is_some (amount_of b o at op))) NotSet
 
--- those of a place; none where there is no such place
+-- the modulators of a place; none if there is no such place
 abbrev pub mods_there : Parts → Owner → Place → List Modulator
 mods_there b o at = unwrap_or (mods_of b o at) []
 
 abbrev pub no_such_modulator : Parts → Owner → Place → ℕ → Test
 no_such_modulator b o at j = test (nat_le (length (mods_there b o at)) j) NoSuchModulator
 
--- a link changes its meaning with the numbers of the modulators beside it
+-- a link refers to modulators by number, so inserting or removing one would change its meaning
 abbrev pub linked_place : Parts → Owner → Place → Test
 linked_place b o at = test (list_any is_link (mods_there b o at)) LinkedModulator
 
 abbrev pub linked_modulator : Parts → Owner → Place → Modulator → Test
 linked_modulator b o at m = test (list_any is_link (mods_there b o at) || is_link m) LinkedModulator
 
--- ---- presets or instruments that are put in
+-- ---- presets or instruments to be added
 
--- a zone's target is past so many members
+-- the target of a zone is not below `count`
 abbrev pub no_such_target : {H : Type 0} → ℕ → WithZones H → Cause → Test
 no_such_target count x cause = test (misses_target count x) cause
 
--- an operator that the level does not allow, those of targets included
+-- an operator that the level does not allow; target operators are included
 abbrev pub bad_generator : {H : Type 0} → Level → WithZones H → Test
 bad_generator at x = test (has_foreign at x) BadGenerator
 
@@ -149,14 +149,14 @@ bad_range x = test (has_bad_range x) BadRange
 abbrev pub no_such_sample : Parts → ℕ → Test
 no_such_sample b sample = test (nat_le (length b.samples) sample) NoSuchSample
 
--- a link past so many samples
+-- the link is not below `count`
 abbrev pub link_misses : ℕ → Kind → Bool
 link_misses count Mono = false
 link_misses count (Right link) = nat_le count link
 link_misses count (Left link) = nat_le count link
 link_misses count (Linked link) = nat_le count link
 
--- a sample that is added may link to itself and to all that are there
+-- the link of an added sample may be itself or any other sample
 abbrev pub no_such_link : Parts → Kind → Test
 no_such_link b kind = test (link_misses (length b.samples + 1) kind) NoSuchSample
 
@@ -168,18 +168,18 @@ loop_misses count (Some looped) = nat_le looped.1 looped.0 || nat_lt count loope
 abbrev pub bad_loop : Sample → Test
 bad_loop sample = test (loop_misses (length sample.points) sample.looped) BadLoop
 
--- a sample that is there may link to itself and to the others
+-- the link of an existing sample may be itself or any other sample
 abbrev pub no_such_link_among : Parts → Kind → Test
 no_such_link_among b kind = test (link_misses (length b.samples) kind) NoSuchSample
 
 abbrev pub bad_loop_of : Parts → ℕ → Option (ℕ × ℕ) → Test
 bad_loop_of b sample looped = test (loop_misses (length (points_of b sample)) looped) BadLoop
 
--- fewer points than are to be taken off
+-- fewer points than the trim removes
 abbrev pub too_short : Parts → ℕ → ℕ → ℕ → Test
 too_short b sample front back = test (nat_lt (length (points_of b sample)) (front + back)) TooShort
 
--- of so many points, some of the loop or its start would be taken off with those before or after
+-- the trim would remove points of the loop
 abbrev pub cuts_loop : ℕ → ℕ → ℕ → Option (ℕ × ℕ) → Bool
 cuts_loop count front back None = false
 cuts_loop count front back (Some looped) = nat_lt looped.0 front || nat_lt count (looped.1 + back)
@@ -191,19 +191,19 @@ loop_cut b sample front back = test (cuts_loop (length (points_of b sample)) fro
 abbrev pub used_sample : Parts → ℕ → Test
 used_sample b sample = test (sample_in_use b sample) InUse
 
--- ---- places
+-- ---- indexes
 
--- past the end of a list of so many
+-- an index at which nothing can be inserted in a list of this length
 abbrev pub bad_place : ℕ → ℕ → Test
 bad_place count at = test (nat_lt count at) BadPlace
 
--- not the place of one of so many
+-- not the index of a member of a list of this length
 abbrev pub no_such_place : ℕ → ℕ → Test
 no_such_place count at = test (nat_le count at) BadPlace
 
 -- ---- texts
 
--- too long, or with a zero byte, or an empty engine
+-- longer than its limit, with a zero byte, or an empty engine
 abbrev pub bad_text : InfoId → List ℕ → Test
 bad_text id text = test
     (nat_lt (most_bytes id) (length text) || (list_any (λ byte. byte == 0) text || (is_engine id && length text == 0)))

@@ -1,4 +1,4 @@
--- Edits whose numbers, names and texts lie in the ranges of their fields.
+-- Edits whose numbers, names and texts are in the ranges of their fields.
 use Rattle.std.specs.Prelude.{◌<◌, ◌^◌}
 use Rattle.std.specs.List.{AllByRecursion}
 use Rattle.bank_changes.specs.declared.members.Owner.{Owner}
@@ -17,7 +17,7 @@ use Rattle.edit_forms.specs.Zones as zones
 use Rattle.edit_forms.specs.Settings as settings
 use Rattle.edit_forms.specs.Texts as texts
 
--- numbers of 32 bits
+-- the number of an owner has 32 bits
 abbrev pub FitsNumberOf : Owner → Type 0
 FitsNumberOf (owner.Preset p) = p < 2 ^ 32
 FitsNumberOf (owner.Inst i) = i < 2 ^ 32
@@ -26,7 +26,7 @@ abbrev pub FitsPlace : Place → Type 0
 FitsPlace place.Global = Unit {0}
 FitsPlace (place.Zone k) = k < 2 ^ 32
 
--- each number, name and text in the range of its field
+-- each number, name and text is in the range of its field
 abbrev pub FitsStep : Step → Type 0
 FitsStep (Preset s) = presets.Fits s
 FitsStep (Instrument s) = instruments.Fits s

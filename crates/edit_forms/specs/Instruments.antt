@@ -1,4 +1,4 @@
--- Steps that edit instruments: what each says, what it does, when it is refused, and what takes it back.
+-- Steps that edit instruments: their effects, causes of refusal, and inverses.
 use Rattle.std.specs.Prelude.{◌<◌, ◌^◌, ℕ, Bool, true, List, [], ◌∷◌, length, slice_get, Option, Some, None}
 use Rattle.std.specs.Option.{option_map_or}
 use Rattle.sf_base.specs.Names.{IsName}
@@ -15,21 +15,21 @@ use Rattle.edit_forms.specs.declared.instruments.InstrumentStep.TheVariants.{Ren
 use Rattle.edit_forms.specs.Causes.{Test, no_such_instrument, used_instrument, no_such_target, no_such_place}
 use Rattle.edit_forms.specs.Causes.{bad_place, bad_generator, bad_range}
 
--- each number, name and text in the range of its field
+-- each number, name and text is in the range of its field
 abbrev pub Fits : InstrumentStep → Type 0
 Fits (AddInstrument at instrument) = (at < 2 ^ 32) × FitsOwner IsName instrument
 Fits (RemoveInstrument instrument) = instrument < 2 ^ 32
 Fits (RenameInstrument instrument name) = (instrument < 2 ^ 32) × IsName name
 Fits (MoveInstrument from to) = (from < 2 ^ 32) × (to < 2 ^ 32)
 
--- the bank after the step, where it is not refused
+-- the bank after an accepted step
 abbrev pub raw : Parts → InstrumentStep → Parts
 raw b (AddInstrument at instrument) = instrument_added b at instrument
 raw b (RemoveInstrument instrument) = instrument_removed b instrument
 raw b (RenameInstrument instrument name) = instrument_renamed b instrument name
 raw b (MoveInstrument from to) = instrument_moved b from to
 
--- the causes that it can have, in the order of their numbers
+-- the step's possible causes of refusal, in the order of their numbers
 abbrev pub causes : Parts → InstrumentStep → List Test
 causes b (AddInstrument at instrument) =
     no_such_target (length b.samples) instrument NoSuchSample
@@ -41,7 +41,7 @@ causes b (RemoveInstrument instrument) = no_such_instrument b instrument ∷ use
 causes b (RenameInstrument instrument name) = no_such_instrument b instrument ∷ []
 causes b (MoveInstrument from to) = no_such_instrument b from ∷ no_such_place (length b.instruments) to ∷ []
 
--- the step that takes it back, read on the bank before
+-- the inverse step, computed from the bank before the step
 abbrev pub inverse : Parts → InstrumentStep → InstrumentStep
 inverse b (AddInstrument at instrument) = RemoveInstrument at
 inverse b (RemoveInstrument instrument) =
@@ -52,23 +52,23 @@ inverse b (RenameInstrument instrument name) =
     (RenameInstrument instrument name)
 inverse b (MoveInstrument from to) = MoveInstrument to from
 
--- it grows nothing
+-- applying the step allocates nothing
 abbrev pub GrowsNothing : InstrumentStep → Type 0
 GrowsNothing (AddInstrument at instrument) = ⊥
 GrowsNothing (RemoveInstrument instrument) = ⊥
 GrowsNothing (RenameInstrument instrument name) = Unit {0}
 GrowsNothing (MoveInstrument from to) = Unit {0}
 
--- it changes no sound, whatever the bank
+-- the step changes no sound, for any bank
 abbrev pub is_neutral : InstrumentStep → Bool
 is_neutral s = true
 
--- the instrument that it adds
+-- the instrument that the step adds
 abbrev pub instrument_in : InstrumentStep → Option (WithZones (List ℕ))
 instrument_in (AddInstrument at instrument) = Some instrument
 instrument_in _ = None
 
--- the name that it gives
+-- the name that the step sets
 abbrev pub name_in : InstrumentStep → Option (List ℕ)
 name_in (RenameInstrument instrument name) = Some name
 name_in _ = None

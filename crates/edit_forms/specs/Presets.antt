@@ -1,4 +1,4 @@
--- Steps that edit presets: what each says, what it does, when it is refused, and what takes it back.
+-- Steps that edit presets: their effects, causes of refusal, and inverses.
 use Rattle.std.specs.Prelude.{◌<◌, ◌^◌, ℕ, Bool, false, List, [], ◌∷◌, length, slice_get, Option, Some, None}
 use Rattle.std.specs.Option.{option_map_or}
 use Rattle.sf_base.specs.Names.{IsName}
@@ -15,21 +15,21 @@ use Rattle.edit_forms.specs.declared.presets.PresetStep.TheVariants.{AddPreset, 
 use Rattle.edit_forms.specs.Causes.{Test, no_such_preset, no_such_target, no_such_place, bad_place, bad_generator}
 use Rattle.edit_forms.specs.Causes.{bad_range}
 
--- each number, name and text in the range of its field
+-- each number, name and text is in the range of its field
 abbrev pub Fits : PresetStep → Type 0
 Fits (AddPreset at preset) = (at < 2 ^ 32) × FitsOwner FitsHead preset
 Fits (RemovePreset preset) = preset < 2 ^ 32
 Fits (MovePreset from to) = (from < 2 ^ 32) × (to < 2 ^ 32)
 Fits (SetHead preset name number bank) = (preset < 2 ^ 32) × IsName name × (number < 2 ^ 16) × (bank < 2 ^ 16)
 
--- the bank after the step, where it is not refused
+-- the bank after an accepted step
 abbrev pub raw : Parts → PresetStep → Parts
 raw b (AddPreset at preset) = preset_added b at preset
 raw b (RemovePreset preset) = preset_removed b preset
 raw b (MovePreset from to) = preset_moved b from to
 raw b (SetHead preset name number bank) = head_set b preset name number bank
 
--- the causes that it can have, in the order of their numbers
+-- the step's possible causes of refusal, in the order of their numbers
 abbrev pub causes : Parts → PresetStep → List Test
 causes b (AddPreset at preset) =
     no_such_target (length b.instruments) preset NoSuchInstrument
@@ -41,7 +41,7 @@ causes b (RemovePreset preset) = no_such_preset b preset ∷ []
 causes b (MovePreset from to) = no_such_preset b from ∷ no_such_place (length b.presets) to ∷ []
 causes b (SetHead preset name number bank) = no_such_preset b preset ∷ []
 
--- the step that takes it back, read on the bank before
+-- the inverse step, computed from the bank before the step
 abbrev pub inverse : Parts → PresetStep → PresetStep
 inverse b (AddPreset at preset) = RemovePreset at
 inverse b (RemovePreset preset) =
@@ -51,23 +51,23 @@ inverse b (SetHead preset name number bank) =
     option_map_or (λ (h : Head). SetHead preset h.name h.number h.bank) (head_of b preset)
     (SetHead preset name number bank)
 
--- it grows nothing
+-- applying the step allocates nothing
 abbrev pub GrowsNothing : PresetStep → Type 0
 GrowsNothing (AddPreset at preset) = ⊥
 GrowsNothing (RemovePreset preset) = ⊥
 GrowsNothing (MovePreset from to) = Unit {0}
 GrowsNothing (SetHead preset name number bank) = Unit {0}
 
--- it changes no sound, whatever the bank
+-- the step changes no sound, for any bank
 abbrev pub is_neutral : PresetStep → Bool
 is_neutral s = false
 
--- the preset that it adds
+-- the preset that the step adds
 abbrev pub preset_in : PresetStep → Option (WithZones Head)
 preset_in (AddPreset at preset) = Some preset
 preset_in _ = None
 
--- the name that it gives
+-- the name that the step sets
 abbrev pub name_in : PresetStep → Option (List ℕ)
 name_in (SetHead preset name number bank) = Some name
 name_in _ = None

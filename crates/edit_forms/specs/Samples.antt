@@ -1,4 +1,4 @@
--- Steps that edit the list of samples: what each says, what it does, when it is refused, and what takes it back.
+-- Steps that edit the list of samples: their effects, causes of refusal, and inverses.
 use Rattle.std.specs.Prelude.{◌<◌, ◌^◌, ℕ, Bool, true, List, [], ◌∷◌, length, slice_get, Option, Some, None}
 use Rattle.std.specs.Option.{option_map_or}
 use Rattle.sf_base.specs.Names.{IsName}
@@ -10,28 +10,28 @@ use Rattle.edit_forms.specs.declared.samples.SampleStep.{SampleStep}
 use Rattle.edit_forms.specs.declared.samples.SampleStep.TheVariants.{RenameSample, AddSample, RemoveSample, MoveSample}
 use Rattle.edit_forms.specs.Causes.{Test, no_such_sample, no_such_link, used_sample, no_such_place, bad_place, bad_loop}
 
--- each number, name and text in the range of its field
+-- each number, name and text is in the range of its field
 abbrev pub Fits : SampleStep → Type 0
 Fits (RenameSample sample name) = (sample < 2 ^ 32) × IsName name
 Fits (AddSample at sample) = (at < 2 ^ 32) × FitsSample sample
 Fits (RemoveSample sample) = sample < 2 ^ 32
 Fits (MoveSample from to) = (from < 2 ^ 32) × (to < 2 ^ 32)
 
--- the bank after the step, where it is not refused
+-- the bank after an accepted step
 abbrev pub raw : Parts → SampleStep → Parts
 raw b (RenameSample sample name) = sample_renamed b sample name
 raw b (AddSample at sample) = sample_added b at sample
 raw b (RemoveSample sample) = sample_removed b sample
 raw b (MoveSample from to) = sample_moved b from to
 
--- the causes that it can have, in the order of their numbers
+-- the step's possible causes of refusal, in the order of their numbers
 abbrev pub causes : Parts → SampleStep → List Test
 causes b (RenameSample sample name) = no_such_sample b sample ∷ []
 causes b (AddSample at sample) = no_such_link b sample.kind ∷ bad_place (length b.samples) at ∷ bad_loop sample ∷ []
 causes b (RemoveSample sample) = no_such_sample b sample ∷ used_sample b sample ∷ []
 causes b (MoveSample from to) = no_such_sample b from ∷ no_such_place (length b.samples) to ∷ []
 
--- the step that takes it back, read on the bank before
+-- the inverse step, computed from the bank before the step
 abbrev pub inverse : Parts → SampleStep → SampleStep
 inverse b (RenameSample sample name) =
     option_map_or (λ (s : Sample). RenameSample sample s.name) (slice_get b.samples sample) (RenameSample sample name)
@@ -40,23 +40,23 @@ inverse b (RemoveSample sample) =
     option_map_or (λ (s : Sample). AddSample sample s) (slice_get b.samples sample) (RemoveSample sample)
 inverse b (MoveSample from to) = MoveSample to from
 
--- it grows nothing
+-- applying the step allocates nothing
 abbrev pub GrowsNothing : SampleStep → Type 0
 GrowsNothing (RenameSample sample name) = Unit {0}
 GrowsNothing (AddSample at sample) = ⊥
 GrowsNothing (RemoveSample sample) = ⊥
 GrowsNothing (MoveSample from to) = Unit {0}
 
--- it changes no sound, whatever the bank
+-- the step changes no sound, for any bank
 abbrev pub is_neutral : SampleStep → Bool
 is_neutral s = true
 
--- the sample that it adds
+-- the sample that the step adds
 abbrev pub sample_in : SampleStep → Option Sample
 sample_in (AddSample at sample) = Some sample
 sample_in _ = None
 
--- the name that it gives
+-- the name that the step sets
 abbrev pub name_in : SampleStep → Option (List ℕ)
 name_in (RenameSample sample name) = Some name
 name_in _ = None

@@ -1,5 +1,5 @@
--- Steps that edit the generators and modulators of a place, a global zone or a zone: what each says, what it does,
--- when it is refused, and what takes it back.
+-- Steps that edit the generators and modulators of a place (a global zone or a zone): their effects, causes of
+-- refusal, and inverses.
 use Rattle.std.specs.Prelude.{◌<◌, ◌^◌, ℕ, Bool, false, List, [], ◌∷◌, length}
 use Rattle.std.specs.Option.{option_map_or}
 use Rattle.modulators.specs.declared.modulator.Modulator.{Modulator}
@@ -14,7 +14,7 @@ use Rattle.edit_forms.specs.declared.settings.SettingStep.TheVariants.{SetGen, C
 use Rattle.edit_forms.specs.Causes.{Test, bad_place, mods_there, no_such_modulator, linked_place, linked_modulator}
 use Rattle.edit_forms.specs.Causes.{foreign_operator, bad_amount, not_set}
 
--- each number, name and text in the range of its field
+-- each number, name and text is in the range of its field
 abbrev pub Fits : SettingStep → Type 0
 Fits (SetGen operator amount) = (operator < 2 ^ 16) × (amount < 2 ^ 16)
 Fits (ClearGen operator) = operator < 2 ^ 16
@@ -22,7 +22,7 @@ Fits (AddMod index modulator) = (index < 2 ^ 32) × FitsModulator modulator
 Fits (RemoveMod index) = index < 2 ^ 32
 Fits (SetMod index modulator) = (index < 2 ^ 32) × FitsModulator modulator
 
--- the bank after the step, where it is not refused
+-- the bank after an accepted step
 abbrev pub raw : Parts → Owner → Place → SettingStep → Parts
 raw b o at (SetGen operator amount) = gen_set b o at operator amount
 raw b o at (ClearGen operator) = gen_cleared b o at operator
@@ -30,7 +30,7 @@ raw b o at (AddMod index modulator) = mod_added b o at index modulator
 raw b o at (RemoveMod index) = mod_removed b o at index
 raw b o at (SetMod index modulator) = mod_set b o at index modulator
 
--- the causes that it can have, in the order of their numbers
+-- the step's possible causes of refusal, in the order of their numbers
 abbrev pub causes : Parts → Owner → Place → SettingStep → List Test
 causes b o at (SetGen operator amount) = foreign_operator (level_of o) operator ∷ bad_amount operator amount ∷ []
 causes b o at (ClearGen operator) = foreign_operator (level_of o) operator ∷ not_set b o at operator ∷ []
@@ -39,7 +39,7 @@ causes b o at (AddMod index modulator) =
 causes b o at (RemoveMod index) = no_such_modulator b o at index ∷ linked_place b o at ∷ []
 causes b o at (SetMod index modulator) = no_such_modulator b o at index ∷ linked_modulator b o at modulator ∷ []
 
--- the step that takes it back, read on the bank before
+-- the inverse step, computed from the bank before the step
 abbrev pub inverse : Parts → Owner → Place → SettingStep → SettingStep
 inverse b o at (SetGen operator amount) =
     option_map_or (λ (was : ℕ). SetGen operator was) (amount_of b o at operator) (ClearGen operator)
@@ -51,10 +51,10 @@ inverse b o at (RemoveMod index) =
 inverse b o at (SetMod index modulator) =
     option_map_or (λ (m : Modulator). SetMod index m) (mod_at b o at index) (SetMod index modulator)
 
--- it grows nothing
+-- applying the step allocates nothing
 abbrev pub GrowsNothing : SettingStep → Type 0
 GrowsNothing s = ⊥
 
--- it changes no sound, whatever the bank
+-- the step changes no sound, for any bank
 abbrev pub is_neutral : SettingStep → Bool
 is_neutral s = false

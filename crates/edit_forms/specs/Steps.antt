@@ -1,4 +1,4 @@
--- What a step does to a bank, when it is refused, and what takes it back: one line for each group of forms.
+-- The effect, the refusal and the inverse of a step, by its group of forms.
 use Rattle.std.specs.Prelude.{Bool, Option, List, ◌∷◌}
 use Rattle.std.specs.Option.{option_map}
 use Rattle.bank_parts.specs.declared.parts.Parts.{Parts}
@@ -16,7 +16,7 @@ use Rattle.edit_forms.specs.Zones as zones
 use Rattle.edit_forms.specs.Settings as settings
 use Rattle.edit_forms.specs.Texts as texts
 
--- the bank after the step, where it is not refused
+-- the bank after an accepted step
 abbrev pub raw : Parts → Step → Parts
 raw b (Preset s) = presets.raw b s
 raw b (Instrument s) = instruments.raw b s
@@ -26,7 +26,7 @@ raw b (Zone o s) = zones.raw b o s
 raw b (Setting o at s) = settings.raw b o at s
 raw b (Text s) = texts.raw b s
 
--- the causes that it can have, in the order of their numbers: what it edits is there, and what else its form asks
+-- the step's possible causes of refusal, in the order of their numbers: first that what it edits exists
 abbrev pub causes : Parts → Step → List Test
 causes b (Preset s) = presets.causes b s
 causes b (Instrument s) = instruments.causes b s
@@ -36,12 +36,12 @@ causes b (Zone o s) = no_such_owner b o ∷ zones.causes b o s
 causes b (Setting o at s) = no_such_owner b o ∷ no_such_zone_at b o at ∷ settings.causes b o at s
 causes b (Text s) = texts.causes b s
 
--- Why it is refused, if it is: the cause of the first test that stands; where none does, the first
--- limit that the changed bank would break.
+-- The cause of refusal: the first test that applies, otherwise the first limit that the changed bank would break.
+-- None if the step is accepted.
 abbrev pub refusal : Parts → Step → Option Cause
 refusal b s = first_cause (causes b s) (option_map Full (broken_limit (raw b s)))
 
--- the step that takes it back, read on the bank before
+-- the inverse step, computed from the bank before the step
 abbrev pub inverse : Parts → Step → Step
 inverse b (Preset s) = Preset (presets.inverse b s)
 inverse b (Instrument s) = Instrument (instruments.inverse b s)
@@ -51,7 +51,7 @@ inverse b (Zone o s) = Zone o (zones.inverse b o s)
 inverse b (Setting o at s) = Setting o at (settings.inverse b o at s)
 inverse b (Text s) = Text (texts.inverse b s)
 
--- it grows nothing
+-- applying the step allocates nothing
 abbrev pub GrowsNothing : Step → Type 0
 GrowsNothing (Preset s) = presets.GrowsNothing s
 GrowsNothing (Instrument s) = instruments.GrowsNothing s
@@ -61,7 +61,7 @@ GrowsNothing (Zone o s) = zones.GrowsNothing s
 GrowsNothing (Setting o at s) = settings.GrowsNothing s
 GrowsNothing (Text s) = texts.GrowsNothing s
 
--- it changes no sound, whatever the bank
+-- the step changes no sound, for any bank
 abbrev pub is_neutral_step : Step → Bool
 is_neutral_step (Preset s) = presets.is_neutral s
 is_neutral_step (Instrument s) = instruments.is_neutral s

@@ -1,5 +1,4 @@
--- Steps that edit the zones of a preset or an instrument: what each says, what it does, when it is refused, and what
--- takes it back.
+-- Steps that edit the zones of a preset or an instrument: their effects, causes of refusal, and inverses.
 use Rattle.std.specs.Prelude.{◌<◌, ◌^◌, ◌+◌, ℕ, Bool, true, false, List, [], ◌∷◌, unwrap_or, Option, Some, None}
 use Rattle.std.specs.Option.{option_map_or}
 use Rattle.bank_parts.specs.declared.parts.Zone.{Zone}
@@ -16,7 +15,7 @@ use Rattle.edit_forms.specs.declared.zones.ZoneStep.TheVariants.{SetTarget}
 use Rattle.edit_forms.specs.Causes.{Test, zone_total, no_such_zone, no_such_target_of, no_such_place, bad_place}
 use Rattle.edit_forms.specs.Causes.{bad_generators, bad_ranges, split_outside, not_joinable}
 
--- each number, name and text in the range of its field
+-- each number, name and text is in the range of its field
 abbrev pub Fits : ZoneStep → Type 0
 Fits (AddZone at zone) = (at < 2 ^ 32) × FitsZone zone
 Fits (RemoveZone zone) = zone < 2 ^ 32
@@ -25,7 +24,7 @@ Fits (SplitZone zone axis at) = (zone < 2 ^ 32) × (at < 2 ^ 8)
 Fits (JoinZone zone axis kept) = zone < 2 ^ 32
 Fits (SetTarget zone target) = (zone < 2 ^ 32) × (target < 2 ^ 16)
 
--- the bank after the step, where it is not refused
+-- the bank after an accepted step
 abbrev pub raw : Parts → Owner → ZoneStep → Parts
 raw b o (AddZone at zone) = zone_added b o at zone
 raw b o (RemoveZone zone) = zone_removed b o zone
@@ -34,7 +33,7 @@ raw b o (SplitZone zone axis at) = zone_split b o zone axis at
 raw b o (JoinZone zone axis kept) = zone_joined b o zone axis kept
 raw b o (SetTarget zone target) = target_set b o zone target
 
--- the causes that it can have, in the order of their numbers
+-- the step's possible causes of refusal, in the order of their numbers
 abbrev pub causes : Parts → Owner → ZoneStep → List Test
 causes b o (AddZone at zone) =
     no_such_target_of b o zone.target
@@ -48,7 +47,7 @@ causes b o (SplitZone zone axis at) = no_such_zone b o zone ∷ split_outside b 
 causes b o (JoinZone zone axis kept) = no_such_zone b o (zone + 1) ∷ not_joinable b o zone axis kept ∷ []
 causes b o (SetTarget zone target) = no_such_target_of b o target ∷ no_such_zone b o zone ∷ []
 
--- the step that takes it back, read on the bank before
+-- the inverse step, computed from the bank before the step
 abbrev pub inverse : Parts → Owner → ZoneStep → ZoneStep
 inverse b o (AddZone at zone) = RemoveZone at
 inverse b o (RemoveZone zone) = option_map_or (λ (z : Zone). AddZone zone z) (zone_of b o zone) (RemoveZone zone)
@@ -61,7 +60,7 @@ inverse b o (JoinZone zone axis kept) =
 inverse b o (SetTarget zone target) =
     option_map_or (λ (was : ℕ). SetTarget zone was) (target_of b o zone) (SetTarget zone target)
 
--- it grows nothing
+-- applying the step allocates nothing
 abbrev pub GrowsNothing : ZoneStep → Type 0
 GrowsNothing (AddZone at zone) = ⊥
 GrowsNothing (RemoveZone zone) = ⊥
@@ -70,7 +69,7 @@ GrowsNothing (SplitZone zone axis at) = ⊥
 GrowsNothing (JoinZone zone axis kept) = ⊥
 GrowsNothing (SetTarget zone target) = Unit {0}
 
--- it changes no sound, whatever the bank
+-- the step changes no sound, for any bank
 abbrev pub is_neutral : ZoneStep → Bool
 is_neutral (AddZone at zone) = false
 is_neutral (RemoveZone zone) = false
@@ -79,7 +78,7 @@ is_neutral (SplitZone zone axis at) = true
 is_neutral (JoinZone zone axis kept) = true
 is_neutral (SetTarget zone target) = false
 
--- the zone that it adds
+-- the zone that the step adds
 abbrev pub zone_in : ZoneStep → Option Zone
 zone_in (AddZone at zone) = Some zone
 zone_in _ = None

@@ -1,11 +1,11 @@
-//! Why an edit may be refused.
+//! Causes for which an edit is refused.
 ghost use Rattle.std.specs.Prelude.{◌≡◌};
 ghost use Rattle.edit_forms.specs.CauseNames.{number_of, name_of, limit_of};
 
 use bank_validity::Limit;
 use thiserror::Error;
 
-/// What stands against an edit, in the order of the numbers by which fault lines tell it.
+/// A cause for which an edit is refused, in the order of their numbers.
 #[derive(Clone, Copy, Debug, PartialEq, Eq, Error)]
 pub enum Cause {
     #[error("there is no such preset")]
@@ -18,14 +18,14 @@ pub enum Cause {
     NoSuchZone,
     #[error("there is no such modulator")]
     NoSuchModulator,
-    /// A place past the end of the list, or for what is moved, past its last member.
+    /// An index past the end of the list; for a move, past its last member.
     #[error("there is no such place")]
     BadPlace,
     /// A zone targets the member, or another sample links to it.
     #[error("the member is in use")]
     InUse,
-    /// An operator that the level does not allow, those of targets included (SoundFont 2.04, section
-    /// 8.1.2).
+    /// An operator that the level does not allow; target operators are not allowed (SoundFont 2.04,
+    /// section 8.1.2).
     #[error("the generator is not allowed there")]
     BadGenerator,
     #[error("the generator is not set there")]
@@ -33,33 +33,33 @@ pub enum Cause {
     /// A range whose low end is above its high end, or whose high end is above 127.
     #[error("the range is empty or above 127")]
     BadRange,
-    /// The zone's range does not hold the place of the split, or begins there.
+    /// The zone's effective range does not contain the position of the split, or begins there.
     #[error("the split is not inside the range of the zone")]
     SplitOutside,
-    /// The zones differ in more than their ranges on the axis, or these do not meet, or a zone without a
-    /// range of its own would have another than both together.
+    /// The zones differ in more than their ranges on the axis, their ranges are not adjacent, or without
+    /// a range of its own the joined zone would have another effective range.
     #[error("the zones can't be joined")]
     NotJoinable,
-    /// The zone holds a modulator that is linked to others by their numbers, or the new one is such.
+    /// A modulator of the place is linked to others by their numbers, or the new modulator is.
     #[error("modulators are linked there")]
     LinkedModulator,
-    /// A trim takes off more points than the sample has.
+    /// A trim removes more points than the sample has.
     #[error("the sample is too short")]
     TooShort,
-    /// A trim takes off points of the loop, or its start.
+    /// A trim removes points of the loop.
     #[error("the cut is in the loop")]
     LoopCut,
     #[error("the loop is empty or not in the sample")]
     BadLoop,
     #[error("the text is too long, has a zero byte, or is empty and must not be")]
     BadText,
-    /// The first limit that the bank would break.
+    /// The edit would break this limit, the first in their order.
     #[error("the bank would be too large")]
     Full(Limit),
 }
 
 impl Cause {
-    /// The number by which a fault line tells it.
+    /// The number of the cause, as fault lines print it.
     pub fn number(self) -> u8
         ensures { result ≡ number_of self }
     {
@@ -85,7 +85,7 @@ impl Cause {
         }
     }
 
-    /// The name by which a fault line tells it.
+    /// The name of the cause, as fault lines print it.
     pub fn name(self) -> &'static str
         ensures { result.now ≡ name_of self }
     {
@@ -111,7 +111,7 @@ impl Cause {
         }
     }
 
-    /// The limit that the bank would break, whose name a fault line tells after the cause's own.
+    /// The limit that the edit would break. Fault lines print its name after the name of the cause.
     pub fn limit(self) -> Option<Limit>
         ensures { result ≡ limit_of self }
     {

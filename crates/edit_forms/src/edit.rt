@@ -1,4 +1,4 @@
-//! What an edit says: one step, or a group of them.
+//! An edit: one step, or a group of steps.
 ghost use Rattle.std.specs.Prelude.{◌≡◌, MatchResult};
 ghost use Rattle.std.specs.List.{AllByRecursion};
 ghost use Rattle.edit_forms.specs.declared.edit.Edit.TheVariants.{One, Group};
@@ -10,11 +10,11 @@ use numbered_lists::NumberedList;
 /// An edit of a bank.
 pub enum Edit<'a> {
     One(Step<'a>),
-    /// `group { EDIT } { EDIT } ..`: the steps in their order, all of them or none.
+    /// `group { EDIT } { EDIT } ..`: the steps in order, either all of them or none.
     Group(NumberedList<Step<'a>>),
 }
 
-// Not derived: a derived drop is written out, and proved, wherever a value is dropped; this one is a call.
+// Written by hand: a derived drop is inlined, and proved again, wherever a value is dropped.
 impl Drop for Edit<'_> {
     fn drop(self) {
         match self {
@@ -25,7 +25,7 @@ impl Drop for Edit<'_> {
 }
 
 impl<'a> Edit<'a> {
-    /// Its one step, or else the steps of its group.
+    /// Returns the only step as `Ok`, or the steps of a group as `Err`.
     pub fn into_steps(self) -> Result<Step<'a>, NumberedList<Step<'a>>>
         ensures { MatchResult result (λ step. self.entry ≡ One step) (λ steps. self.entry ≡ Group steps) }
     {
@@ -35,7 +35,7 @@ impl<'a> Edit<'a> {
         }
     }
 
-    /// The law that each number, name and text is in the range of its field. It does nothing.
+    /// Proves that each number, name and text is in the range of its field. It does nothing at run time.
     pub fn fits(&self)
         ensures { FitsEdit self.now }
     {

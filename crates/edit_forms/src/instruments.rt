@@ -1,4 +1,4 @@
-//! The steps that edit instruments.
+//! Steps that edit instruments.
 ghost use Rattle.std.specs.Prelude.{◌≡◌, Some, IsSome, IfOk};
 ghost use Rattle.edit_forms.specs.Instruments.{Fits, instrument_in, name_in};
 
@@ -6,19 +6,19 @@ use bank_parts::{CopyOut, Instrument};
 use sf_base::{Name20, OutOfMemory};
 use std::alloc::Global;
 
-/// A step that edits instruments. Numbers are counted from 0.
+/// A step that edits instruments. Numbers count from 0.
 pub enum InstrumentStep {
-    /// `add-inst I NAME GLOBAL? ZONE*`: the instrument is put in as number `at`, with its zones.
+    /// `add-inst I NAME GLOBAL? ZONE*`: inserts the instrument with its zones as number `at`.
     AddInstrument { at: u32, instrument: Instrument },
-    /// `remove-inst I`: the instrument, which no zone targets, is taken out, with its zones.
+    /// `remove-inst I`: removes the instrument with its zones. No zone may target it.
     RemoveInstrument { instrument: u32 },
-    /// `rename-inst I NAME`: the instrument gets the name.
+    /// `rename-inst I NAME`: renames the instrument.
     RenameInstrument { instrument: u32, name: Name20 },
-    /// `move-inst I J`: instrument `from` is instrument `to`.
+    /// `move-inst I J`: moves instrument `from` to number `to`.
     MoveInstrument { from: u32, to: u32 },
 }
 
-// Not derived: a derived drop is written out, and proved, wherever a value is dropped; this one is a call.
+// Written by hand: a derived drop is inlined, and proved again, wherever a value is dropped.
 impl Drop for InstrumentStep {
     fn drop(self) {
         match self {
@@ -37,7 +37,7 @@ impl Drop for InstrumentStep {
 }
 
 impl InstrumentStep {
-    /// The instrument that it adds.
+    /// Returns the instrument that the step adds.
     pub fn into_instrument(self) -> Instrument
         requires { IsSome (instrument_in self) }
         ensures { instrument_in self ≡ Some result }
@@ -48,7 +48,7 @@ impl InstrumentStep {
         }
     }
 
-    /// The name that it gives.
+    /// Returns the name that the step sets.
     pub fn into_name(self) -> Name20
         requires { IsSome (name_in self) }
         ensures { name_in self ≡ Some result }
@@ -62,7 +62,7 @@ impl InstrumentStep {
         }
     }
 
-    /// The law that each number and name is in the range of its field. It does nothing.
+    /// Proves that each number and name is in the range of its field. It does nothing at run time.
     pub fn fits(&self)
         ensures { Fits self.now }
     {
@@ -85,7 +85,7 @@ impl InstrumentStep {
         }
     }
 
-    /// An equal step, in memory of its own; or out of memory.
+    /// Copies the step, or returns `OutOfMemory`.
     pub fn copy(&self, alloc: Global) -> Result<InstrumentStep, OutOfMemory>
         ensures { IfOk result (λ copy. copy ≡ self.now) }
     {

@@ -1,5 +1,4 @@
-//! What an edit of a bank says, and what it means: its forms, that what each carries is in the range of its
-//! field, an equal one in memory of its own, and the causes for which an edit may be refused.
+//! The forms of edits and their meaning, the causes for which an edit is refused, and copies of edits.
 #![tactic(auto)]
 
 mod cause;

@@ -1,4 +1,4 @@
-//! The steps that edit what one sample holds.
+//! Steps that edit one sample's contents.
 ghost use Rattle.std.specs.Prelude.{◌≡◌, Some, IsSome, IfOk};
 ghost use Rattle.edit_forms.specs.Points.{Fits, is_neutral, points_in};
 
@@ -7,26 +7,25 @@ use sample_view::Points;
 use sf_base::OutOfMemory;
 use std::alloc::Global;
 
-/// A step that edits what one sample holds: its points, its loop, its kind and its pitch. It borrows the
-/// points that it carries.
+/// A step that edits one sample: its points, loop, kind or pitch. It borrows its points.
 pub enum PointStep<'a> {
-    /// `trim S F B`: the sample's first `front` points and its last `back` are taken off. Its loop stays
-    /// on its points.
+    /// `trim S F B`: removes the first `front` and the last `back` points. The loop stays on the same
+    /// points.
     Trim { front: u32, back: u32 },
-    /// `extend S POINTS POINTS`: points are put before the sample's own and after them. Its loop stays on
-    /// its points.
+    /// `extend S POINTS POINTS`: adds points before and after those of the sample. The loop stays on the
+    /// same points.
     Extend { front: Points<'a>, back: Points<'a> },
-    /// `set-loop S LOOP`: the sample has the loop (its first point, and the first point after it, counted
-    /// from the sample's start), or none.
+    /// `set-loop S LOOP`: sets the loop (its first point and the point after its last, relative to the
+    /// start of the sample), or removes it.
     SetLoop { looped: Option<(u32, u32)> },
-    /// `set-kind S KIND`: the sample has the kind.
+    /// `set-kind S KIND`: sets the kind and its link.
     SetKind { kind: Kind },
-    /// `set-tune S RATE KEY CORR`: the sample has the rate in frames a second, the key at which it sounds
-    /// as recorded (above 127 for none) and the correction in cents.
+    /// `set-tune S RATE KEY CORR`: sets the rate in frames per second, the root key (above 127 for none),
+    /// and the correction in cents.
     SetTune { rate: u32, key: u8, correction: i8 },
 }
 
-// Not derived: a derived drop is written out, and proved, wherever a value is dropped; this one is a call.
+// Written by hand: a derived drop is inlined, and proved again, wherever a value is dropped.
 impl Drop for PointStep<'_> {
     fn drop(self) {
         match self {
@@ -44,7 +43,7 @@ impl Drop for PointStep<'_> {
 }
 
 impl<'a> PointStep<'a> {
-    /// The points that it puts before a sample's own and after them.
+    /// Returns the points that the step adds before and after those of the sample.
     pub fn into_points(self) -> (Points<'a>, Points<'a>)
         requires { IsSome (points_in self) }
         ensures { points_in self.entry ≡ Some (result.0, result.1) }
@@ -55,7 +54,7 @@ impl<'a> PointStep<'a> {
         }
     }
 
-    /// The law that each number is in the range of its field. It does nothing.
+    /// Proves that each number is in the range of its field. It does nothing at run time.
     pub fn fits(&self)
         ensures { Fits self.now }
     {
@@ -82,14 +81,14 @@ impl<'a> PointStep<'a> {
         }
     }
 
-    /// Whether it is of a form that changes no sound, whatever the bank.
+    /// Whether the step is of a form that changes no sound, for any bank.
     pub fn is_neutral(&self) -> bool
         ensures { result ≡ is_neutral self.now }
     {
         matches!(self, PointStep::SetKind { .. })
     }
 
-    /// An equal step, in memory of its own; or out of memory. Points stay where they are.
+    /// Copies the step, or returns `OutOfMemory`. The copy borrows the same points.
     pub fn copy(&self, alloc: Global) -> Result<PointStep<'a>, OutOfMemory>
         ensures { IfOk result (λ copy. copy ≡ self.now) }
     {

@@ -1,4 +1,4 @@
-//! The steps that edit presets.
+//! Steps that edit presets.
 ghost use Rattle.std.specs.Prelude.{◌≡◌, Some, IsSome, IfOk};
 ghost use Rattle.edit_forms.specs.Presets.{Fits, preset_in, name_in};
 
@@ -6,24 +6,24 @@ use bank_parts::{CopyOut, Preset};
 use sf_base::{Name20, OutOfMemory};
 use std::alloc::Global;
 
-/// A step that edits presets. Numbers are counted from 0.
+/// A step that edits presets. Numbers count from 0.
 pub enum PresetStep {
-    /// `add-preset P NAME NUMBER BANK LIBRARY GENRE MORPHOLOGY GLOBAL? ZONE*`: the preset is put in as
-    /// number `at`, with its zones.
+    /// `add-preset P NAME NUMBER BANK LIBRARY GENRE MORPHOLOGY GLOBAL? ZONE*`: inserts the preset with
+    /// its zones as number `at`.
     AddPreset {
         at: u32,
         preset: Preset,
     },
-    /// `remove-preset P`: the preset is taken out, with its zones.
+    /// `remove-preset P`: removes the preset with its zones.
     RemovePreset {
         preset: u32,
     },
-    /// `move-preset I J`: preset `from` is preset `to`.
+    /// `move-preset I J`: moves preset `from` to number `to`.
     MovePreset {
         from: u32,
         to: u32,
     },
-    /// `set-head P NAME NUMBER BANK`: the preset gets the name and both numbers.
+    /// `set-head P NAME NUMBER BANK`: sets the name, the preset number and the bank number.
     SetHead {
         preset: u32,
         name: Name20,
@@ -32,7 +32,7 @@ pub enum PresetStep {
     },
 }
 
-// Not derived: a derived drop is written out, and proved, wherever a value is dropped; this one is a call.
+// Written by hand: a derived drop is inlined, and proved again, wherever a value is dropped.
 impl Drop for PresetStep {
     fn drop(self) {
         match self {
@@ -50,7 +50,7 @@ impl Drop for PresetStep {
 }
 
 impl PresetStep {
-    /// The preset that it adds.
+    /// Returns the preset that the step adds.
     pub fn into_preset(self) -> Preset
         requires { IsSome (preset_in self) }
         ensures { preset_in self ≡ Some result }
@@ -61,7 +61,7 @@ impl PresetStep {
         }
     }
 
-    /// The name that it gives.
+    /// Returns the name that the step sets.
     pub fn into_name(self) -> Name20
         requires { IsSome (name_in self) }
         ensures { name_in self ≡ Some result }
@@ -77,7 +77,7 @@ impl PresetStep {
         }
     }
 
-    /// The law that each number and name is in the range of its field. It does nothing.
+    /// Proves that each number and name is in the range of its field. It does nothing at run time.
     pub fn fits(&self)
         ensures { Fits self.now }
     {
@@ -107,7 +107,7 @@ impl PresetStep {
         }
     }
 
-    /// An equal step, in memory of its own; or out of memory.
+    /// Copies the step, or returns `OutOfMemory`.
     pub fn copy(&self, alloc: Global) -> Result<PresetStep, OutOfMemory>
         ensures { IfOk result (λ copy. copy ≡ self.now) }
     {

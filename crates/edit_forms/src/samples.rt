@@ -1,4 +1,4 @@
-//! The steps that edit the list of samples.
+//! Steps that edit the list of samples.
 ghost use Rattle.std.specs.Prelude.{◌≡◌, Some, IsSome, IfOk};
 ghost use Rattle.edit_forms.specs.Samples.{Fits, sample_in, name_in};
 
@@ -6,21 +6,19 @@ use bank_parts::{CopyOut, Sample};
 use sf_base::{Name20, OutOfMemory};
 use std::alloc::Global;
 
-/// A step that edits the list of samples. Numbers are counted from 0. It borrows the points that it
-/// carries.
+/// A step that edits the list of samples. Numbers count from 0. It borrows its points.
 pub enum SampleStep<'a> {
-    /// `rename-sample S NAME`: the sample gets the name.
+    /// `rename-sample S NAME`: renames the sample.
     RenameSample { sample: u32, name: Name20 },
-    /// `add-sample S BODY`: the sample is put in as number `at`. Its link has the numbers that hold
-    /// afterwards.
+    /// `add-sample S BODY`: inserts the sample as number `at`. Its link is a number after the insertion.
     AddSample { at: u32, sample: Sample<'a> },
-    /// `remove-sample S`: the sample is taken out.
+    /// `remove-sample S`: removes the sample. No zone may target it, and no other sample link to it.
     RemoveSample { sample: u32 },
-    /// `move-sample I J`: sample `from` is sample `to`.
+    /// `move-sample I J`: moves sample `from` to number `to`.
     MoveSample { from: u32, to: u32 },
 }
 
-// Not derived: a derived drop is written out, and proved, wherever a value is dropped; this one is a call.
+// Written by hand: a derived drop is inlined, and proved again, wherever a value is dropped.
 impl Drop for SampleStep<'_> {
     fn drop(self) {
         match self {
@@ -33,7 +31,7 @@ impl Drop for SampleStep<'_> {
 }
 
 impl<'a> SampleStep<'a> {
-    /// The sample that it adds.
+    /// Returns the sample that the step adds.
     pub fn into_sample(self) -> Sample<'a>
         requires { IsSome (sample_in self) }
         ensures { sample_in self.entry ≡ Some result }
@@ -44,7 +42,7 @@ impl<'a> SampleStep<'a> {
         }
     }
 
-    /// The name that it gives.
+    /// Returns the name that the step sets.
     pub fn into_name(self) -> Name20
         requires { IsSome (name_in self) }
         ensures { name_in self.entry ≡ Some result }
@@ -55,7 +53,7 @@ impl<'a> SampleStep<'a> {
         }
     }
 
-    /// The law that each number and name is in the range of its field. It does nothing.
+    /// Proves that each number and name is in the range of its field. It does nothing at run time.
     pub fn fits(&self)
         ensures { Fits self.now }
     {
@@ -78,7 +76,7 @@ impl<'a> SampleStep<'a> {
         }
     }
 
-    /// An equal step, in memory of its own; or out of memory. Points stay where they are.
+    /// Copies the step, or returns `OutOfMemory`. The copy borrows the same points.
     pub fn copy(&self, alloc: Global) -> Result<SampleStep<'a>, OutOfMemory>
         ensures { IfOk result (λ copy. copy ≡ self.now) }
     {

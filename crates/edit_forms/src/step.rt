@@ -1,4 +1,4 @@
-//! The steps that change a bank, by what they edit.
+//! Steps that change a bank, grouped by what they edit.
 ghost use Rattle.std.specs.Prelude.{◌≡◌, IfOk};
 ghost use Rattle.edit_forms.specs.Fits.{FitsNumberOf, FitsPlace, FitsStep};
 ghost use Rattle.edit_forms.specs.Steps.{is_neutral_step};
@@ -14,14 +14,14 @@ use bank_changes::{Owner, Place};
 use sf_base::OutOfMemory;
 use std::alloc::Global;
 
-/// A step that changes a bank: each form of the edit script is a variant of the group of forms that edit
-/// the same things. Numbers are counted from 0. It borrows the points and texts that it carries.
+/// A step that changes a bank. Each form of the edit script is a variant in one of these groups. Numbers
+/// count from 0. A step borrows its points and texts.
 #[derive(Drop)]
 pub enum Step<'a> {
     Preset(PresetStep),
     Instrument(InstrumentStep),
     Sample(SampleStep<'a>),
-    /// What the sample of the number holds.
+    /// Edits the sample with this number.
     Points(u32, PointStep<'a>),
     Zone(Owner, ZoneStep),
     Setting(Owner, Place, SettingStep),
@@ -29,7 +29,7 @@ pub enum Step<'a> {
 }
 
 impl<'a> Step<'a> {
-    /// The law that each number, name and text is in the range of its field. It does nothing.
+    /// Proves that each number, name and text is in the range of its field. It does nothing at run time.
     pub fn fits(&self)
         ensures { FitsStep self.now }
     {
@@ -54,9 +54,9 @@ impl<'a> Step<'a> {
         }
     }
 
-    /// Whether it is of a form that changes no sound, whatever the bank and whatever it carries: an
-    /// instrument or a sample that is put in, taken out or moved, a zone that is moved, split or joined, a
-    /// name of an instrument or a sample, a kind or a text.
+    /// Whether the step is of a form that changes no sound, for any bank and any values: adding, removing
+    /// or moving an instrument or a sample, moving, splitting or joining zones, renaming an instrument or
+    /// a sample, or setting a kind or a text.
     pub fn is_neutral(&self) -> bool
         ensures { result ≡ is_neutral_step self.now }
     {
@@ -68,7 +68,7 @@ impl<'a> Step<'a> {
         }
     }
 
-    /// An equal step, in memory of its own; or out of memory. Points and texts stay where they are.
+    /// Copies the step, or returns `OutOfMemory`. The copy borrows the same points and texts.
     pub fn copy(&self, alloc: Global) -> Result<Step<'a>, OutOfMemory>
         ensures { IfOk result (λ copy. copy ≡ self.now) }
     {
@@ -84,7 +84,7 @@ impl<'a> Step<'a> {
     }
 }
 
-// ---- what they edit
+// ---- what steps refer to
 
 fn owner_fits(owner: Owner)
     ensures { FitsNumberOf owner }

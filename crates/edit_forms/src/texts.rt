@@ -1,19 +1,19 @@
-//! The steps that edit the texts of a bank.
+//! Steps that edit the texts of a bank.
 ghost use Rattle.std.specs.Prelude.{◌≡◌};
 ghost use Rattle.edit_forms.specs.Texts.{Fits};
 
 use bank_parts::InfoId;
 use sf_base::Lent;
 
-/// A step that edits the texts of a bank. It borrows the text that it carries.
+/// A step that edits the texts of a bank. It borrows its text.
 #[derive(Drop)]
 pub enum TextStep<'a> {
-    /// `set-info ID TEXT`: the text of the kind is this one.
+    /// `set-info ID TEXT`: sets the text.
     SetInfo { id: InfoId, text: Lent<'a> },
 }
 
 impl<'a> TextStep<'a> {
-    /// The law that each byte is below 256. It does nothing.
+    /// Proves that each byte of the text is below 256. It does nothing at run time.
     pub fn fits(&self)
         ensures { Fits self.now }
     {
@@ -24,7 +24,7 @@ impl<'a> TextStep<'a> {
         }
     }
 
-    /// An equal step. The text stays where it is.
+    /// Copies the step. The copy borrows the same text.
     pub fn copy(&self) -> TextStep<'a>
         ensures { result ≡ self.now }
     {

@@ -1,4 +1,4 @@
-//! The steps that edit the zones of a preset or an instrument.
+//! Steps that edit the zones of a preset or an instrument.
 ghost use Rattle.std.specs.Prelude.{◌≡◌, Some, IsSome, IfOk};
 ghost use Rattle.edit_forms.specs.Zones.{Fits, is_neutral, zone_in};
 
@@ -7,25 +7,26 @@ use sf_base::OutOfMemory;
 use std::alloc::Global;
 use zone_ranges::{Axis, Keep};
 
-/// A step that edits the zones of a preset or an instrument. Numbers are counted from 0, the global zone
-/// apart.
+/// A step that edits the zones of a preset or an instrument. Numbers count from 0, without the global
+/// zone.
 pub enum ZoneStep {
-    /// `add-zone OWNER K ZONE`: the zone is put in as number `at`.
+    /// `add-zone OWNER K ZONE`: inserts the zone as number `at`.
     AddZone { at: u32, zone: Zone },
-    /// `remove-zone OWNER K`: the zone is taken out.
+    /// `remove-zone OWNER K`: removes the zone.
     RemoveZone { zone: u32 },
-    /// `move-zone OWNER I J`: zone `from` is zone `to`.
+    /// `move-zone OWNER I J`: moves zone `from` to number `to`.
     MoveZone { from: u32, to: u32 },
-    /// `split-zone OWNER K key|vel M`: the zone has its range up to below `at`, and a copy behind it the
-    /// rest.
+    /// `split-zone OWNER K key|vel M`: splits the zone: it keeps the range below `at`, and a copy after
+    /// it has the rest.
     SplitZone { zone: u32, axis: Axis, at: u8 },
-    /// `join-zone OWNER K key|vel keep|bare`: the zone and the next are one, with both ranges together.
+    /// `join-zone OWNER K key|vel keep|bare`: joins the zone and the next into one with the range of
+    /// both.
     JoinZone { zone: u32, axis: Axis, keep: Keep },
-    /// `set-target OWNER K TARGET`: the zone has the target.
+    /// `set-target OWNER K TARGET`: sets the target of the zone.
     SetTarget { zone: u32, target: u16 },
 }
 
-// Not derived: a derived drop is written out, and proved, wherever a value is dropped; this one is a call.
+// Written by hand: a derived drop is inlined, and proved again, wherever a value is dropped.
 impl Drop for ZoneStep {
     fn drop(self) {
         match self {
@@ -48,7 +49,7 @@ impl Drop for ZoneStep {
 }
 
 impl ZoneStep {
-    /// The zone that it adds.
+    /// Returns the zone that the step adds.
     pub fn into_zone(self) -> Zone
         requires { IsSome (zone_in self) }
         ensures { zone_in self ≡ Some result }
@@ -59,7 +60,7 @@ impl ZoneStep {
         }
     }
 
-    /// The law that each number is in the range of its field. It does nothing.
+    /// Proves that each number is in the range of its field. It does nothing at run time.
     pub fn fits(&self)
         ensures { Fits self.now }
     {
@@ -86,7 +87,7 @@ impl ZoneStep {
         }
     }
 
-    /// Whether it is of a form that changes no sound, whatever the bank.
+    /// Whether the step is of a form that changes no sound, for any bank.
     pub fn is_neutral(&self) -> bool
         ensures { result ≡ is_neutral self.now }
     {
@@ -96,7 +97,7 @@ impl ZoneStep {
         )
     }
 
-    /// An equal step, in memory of its own; or out of memory.
+    /// Copies the step, or returns `OutOfMemory`.
     pub fn copy(&self, alloc: Global) -> Result<ZoneStep, OutOfMemory>
         ensures { IfOk result (λ copy. copy ≡ self.now) }
     {

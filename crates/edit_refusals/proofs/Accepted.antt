@@ -1,4 +1,4 @@
--- What acceptance says: no test stands, and no limit is broken.
+-- A step is accepted exactly if no test applies and no limit is broken.
 use Rattle.std.proofs.Common.{◌≡◌, ◌<◌, ◌≤◌, ◌++◌, ℕ, nat_le, nat_lt, Bool, true, false, cond, Option, Some, None}
 use Rattle.std.proofs.Common.{Result, Ok, Err, List, [], ◌∷◌, refl, ◌∙◌, ap, arith}
 use Rattle.std.proofs.lemmas.Bool.Decides.{nat_tests}
@@ -32,7 +32,7 @@ passes : (t : Bool) (cause : Cause) (rest : Option Cause) → cond t (Some cause
 passes true cause rest h = cc
 passes false cause rest h = (refl, h)
 
--- a list of tests and a limit, none of which stands
+-- a list of tests and a limit, none of which applies
 first_none : (ts : List Test) (l : Option Limit) → first_cause ts (option_map Full l) ≡ None
     → NoneStands ts × (l ≡ None)
 first_none [] l h = (tt, not_full l h)
@@ -48,19 +48,19 @@ last_word : (ts : List Test) (last : Option Cause) → NoneStands ts → first_c
 last_word [] last h = refl
 last_word (t ∷ ts) last h = let here = h.0 in rw here (last_word ts last h.1)
 
--- where no test stands and the changed bank is sound
+-- a step is accepted if no test applies and the changed bank is sound
 pub accepted_by : (b : Parts) (s : Step) → NoneStands (causes b s) → IsSound (raw b s) → refusal b s ≡ None
 accepted_by b s tests sound =
     last_word (causes b s) (option_map Full (broken_limit (raw b s))) tests
     ∙ ap (option_map Full) (no_limit_of (raw b s) sound.valid.limits)
 
--- ---- what the code answers
+-- ---- results of the functions
 
 judged : (why last : Option Cause) (r : Result (Unit {0}) Cause) → why ≡ last → Judges last r → Judges why r
 judged why last (Ok done) e h = e ∙ h
 judged why last (Err cause) e h = e ∙ h
 
--- where no test stands, the limit is told
+-- if no test applies, the result is the broken limit
 pub by_limit : (b : Parts) (s : Step) (l : Option Limit) (r : Result (Unit {0}) Cause) → NoneStands (causes b s)
     → broken_limit (raw b s) ≡ l
     → Judges (option_map Full l) r → Judges (refusal b s) r
@@ -73,7 +73,7 @@ told : (stands : Bool) (cause : Cause) (last : Option Cause) → stands ≡ true
 told true cause last h = refl
 told false cause last h = cc
 
--- where none of the others stands, the last test is told; where it doesn't either, no limit is broken
+-- if no other test applies, the result is the last test; if that does not apply either, no limit is broken
 pub by_last : (ts : List Test) (t : Test) (l : Option Limit) (r : Result (Unit {0}) Cause) → NoneStands ts
     → Passes t r → (t.stands ≡ false → l ≡ None)
     → Judges (first_cause (ts ++ t ∷ []) (option_map Full l)) r

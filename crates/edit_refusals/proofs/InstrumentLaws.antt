@@ -1,4 +1,4 @@
--- The forms that edit instruments: what acceptance says of each.
+-- The forms that edit instruments: when each is accepted.
 use Rattle.std.proofs.Common.{◌≡◌, ◌<◌, ◌≤◌, ℕ, false, List, length, None, ◌∙◌, ap, true, refl}
 use Rattle.sf_base.specs.Names.{IsName}
 use Rattle.generators.specs.declared.level.Level.TheVariants as level
@@ -45,7 +45,7 @@ module _ (b : Parts) (i : ℕ) (x : WithZones (List ℕ)) where
       sound_added_instrument b i x sound g.place g.is fits
       (accepted b (steps.Instrument (AddInstrument i x)) h).limits
 
-  -- the limit that the sums tell
+  -- the broken limit, computed from totals
   pub limit_add_instrument : i ≤ length b.instruments
       → broken_limit (instrument_added b i x)
       ≡ broken (with_owner level.Inst (totals_of b) (records_of_owner x))

@@ -1,10 +1,10 @@
--- What acceptance says of a move: both are numbers of members.
+-- An accepted move is between indexes of members.
 use Rattle.std.proofs.Common.{◌≡◌, ◌<◌, ℕ, nat_le, [], ◌∷◌, subst}
 use Rattle.edit_forms.specs.declared.cause.Cause.{Cause}
 use Rattle.edit_forms.specs.Causes.{test, no_such_place}
 use Rattle.edit_refusals.proofs.Accepted.{NoneStands, below, not_below}
 
--- a move among so many, from one place to another
+-- a move from one index to another in a list of length `count`
 pub record Moves (count from to : ℕ) : Type 0 where
   pub there : from < count
   pub place : to < count
@@ -16,6 +16,6 @@ module _ (count from to : ℕ) (cause : Cause) where
   pub tests_move : Moves count from to → NoneStands (test (nat_le count from) cause ∷ no_such_place count to ∷ [])
   tests_move m = (not_below count from m.there, (not_below count to m.place, tt))
 
--- the way back, among as many
+-- the inverse move, in a list of the same length
 pub moves_back : {count now from to : ℕ} → Moves count from to → count ≡ now → Moves now to from
 moves_back {count} {now} {from} {to} m e = subst (λ n. Moves n to from) e (record { there = m.place; place = m.there })

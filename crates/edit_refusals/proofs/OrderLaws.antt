@@ -1,4 +1,4 @@
--- The causes of each form stand in the order of their numbers.
+-- The causes of each form are in the order of their numbers.
 use Rattle.std.proofs.Common.{◌≡◌, ◌≤◌, ◌<◌, ℕ, zero, suc, nat_le, ◌&&◌, Bool, true, false, cond, Option, Some, None}
 use Rattle.std.proofs.Common.{List, [], ◌∷◌, length, refl, sym, ap, ◌∙◌, ◌⊎◌, inl, inr, arith}
 use Rattle.std.specs.Prelude.{MatchOption}
@@ -74,7 +74,7 @@ never_falls n (t ∷ ts) h (suc i) (suc j) d le lt =
 pub numbers_never_fall : NumbersNeverFall
 numbers_never_fall b s = never_falls 0 (causes b s) (each_rises b s)
 
--- ---- the lowest is told
+-- ---- the reported cause has the lowest number
 
 abbrev StandsIn : List Test → Option Limit → Cause → Type 0
 StandsIn ts l cause = Any (λ (t : Test). (t.stands ≡ true) × (t.cause ≡ cause)) ts ⊎ (option_map Full l ≡ Some cause)
@@ -109,7 +109,7 @@ up_to_limit : (cause : Cause) (l : Option Limit) (other : Cause) → option_map 
 up_to_limit cause None other h = cc
 up_to_limit cause (Some limit) other h = let e : Full limit ≡ other = cc in rw (sym e) (no_higher cause)
 
--- of the tests of which the first stands
+-- the cause of the first test, if it applies, has the lowest number
 first_is : (n : ℕ) (t : Test) (ts : List Test) (l : Option Limit) (other : Cause) → rises n (t ∷ ts) ≡ true
     → StandsIn (t ∷ ts) l other → number_of t.cause ≤ number_of other
 first_is n t ts l other up (inl (k, x, lt, at, is)) =
@@ -119,7 +119,7 @@ first_is n t ts l other up (inl (k, x, lt, at, is)) =
     omega (arith, least, here)
 first_is n t ts l other up (inr e) = up_to_limit t.cause l other e
 
--- what stands of tests of which the first does not stands behind it
+-- a cause that applies, but not by the first test, applies by a later one
 later : (t : Test) (ts : List Test) (l : Option Limit) (other : Cause) → t.stands ≡ false → StandsIn (t ∷ ts) l other
     → StandsIn ts l other
 later t ts l other off (inl (zero, x, lt, at, is)) =
@@ -127,7 +127,7 @@ later t ts l other off (inl (zero, x, lt, at, is)) =
 later t ts l other off (inl (suc k, x, lt, at, is)) = inl (k, x, omega (arith, lt), at, is)
 later t ts l other off (inr e) = inr e
 
--- what stands behind a test
+-- a cause that applies by a later test applies by the whole list
 behind : (t : Test) (ts : List Test) (l : Option Limit) (cause : Cause) → StandsIn ts l cause
     → StandsIn (t ∷ ts) l cause
 behind t ts l cause (inl (k, x, lt, at, is)) = inl (suc k, x, omega (arith, lt), at, is)
@@ -137,7 +137,7 @@ none_is_there : (other : Cause) (l : Option Limit) → StandsIn [] l other → o
 none_is_there other l (inl (k, x, lt, at, is)) = absurd (omega (arith, lt))
 none_is_there other l (inr e) = e
 
--- the first stands, or the others tell the cause, which is the lowest of them
+-- the first test applies, or the lowest cause is that of the others
 lowest_of : (n : ℕ) (t : Test) (ts : List Test) (l : Option Limit) (cause : Cause) → rises n (t ∷ ts) ≡ true
     → ((t.stands ≡ true) × (t.cause ≡ cause)) ⊎ ((t.stands ≡ false) × IsLowestIn ts l cause)
     → IsLowestIn (t ∷ ts) l cause
@@ -150,7 +150,7 @@ lowest_of n t ts l cause up (inr rest) = record {
   lowest = λ other s. rest.1.lowest other (later t ts l other rest.0 s);
 }
 
--- a test and others behind it, of which this one stands or the others tell the cause
+-- the first test applies, or the cause is that of the others
 told : (t : Test) (stands : Bool) (rest : Option Cause) (cause : Cause) (L : Type 0) → (rest ≡ Some cause → L)
     → cond stands (Some t.cause) rest ≡ Some cause
     → ((stands ≡ true) × (t.cause ≡ cause)) ⊎ ((stands ≡ false) × L)
@@ -169,7 +169,7 @@ lowest_in n (t ∷ ts) l cause up h =
     (told t t.stands (first_cause ts (option_map Full l)) cause (IsLowestIn ts l cause)
     (lowest_in (number_of t.cause) ts l cause above) h)
 
--- where none is told none stands
+-- if no cause is reported, none applies
 none_told : (stands : Bool) (cause : Cause) (rest : Option Cause) → cond stands (Some cause) rest ≡ None
     → (stands ≡ false) × (rest ≡ None)
 none_told true cause rest h = cc

@@ -1,5 +1,5 @@
--- What acceptance says of a preset or an instrument that is added, among so many whose zones target so
--- many members; and what the code answers.
+-- When a preset or an instrument may be added to `count` of them, with targets below `targets`, and the result of the
+-- refusal functions.
 use Rattle.std.proofs.Common.{◌≡◌, ◌≤◌, ℕ, List, [], ◌∷◌, Option, Result, sym, ◌∙◌, ap}
 use Rattle.std.specs.Option.{option_map}
 use Rattle.sf_base.specs.Names.{IsName}
@@ -43,7 +43,7 @@ module _ {H : Type 0} (name_of : H → List ℕ) (at : Level) (targets count i :
         let t = tests_from_owner name_of at targets x g.is in
         (t.targets, (not_above count i g.place, (t.operators, (t.ranges, tt))))
 
--- where no test stands, the limit is told that the counted records break
+-- if no test applies, the result is the limit broken by the added records
 pub by_records : {H : Type 0} (b : Parts) (s : Step) (at : Level) (x : WithZones H) (t : Totals) (more : Records)
     (found : Option Limit) (r : Result (Unit {0}) Cause)
     → NoneStands (causes b s) → broken_limit (raw b s) ≡ broken (with_owner at (totals_of b) (records_of_owner x))

@@ -1,4 +1,4 @@
--- What the tests of an owner and of a place there say, before a change of the place and after it.
+-- The tests that an owner and a place exist, before and after a change of the place.
 use Rattle.std.proofs.Common.{◌≡◌, ◌<◌, ℕ, nat_le, false, List, [], length, Option, Some, None, refl, ◌∙◌, ap, arith}
 use Rattle.std.specs.Prelude.{IsSome, IsSomeAnd, IfSome, unwrap_or}
 use Rattle.std.specs.Option.{option_map}
@@ -23,13 +23,13 @@ use Rattle.bank_changes.proofs.PlaceLaws.{settings_read}
 use Rattle.edit_forms.specs.Causes.{no_such_owner, no_such_zone_at, zone_total, mods_there}
 use Rattle.edit_refusals.proofs.Accepted.{below}
 
--- ---- a place that is there
+-- ---- an existing place
 
 counted : (count : Option ℕ) (k : ℕ) → nat_le (unwrap_or count 0) k ≡ false → IsSomeAnd count (λ n. k < n)
 counted None k h = let none = below 0 k h in absurd (omega (arith, none))
 counted (Some n) k h = below n k h
 
--- what a place holds that no test refuses
+-- the generators and modulators of an existing place
 pub place_found : (b : Parts) (o : Owner) (at : Place) → (no_such_owner b o).stands ≡ false
     → (no_such_zone_at b o at).stands ≡ false → (s : Settings) × (settings_of b o at ≡ Some s)
 place_found b (Preset p) place.Global owner zone =
@@ -52,7 +52,7 @@ pub mods_there_are : (b : Parts) (o : Owner) (at : Place) (s : Settings) → set
     → mods_there b o at ≡ s.mods
 mods_there_are b o at s e = ap (λ (mods : Option (List Modulator)). unwrap_or mods []) (mods_found b o at s e)
 
--- as the methods of a bank ask it
+-- the same, in the form that the methods of `Bank` require
 
 pub some_settings : (b : Parts) (o : Owner) (at : Place) (s : Settings) → settings_of b o at ≡ Some s
     → IsSome (settings_of b o at)
@@ -98,7 +98,7 @@ pub place_stays_there : (b : Parts) (o : Owner) (at : Place) (f : Settings → S
 place_stays_there b o place.Global f h = refl
 place_stays_there b o (place.Zone k) f h = ap (λ n. nat_le n k) (zone_total_stays b o (place.Zone k) f) ∙ h
 
--- what the place holds then
+-- what the place has after the change
 pub settings_after : (b : Parts) (o : Owner) (at : Place) (f : Settings → Settings) (s : Settings)
     → settings_of b o at ≡ Some s → settings_of (own_place_changed b o at f) o at ≡ Some (f s)
 settings_after b o at f s e = settings_read b o at f ∙ ap (option_map f) e

@@ -1,4 +1,4 @@
--- The forms that edit one sample's points, loop, kind or pitch: what acceptance says of each.
+-- The forms that edit one sample's points, loop, kind or pitch: when each is accepted.
 use Rattle.std.proofs.Common.{◌≡◌, ◌<◌, ◌≤◌, ◌+◌, ◌^◌, ℕ, ℤ, nat_lt, FitsSigned, w8, false, List, length, Option}
 use Rattle.std.proofs.Common.{Some, None, Ok, refl, sym, ◌∙◌, ap, arith, true}
 use Rattle.sample_view.specs.Words.{AreWords}
@@ -177,7 +177,7 @@ module _ (b : Parts) (i rate key : ℕ) (correction : ℤ) where
   pub there_of_tune : refusal b (steps.Points i (SetTune rate key correction)) ≡ None → i < length b.samples
   there_of_tune h = below (length b.samples) i (accepted b (steps.Points i (SetTune rate key correction)) h).tests.0
 
-  -- a sample that is there takes any
+  -- set-tune is accepted for every existing sample
   pub takes_tune : IsSound b → (no_such_sample b i).stands ≡ false
       → refusal b (steps.Points i (SetTune rate key correction)) ≡ None
   takes_tune sound there =

@@ -1,4 +1,4 @@
--- The forms that edit presets: what acceptance says of each.
+-- The forms that edit presets: when each is accepted.
 use Rattle.std.proofs.Common.{◌≡◌, ◌<◌, ◌≤◌, ℕ, List, length, None, ◌∙◌, ap, true, refl}
 use Rattle.generators.specs.declared.level.Level.TheVariants as level
 use Rattle.bank_parts.specs.declared.parts.Head.{Head}
@@ -41,7 +41,7 @@ module _ (b : Parts) (i : ℕ) (p : WithZones Head) where
       let g = preset_goes fits h in
       sound_added_preset b i p sound g.is fits (accepted b (steps.Preset (AddPreset i p)) h).limits
 
-  -- the limit that the sums tell
+  -- the broken limit, computed from totals
   pub limit_add_preset : i ≤ length b.presets
       → broken_limit (preset_added b i p) ≡ broken (with_owner level.Preset (totals_of b) (records_of_owner p))
   limit_add_preset le = ap broken (totals-added_preset b i p le)

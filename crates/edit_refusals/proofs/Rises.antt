@@ -9,7 +9,7 @@ use Rattle.bank_changes.specs.declared.members.Place.TheVariants as place
 use Rattle.edit_forms.specs.CauseNames.{number_of}
 use Rattle.edit_forms.specs.Causes.{Test, no_such_owner, no_such_zone_at}
 
--- none is below n, nor below one before it
+-- no number is below n, or below the number before it
 abbrev pub rises : ℕ → List Test → Bool
 rises n [] = true
 rises n (t ∷ ts) = nat_le n (number_of t.cause) && rises (number_of t.cause) ts
@@ -21,7 +21,7 @@ from_below : (n m : ℕ) (ts : List Test) → n ≤ m → rises m ts ≡ true �
 from_below n m [] le h = h
 from_below n m (t ∷ ts) le h = also_above n m (number_of t.cause) (rises (number_of t.cause) ts) le h
 
--- behind the tests that what is edited is there
+-- after the tests that the owner, and the place, exist
 pub behind_owner : (b : Parts) (o : Owner) (ts : List Test) → rises 21 ts ≡ true
     → rises 0 (no_such_owner b o ∷ ts) ≡ true
 behind_owner b (owner.Preset p) ts h = from_below 20 21 ts (omega arith) h

@@ -1,4 +1,4 @@
--- The forms that edit samples: what acceptance says of each.
+-- The forms that edit samples: when each is accepted.
 use Rattle.std.proofs.Common.{◌≡◌, ◌<◌, ◌≤◌, ◌+◌, ℕ, nat_le, nat_lt, false, List, length, Option, Some, None, refl}
 use Rattle.std.proofs.Common.{◌∙◌, ap, true}
 use Rattle.bank_parts.specs.declared.parts.Kind.{Kind}
@@ -90,7 +90,7 @@ module _ (b : Parts) (i : ℕ) (s : Sample) where
       let g = goes_in a.tests in
       added_sound b i s sound g.place (record { name = fits.name; looped = g.looped; kind = g.link }) fits a.limits
 
-  -- the limit that the sums tell
+  -- the broken limit, computed from totals
   pub limit_add : i ≤ length b.samples
       → broken_limit (sample_added b i s) ≡ broken (with_sample (totals_of b) (length s.points))
   limit_add le = ap broken (totals-added b i s le)

@@ -1,4 +1,4 @@
--- The forms that edit generators and modulators: what acceptance says of each.
+-- The forms that edit generators and modulators: when each is accepted.
 use Rattle.std.proofs.Common.{◌≡◌, ◌<◌, ◌≤◌, ◌%◌, ◌/◌, ◌&&◌, ◌^◌, not, ℕ, nat_le, Bool, true, false, Option, Some}
 use Rattle.std.proofs.Common.{None, refl, sym, ◌∙◌, arith, List, length, insert, remove}
 use Rattle.std.specs.Option.{is_some}
@@ -74,7 +74,7 @@ module _ (lvl : Level) (op amount : ℕ) where
     are_ends (is_range_operator op) (amount % 256) (amount / 256) is.range,
   )
 
--- ---- a place that is there, and an operator that its level allows
+-- ---- an existing place, and an operator that its level allows
 
 pub record AllowsThere (b : Parts) (o : Owner) (at : Place) (op : ℕ) : Type 0 where
   pub owner : (no_such_owner b o).stands ≡ false
@@ -143,18 +143,18 @@ module _ (b : Parts) (o : Owner) (at : Place) (op : ℕ) where
       let set = sym (amount_found b o at op s e) ∙ g.set in
       within_gen_cleared b o at op s e sound (rw set refl)
 
--- the modulators are sent through f
+-- applies f to the modulators
 abbrev pub mods_sent : (List Modulator → List Modulator) → Settings → Settings
 mods_sent f s = with_mods (f s.mods) s
 
--- a place that holds these settings, with no link among its modulators
+-- a place has these settings, and none of its modulators is linked
 pub record HoldsNoLink (b : Parts) (o : Owner) (at : Place) (s : Settings) : Type 0 where
   pub owner : (no_such_owner b o).stands ≡ false
   pub zone : (no_such_zone_at b o at).stands ≡ false
   pub there : settings_of b o at ≡ Some s
   pub free : list_any is_link s.mods ≡ false
 
--- the place after a change that brings no link
+-- the place after a change that adds no link
 module _ (b : Parts) (o : Owner) (at : Place) (f : List Modulator → List Modulator) (s : Settings) where
   pub still_no_link : HoldsNoLink b o at s → list_any is_link (f s.mods) ≡ false
       → HoldsNoLink (own_place_changed b o at (mods_sent f)) o at (mods_sent f s)
@@ -165,7 +165,7 @@ module _ (b : Parts) (o : Owner) (at : Place) (f : List Modulator → List Modul
     free = free;
   }
 
--- such a place, and what its modulators are
+-- an existing place without links, and its modulators
 record FreePlace (b : Parts) (o : Owner) (at : Place) : Type 0 where
   settings : Settings
   holds : HoldsNoLink b o at settings
@@ -178,7 +178,7 @@ free_place b o at owner zone free =
     let are = mods_there_are b o at s e in
     record { settings = s; holds = record { owner = owner; zone = zone; there = e; free = rw are at free }; are = are }
 
--- the tests of a place and of a link, where the place has none and the modulator is none
+-- neither the place nor the new modulator has a link
 module _ (b : Parts) (o : Owner) (at : Place) (m : Modulator) where
   no_link_before : (linked_modulator b o at m).stands ≡ false → (linked_place b o at).stands ≡ false
   no_link_before link = or_left (list_any is_link (mods_there b o at)) (is_link m) link

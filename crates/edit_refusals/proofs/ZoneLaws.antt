@@ -1,4 +1,4 @@
--- The forms that edit zones: what acceptance says of each.
+-- The forms that edit zones: when each is accepted.
 use Rattle.std.proofs.Common.{◌≡◌, ◌<◌, ◌≤◌, ◌^◌, ◌||◌, ℕ, false, nat_le, List, [], ◌∷◌, length, Option, Some, None}
 use Rattle.std.proofs.Common.{unwrap_or, refl, ◌∙◌, ap, arith, ◌+◌, Bool, true, not, subst}
 use Rattle.std.specs.Prelude.{IsSomeAnd, slice_get}
@@ -44,7 +44,7 @@ use Rattle.edit_refusals.proofs.Rises.{rises}
 
 -- ---- owners and their zones
 
--- an owner that is there has so many zones
+-- the zone count of an existing owner
 pub total_there : (b : Parts) (o : Owner) (P : ℕ → Type 0) → (no_such_owner b o).stands ≡ false → P (zone_total b o)
     → IsSomeAnd (own_zone_count b o) P
 total_there b (owner.Preset p) P h k =
@@ -67,7 +67,7 @@ owner_is_there b (owner.Inst i) P h =
     let x = source (λ x. x.zones) (slice_get b.instruments i) t.member t.there in
     not_below (length b.instruments) i (slice_get-within b.instruments i x.member x.there)
 
--- ---- the tests of one zone, as those of an owner with this zone alone
+-- ---- the tests of one zone are those of an owner with only this zone
 
 no_name : IsName []
 no_name = (omega arith, tt)
@@ -229,7 +229,7 @@ module _ (b : Parts) (o : Owner) (k target : ℕ) where
   within_set_target sound h =
       ap broken (totals-target_set b o k target (target_goes h).there) ∙ no_limit_of b sound.valid.limits
 
--- ---- what is there
+-- ---- zones of a sound bank are few
 
 is_true : (t : Bool) → not t ≡ false → t ≡ true
 is_true true h = refl
@@ -313,7 +313,7 @@ module _ (b : Parts) (o : Owner) (k : ℕ) (axis : Axis) (keep : Keep) where
       no_limit_of (zone_joined b o k axis keep)
       (sound_zone_joined b o k axis keep (can_of_join h) sound).valid.limits
 
-  -- the second zone's number is one of 32 bits
+  -- the second zone's number has 32 bits
   pub next_of_join_zone : IsSound b → refusal b (steps.Zone o (JoinZone k axis keep)) ≡ None → k + 1 < 2 ^ 32
   next_of_join_zone sound h =
       let s = join b o k axis keep (can_of_join_zone h) in

@@ -1,4 +1,4 @@
--- The causes of a step stand in the order of their numbers, so the lowest of those that stand is told.
+-- The causes of a step are in the order of their numbers, so the reported cause has the lowest number.
 use Rattle.std.specs.Prelude.{◌≡◌, ◌≤◌, true, Some, MatchOption, ◌⊎◌}
 use Rattle.std.specs.Option.{option_map}
 use Rattle.std.specs.List.{Any}
@@ -12,22 +12,22 @@ use Rattle.edit_forms.specs.CauseNames.{number_of}
 use Rattle.edit_forms.specs.Causes.{Test}
 use Rattle.edit_forms.specs.Steps.{raw, causes, refusal}
 
--- along the tests of a step no number is below one before it
+-- the numbers of a step's tests are non-decreasing
 abbrev pub NumbersNeverFall : Type 0
 NumbersNeverFall = (b : Parts) (s : Step) → IsNonDecreasingBy (λ (t : Test). number_of t.cause) (causes b s)
 
--- a test of the step that stands has the cause, or it is the first limit that the changed bank would break
+-- the cause applies: by a test of the step, or as the first limit that the changed bank would break
 abbrev pub Stands : Parts → Step → Cause → Type 0
 Stands b s cause =
     Any (λ (t : Test). (t.stands ≡ true) × (t.cause ≡ cause)) (causes b s)
     ⊎ (option_map Full (broken_limit (raw b s)) ≡ Some cause)
 
--- it stands, and none that stands has a lower number
+-- the cause applies, and no other that applies has a lower number
 pub record IsLowest (b : Parts) (s : Step) (cause : Cause) : Type 0 where
   pub stands : Stands b s cause
   pub lowest : (other : Cause) → Stands b s other → number_of cause ≤ number_of other
 
--- a cause is told that is the lowest, and none only where none stands
+-- the reported cause is the lowest that applies; none is reported only if none applies
 abbrev pub LowestIsTold : Type 0
 LowestIsTold =
     (b : Parts) (s : Step) → MatchOption (refusal b s) ((other : Cause) → Stands b s other → ⊥) (IsLowest b s)

@@ -1,4 +1,4 @@
--- The number and the name by which each refusal is told.
+-- The number and the name of each refusal, as fault lines print them.
 use Rattle.std.specs.Prelude.{ℕ, List, codes}
 use Rattle.edit_forms.specs.CauseNames.{number_of, name_of}
 use Rattle.edit_refusals.specs.declared.refusal.Refusal.{Refusal}

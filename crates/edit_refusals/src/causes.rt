@@ -1,4 +1,4 @@
-//! The tests that refuse an edit: each answers its cause where it stands.
+//! The tests of whether an edit is refused: each returns its cause if it applies.
 ghost use Rattle.std.specs.Prelude.{◌≡◌, ◌<◌, ◌+◌, length};
 ghost use Rattle.std.specs.Option.{option_map};
 ghost use Rattle.bank_parts.specs.Texts as texts;
@@ -18,7 +18,7 @@ use sf_base::Lent;
 use sf_base::limits::{COMMENT_LENGTH, TEXT_LENGTH};
 use zone_ranges::{Axis, Keep};
 
-/// A limit that the changed bank would break, the last of the tests of every form.
+/// The last test of every form: a limit that the changed bank would break.
 pub(crate) fn full(limit: Option<Limit>) -> Result<(), Cause>
     ensures { Judges (option_map cause.Full limit) result }
 {
@@ -62,7 +62,7 @@ pub(crate) fn no_such_owner(bank: &Bank<'_>, owner: Owner) -> Result<(), Cause>
 
 // ---- zones of a preset or an instrument
 
-/// How many zones an owner has, the global one not counted; none where there is no such owner.
+/// The number of zones of an owner without its global zone; 0 if there is no such owner.
 pub(crate) fn zone_total(bank: &Bank<'_>, owner: Owner) -> usize
     ensures { result ≡ causes.zone_total bank.now owner }
 {
@@ -75,7 +75,7 @@ pub(crate) fn no_such_zone(bank: &Bank<'_>, owner: Owner, zone: u32) -> Result<(
     judge(zone_total(bank, owner) <= zone as usize, Cause::NoSuchZone)
 }
 
-/// The global zone is always there.
+/// Every owner has a global zone.
 pub(crate) fn no_such_zone_at(bank: &Bank<'_>, owner: Owner, place: Place) -> Result<(), Cause>
     ensures { Passes (causes.no_such_zone_at bank.now owner place) result }
 {
@@ -85,7 +85,7 @@ pub(crate) fn no_such_zone_at(bank: &Bank<'_>, owner: Owner, place: Place) -> Re
     }
 }
 
-/// A zone's target is past so many members; the cause says of which kind they are.
+/// The target of a zone is not below `count`; `cause` names the kind of target.
 pub(crate) fn no_such_target<H>(
     count: usize,
     owner: &WithZones<H>,
@@ -110,7 +110,7 @@ pub(crate) fn bad_range<H>(owner: &WithZones<H>) -> Result<(), Cause>
 
 // ---- one zone
 
-/// There is no zone behind this one.
+/// There is no zone after this one.
 pub(crate) fn no_next_zone(bank: &Bank<'_>, owner: Owner, zone: u32) -> Result<(), Cause>
     ensures { Passes (causes.no_such_zone bank.now owner (zone + 1)) result }
 {
@@ -118,7 +118,7 @@ pub(crate) fn no_next_zone(bank: &Bank<'_>, owner: Owner, zone: u32) -> Result<(
     judge(zone_total(bank, owner) <= next, Cause::NoSuchZone)
 }
 
-/// The target is past the members that zones of the owner may target.
+/// The target does not exist: an instrument for a preset, a sample for an instrument.
 pub(crate) fn no_such_target_of(bank: &Bank<'_>, owner: Owner, target: u16) -> Result<(), Cause>
     ensures { Passes (causes.no_such_target_of bank.now owner target) result }
 {
@@ -169,7 +169,7 @@ pub(crate) fn not_joinable(
 
 // ---- modulators of a place
 
-/// How many modulators a place has; none where there is no such place.
+/// The number of modulators of a place; 0 if there is no such place.
 pub(crate) fn mods_there(bank: &Bank<'_>, owner: Owner, place: Place) -> usize
     ensures { result ≡ length (causes.mods_there bank.now owner place) }
 {
@@ -252,14 +252,14 @@ pub(crate) fn no_such_link(bank: &Bank<'_>, kind: Kind) -> Result<(), Cause>
     )
 }
 
-/// A sample that is there may link to itself and to the others.
+/// The link of an existing sample may be itself or any other sample.
 pub(crate) fn no_such_link_among(bank: &Bank<'_>, kind: Kind) -> Result<(), Cause>
     ensures { Passes (causes.no_such_link_among bank.now kind) result }
 {
     judge(link_misses(bank.samples().len(), kind), Cause::NoSuchSample)
 }
 
-/// The loop that the sample would get.
+/// The loop would not be inside the sample.
 pub(crate) fn bad_loop_of(
     bank: &Bank<'_>,
     sample: u32,
@@ -303,7 +303,7 @@ pub(crate) fn used_sample(bank: &Bank<'_>, sample: u32) -> Result<(), Cause>
     judge(bank.is_sample_in_use(sample), Cause::InUse)
 }
 
-// ---- places
+// ---- indexes
 
 pub(crate) fn bad_place(count: usize, at: u32) -> Result<(), Cause>
     ensures { Passes (causes.bad_place count at) result }

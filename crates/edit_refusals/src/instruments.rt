@@ -1,4 +1,4 @@
-//! Why each form that edits instruments is refused.
+//! Causes of refusal of each form that edits instruments.
 ghost use Rattle.std.specs.Prelude.{ℕ, List};
 ghost use Rattle.bank_parts.specs.Sound.{IsSound};
 ghost use Rattle.edit_forms.specs.declared.instruments.InstrumentStep.TheVariants as form;

@@ -1,14 +1,13 @@
-//! The laws of the order of causes.
+//! Theorems about the order of causes.
 ghost use Rattle.edit_refusals.specs.Order.{LowestIsTold, NumbersNeverFall};
 
-/// The causes that a step can have are tried in the order of their numbers: along their list no number
-/// is below one before it.
+/// The possible causes of a step are tested in the order of their numbers.
 pub fn numbers_never_fall()
     ensures { NumbersNeverFall }
 {}
 
-/// The cause that `refuse` tells stands against the step, and its number is the lowest of all that stand,
-/// the first limit that would be broken among them. None is told only where none stands.
+/// The cause that `refuse` returns applies to the step, and has the lowest number of all that apply;
+/// among limits it is the first that would be broken. It returns none only if none applies.
 pub fn lowest_is_told()
     ensures { LowestIsTold }
 {}

@@ -1,4 +1,4 @@
-//! Why an edit of a bank is refused: the one call that judges a step.
+//! Why an edit of a bank is refused: `refuse` judges a step.
 #![tactic(auto)]
 
 mod causes;

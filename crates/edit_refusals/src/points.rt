@@ -1,4 +1,4 @@
-//! Why each form that edits what one sample holds is refused.
+//! Causes of refusal of each form that edits one sample's contents.
 ghost use Rattle.std.specs.Prelude.{◌≡◌, false};
 ghost use Rattle.bank_parts.specs.Sound.{IsSound};
 ghost use Rattle.edit_forms.specs.declared.points.PointStep.TheVariants as form;
@@ -40,7 +40,7 @@ fn refuse_trim(bank: &Bank<'_>, sample: u32, front: u32, back: u32) -> Result<()
     loop_cut(bank, sample, front, back)
 }
 
-// More points than 64 bits count break the same limit as the most that they count.
+// A sum that saturates at 64 bits breaks the same limit as the exact sum.
 fn refuse_extend(
     bank: &Bank<'_>,
     sample: u32,

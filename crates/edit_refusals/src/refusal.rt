@@ -1,33 +1,33 @@
-//! Why an edit is refused, or a session can't go back or forth.
+//! Why an edit is refused, or a session cannot undo or redo.
 ghost use Rattle.std.specs.Prelude.{◌≡◌};
 ghost use Rattle.edit_refusals.specs.RefusalNames.{refusal_number, refusal_name};
 
 use edit_forms::Cause;
 use thiserror::Error;
 
-/// Why an edit is refused, or a session can't go back or forth.
+/// Why an edit is refused, or a session cannot undo or redo.
 #[derive(Clone, Copy, Debug, PartialEq, Eq, Error)]
 pub enum Refusal {
-    /// Of one step: the first cause that stands, in the order of their numbers.
+    /// One step is refused for this cause, the first that applies in the order of their numbers.
     #[error("{0}")]
     Of(Cause),
-    /// No memory was there. Of one step only where no cause stands; a group and a session may answer it in
-    /// place of any cause.
+    /// An allocation failed. For one step it is returned only if no cause applies; for a group and in a
+    /// session it may be returned in any case.
     #[error("out of memory")]
     OutOfMemory,
-    /// A session is at its first bank.
+    /// The session is at its first bank.
     #[error("there is nothing to undo")]
     NothingToUndo,
-    /// A session is at its last bank.
+    /// The session is at its last bank.
     #[error("there is nothing to redo")]
     NothingToRedo,
-    /// Of a group: the first step that is refused, counted from 0, with its cause.
+    /// A group is refused: the index of the first refused step, counted from 0, and its cause.
     #[error("step {0}: {1}")]
     GroupRefused(usize, Cause),
 }
 
 impl Refusal {
-    /// The number by which a fault line tells it.
+    /// The number of the refusal, as fault lines print it.
     pub fn number(self) -> u8
         ensures { result ≡ refusal_number self }
     {
@@ -40,7 +40,7 @@ impl Refusal {
         }
     }
 
-    /// The name by which a fault line tells it.
+    /// The name of the refusal, as fault lines print it.
     pub fn name(self) -> &'static str
         ensures { result.now ≡ refusal_name self }
     {

@@ -1,4 +1,4 @@
-//! Why a step is refused: the first cause that stands against it.
+//! Why a step is refused: the first cause that applies.
 ghost use Rattle.bank_parts.specs.Sound.{IsSound};
 ghost use Rattle.edit_forms.specs.Steps.{refusal};
 ghost use Rattle.edit_refusals.specs.Answers.{Judges};
@@ -13,8 +13,8 @@ use crate::zones::refuse_zone_step;
 use bank_core::Bank;
 use edit_forms::{Cause, Step};
 
-/// The first cause that stands against the step, in the order of their numbers, if there is one. It
-/// changes nothing, and takes no memory.
+/// Checks whether a step is accepted, and returns the first cause that applies, in the order of their
+/// numbers, if it is not. It allocates nothing.
 pub fn refuse(bank: &Bank<'_>, step: &Step<'_>) -> Result<(), Cause>
     ensures refusal { Judges (refusal bank.now step.now) result }
     ensures sound { IsSound bank.now }

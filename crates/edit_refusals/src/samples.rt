@@ -1,4 +1,4 @@
-//! Why each form that edits the list of samples is refused.
+//! Causes of refusal of each form that edits the list of samples.
 ghost use Rattle.std.specs.Prelude.{ℕ, List};
 ghost use Rattle.bank_parts.specs.Sound.{IsSound};
 ghost use Rattle.edit_forms.specs.declared.samples.SampleStep.TheVariants as form;

@@ -1,4 +1,4 @@
-//! Why each form that edits generators or modulators is refused.
+//! Causes of refusal of each form that edits generators or modulators.
 ghost use Rattle.std.specs.Prelude.{◌≡◌, false};
 ghost use Rattle.bank_parts.specs.Sound.{IsSound};
 ghost use Rattle.edit_forms.specs.declared.settings.SettingStep.TheVariants as form;

@@ -1,4 +1,4 @@
-//! Why each form that edits texts is refused.
+//! Causes of refusal of each form that edits texts.
 ghost use Rattle.bank_parts.specs.Sound.{IsSound};
 ghost use Rattle.edit_forms.specs.declared.texts.TextStep.TheVariants as form;
 ghost use Rattle.edit_forms.specs.declared.step.Step.TheVariants as steps;

@@ -1,4 +1,4 @@
-//! Why each form that edits the zones of presets and instruments is refused.
+//! Causes of refusal of each form that edits the zones of presets and instruments.
 ghost use Rattle.std.specs.Prelude.{◌≡◌, false};
 ghost use Rattle.bank_parts.specs.Sound.{IsSound};
 ghost use Rattle.edit_forms.specs.declared.zones.ZoneStep.TheVariants as form;

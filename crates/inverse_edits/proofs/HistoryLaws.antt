@@ -1,4 +1,4 @@
--- Histories of a bank with the edits that take it back and those that come next.
+-- The history of a bank with undo and redo lists.
 use Rattle.std.proofs.Common.{◌≡◌, ◌+◌, List, [], ◌∷◌, ◌++◌, map, reverse, length, take, refl, sym, subst, ◌∙◌, ap}
 use Rattle.std.proofs.Common.{append_assoc, Some, arith}
 use Rattle.std.proofs.lemmas.Grind.{common_steps}
@@ -33,7 +33,7 @@ pub bank_total : (b : Parts) (undos next : List Edit)
     → length (banks_before b undos ++ b ∷ banks_after b next) ≡ length undos + 1 + length next
 bank_total b undos next = grind (arith, common_steps, length_before b undos, length_after b next)
 
--- ---- what a history is
+-- ---- the banks and edits are a history
 
 follow_after : (b : Parts) (next : List Edit) → AllTaken b next → Follow b (banks_after b next) next
 follow_after b [] t = tt
@@ -62,7 +62,7 @@ is_history b undos next s t n = record {
 pub stands : (b : Parts) (undos next : List Edit) → bank_now (history_of b undos next) ≡ Some b
 stands b undos next = rw (← length_before b undos) (get_seam (banks_before b undos) (banks_after b next) b)
 
--- ---- steps of a history
+-- ---- undo, redo and edit in a history
 
 module _ (b c : Parts) (e i : Edit) (undos next : List Edit) (back : raw c i ≡ b) (redone : inverse c i ≡ e) where
   banks_grow : (more : List Parts)
@@ -111,7 +111,7 @@ module _ (b c : Parts) (e i : Edit) (undos next : List Edit) (back : raw c i ≡
       let place : length (i ∷ undos) ≡ length undos + 1 = omega arith in
       λ k. record { banks = banks k; edits = edits k; place = place k }
 
--- ---- the way back
+-- ---- the undo list
 
 inverses : (b : Parts) (undos : List Edit) → IsSound b → AllTaken b undos
     → map (λ (step : Parts × Edit). inverse step.0 step.1) (zip (banks_before b undos) (undo_list b undos))

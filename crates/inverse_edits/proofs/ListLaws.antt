@@ -1,4 +1,4 @@
--- Lists that are cut where another list was put behind them.
+-- Taking prefixes of appended lists, and reversing and zipping them.
 use Rattle.std.proofs.Common.{◌≡◌, suc, ◌+◌, add-one, List, [], ◌∷◌, ◌++◌, map, reverse, length, take, refl, ap}
 use Rattle.std.proofs.Common.{Some, arith}
 use Rattle.std.proofs.lemmas.Grind.{common_steps}

@@ -1,4 +1,4 @@
--- Steps over a bank and its lists of edits, whose last edit is the next one, as steps of the history.
+-- Undo, redo and edit on a bank with undo and redo lists (whose last edits are next) agree with the history.
 use Rattle.std.proofs.Common.{◌≡◌, List, [], ◌∷◌, reverse, refl, sym, subst, ◌∙◌, ap, arith, OnOk, IfErr}
 use Rattle.std.specs.Prelude.{Result, Ok, Err}
 use Rattle.std.proofs.lemmas.Grind.{common_steps}
@@ -18,7 +18,7 @@ use Rattle.inverse_edits.specs.Histories.{history_of, IsForth, IsUndoFailure, Is
 use Rattle.inverse_edits.proofs.ListLaws.{reverse_push}
 use Rattle.inverse_edits.proofs.HistoryLaws.{forth, edit_done, bank_total, stands}
 
--- what a session keeps
+-- the invariant of a session
 pub record Keeps (b : Parts) (undos next : List Edit) : Type 0 where
   pub sound : IsSound b
   pub back : AllTaken b undos
@@ -29,7 +29,7 @@ taken_back : (b : Parts) (e : Edit) (others : List Edit) → IsUndone b e → Al
 taken_back b e others u t = (u.taken, subst (λ (c : Parts). AllTaken c others) (sym u.restored) t)
 
 module _ (old new : Parts) (f f' t t' : List Edit) (s : IsSound old) (from : AllTaken old (reverse f)) where
-  -- what a step that is done says of the lists from their last edit on
+  -- what a successful undo or redo implies about the reversed lists
   record Done (d : IsDoneStep old new f f' t t') : Type 0 where
     from_is : reverse f ≡ d.edit ∷ reverse f'
     to_is : reverse t' ≡ inverse old d.edit ∷ reverse t

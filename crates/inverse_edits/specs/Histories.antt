@@ -1,4 +1,4 @@
--- What a session is: a list of banks, the edit between each two neighbours, and a place in the list.
+-- The model of a session: a list of banks, the edit between each two consecutive banks, and the current index.
 use Rattle.std.specs.Prelude.{◌≡◌, ℕ, ◌<◌, ◌+◌, Option, Some, None, List, [], ◌∷◌, ◌++◌, length, map, take, zip}
 use Rattle.std.specs.Prelude.{slice_get, option_and_then}
 use Rattle.bank_parts.specs.declared.parts.Parts.{Parts}
@@ -15,18 +15,18 @@ pub record History : Type 0 where
   pub edits : List Edit
   pub place : ℕ
 
--- the bank at the place
+-- the current bank
 abbrev pub bank_now : History → Option Parts
 bank_now h = slice_get h.banks h.place
 
--- from a bank on, each edit is taken and gives the next bank
+-- starting from a bank, each edit is accepted and gives the next bank
 abbrev pub Follow : Parts → List Parts → List Edit → Type 0
 Follow b [] [] = Unit {0}
 Follow b (c ∷ banks) (e ∷ edits) = IsTaken b e × (c ≡ raw b e) × Follow c banks edits
 Follow b [] (e ∷ edits) = ⊥
 Follow b (c ∷ banks) [] = ⊥
 
--- the same of a list of banks, which is not empty
+-- the same for a non-empty list of banks
 abbrev pub AreLinked : List Parts → List Edit → Type 0
 AreLinked [] edits = ⊥
 AreLinked (b ∷ banks) edits = Follow b banks edits
@@ -37,11 +37,11 @@ pub record IsHistory (h : History) : Type 0 where
 
 -- ---- the calls
 
--- one bank, and no edit yet
+-- one bank, and no edits
 abbrev pub begun : Parts → History
 begun b = record { banks = b ∷ []; edits = []; place = 0 }
 
--- both lists end at the place; then come the edit and the bank that it gives
+-- both lists are truncated after the current bank, and the edit and the bank that it gives are appended
 abbrev pub edited : History → Edit → Parts → History
 edited h e next =
     record {
@@ -51,41 +51,40 @@ edited h e next =
       place = h.place + 1;
     }
 
--- the bank at the place takes the edit
+-- the current bank accepts the edit
 pub record IsEdited (old new : History) (e : Edit) : Type 0 where
   pub bank : Parts
   pub here : bank_now old ≡ Some bank
   pub accepted : refusal bank e ≡ None
   pub changed : new ≡ edited old e (raw bank e)
 
--- why the bank at the place refuses the edit; memory may be wanting in any case
+-- why the current bank refuses the edit; `OutOfMemory` is possible in any case
 abbrev pub IsRefusalNow : History → Edit → Refusal → Type 0
 IsRefusalNow h e OutOfMemory = Unit {0}
 IsRefusalNow h e why = option_and_then (λ (b : Parts). refusal b e) (bank_now h) ≡ Some why
 
--- one place forth, in the same lists; undo goes from new to old
+-- the index increases by one in the same lists (redo); for undo the arguments are exchanged
 pub record IsForth (old new : History) : Type 0 where
   pub next : old.place + 1 < length old.banks
   pub moved : new ≡ record old { place = old.place + 1 }
 
--- there is nothing to undo at the first place; memory is out only elsewhere
+-- `NothingToUndo` at the first bank, otherwise `OutOfMemory`
 abbrev pub IsUndoFailure : History → Refusal → Type 0
 IsUndoFailure h NothingToUndo = h.place ≡ 0
 IsUndoFailure h OutOfMemory = 0 < h.place
 IsUndoFailure h why = ⊥
 
--- there is nothing to redo at the last place; memory is out only elsewhere
+-- `NothingToRedo` at the last bank, otherwise `OutOfMemory`
 abbrev pub IsRedoFailure : History → Refusal → Type 0
 IsRedoFailure h NothingToRedo = h.place + 1 ≡ length h.banks
 IsRedoFailure h OutOfMemory = h.place + 1 < length h.banks
 IsRedoFailure h why = ⊥
 
--- the inverses of the edits up to the place, each read on the bank before its edit, the oldest first
+-- the undo list: the inverses of the edits before the current bank, the oldest edit's first
 abbrev pub way_back : History → List Edit
 way_back h = map (λ (step : Parts × Edit). inverse step.0 step.1) (take h.place (zip h.banks h.edits))
 
--- ---- the history that a bank has with the edits that take it back, the last one's first, and those
--- that come next
+-- ---- the history of a bank with its undo edits, the last edit's inverse first, and its redo edits
 
 -- the banks before this one, the oldest first
 abbrev pub banks_before : Parts → List Edit → List Parts

@@ -1,4 +1,4 @@
--- One step of a session, over its bank and its lists of edits.
+-- Undo, redo and edit, on a bank and the lists of undo and redo edits.
 use Rattle.std.specs.Prelude.{◌≡◌, None, Some, List, [], ◌∷◌, ◌++◌, Result, Ok, Err}
 use Rattle.bank_parts.specs.declared.parts.Parts.{Parts}
 use Rattle.edit_forms.specs.declared.edit.Edit.{Edit}
@@ -8,11 +8,11 @@ use Rattle.edit_forms.specs.Fits.{FitsEdit}
 use Rattle.edit_refusals.specs.Edits.{raw, refusal}
 use Rattle.bank_edits.specs.EditChanges.{inverse}
 
--- the bank takes the last edit of the list, if there is one
+-- the bank accepts the last edit of the list, if there is one
 abbrev pub TakesLast : Parts → List Edit → Type 0
 TakesLast b edits = (left : List Edit) (e : Edit) → edits ≡ left ++ e ∷ [] → refusal b e ≡ None
 
--- the last edit of one list was done, and what takes it back stands behind the other list
+-- the last edit of a list was applied, and its inverse appended to the other list
 pub record IsDoneStep (old new : Parts) (old_from new_from old_to new_to : List Edit) : Type 0 where
   pub edit : Edit
   pub last : old_from ≡ new_from ++ edit ∷ []
@@ -24,7 +24,7 @@ pub record IsNoStep (old new : Parts) (old_from new_from old_to new_to : List Ed
   pub from : new_from ≡ old_from
   pub to : new_to ≡ old_to
 
--- why no step is done: an empty list is at its end, and of others only memory may be wanting
+-- why nothing was applied: `at_end` for an empty list, otherwise `OutOfMemory`
 abbrev pub why_not : List Edit → Refusal → Refusal
 why_not [] at_end = at_end
 why_not (e ∷ edits) at_end = OutOfMemory
@@ -34,7 +34,7 @@ abbrev pub IsStep : Parts → Parts → List Edit → List Edit → List Edit �
 IsStep old new f f' t t' at_end (Ok done) = IsDoneStep old new f f' t t'
 IsStep old new f f' t t' at_end (Err why) = IsNoStep old new f f' t t' × (why ≡ why_not f at_end)
 
--- the edit was done, and what takes it back stands behind the list
+-- the edit was applied, and its inverse appended to the list
 pub record IsDoneEdit (old new : Parts) (was now : List Edit) (e : Edit) : Type 0 where
   pub fits : FitsEdit e
   pub accepted : refusal old e ≡ None

@@ -1,5 +1,4 @@
-//! Edits undone and redone: a session of edits, the law that the inverse of an edit undoes it, and the edits that
-//! change no sound.
+//! Sessions of edits with undo and redo, the law that an edit's inverse undoes it, and neutral edits.
 #![tactic(auto)]
 
 mod session;

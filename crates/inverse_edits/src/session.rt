@@ -1,4 +1,4 @@
-//! A bank with the edits that take it back and those that bring it forth again.
+//! A bank with its undo and redo lists.
 ghost use Rattle.std.specs.Prelude.{◌≡◌, Some, IfErr, OnOk, OnErr};
 ghost use Rattle.inverse_edits.specs.Histories.{IsHistory, bank_now, begun, IsEdited, IsRefusalNow, IsForth, IsUndoFailure, IsRedoFailure, way_back};
 
@@ -9,16 +9,17 @@ use edit_refusals::Refusal;
 use std::alloc::Global;
 use std::marker::Model;
 
-/// A list of banks, each but the first made of the one before by an edit, and a place in that list.
-/// Only the bank at the place is kept: the others follow from the edits that take it back, the oldest
-/// first, and from those that come next, the nearest last.
+/// An editing session: a list of banks, each made from the one before by an edit, and a current bank.
+///
+/// Only the current bank is stored. The others follow from two lists of edits: those that undo, the
+/// oldest edit's first, and those that redo, the next one last.
 pub struct Session<'a> {
     bank: Bank<'a>,
     undo: Vec<Edit<'a>>,
     redo: Vec<Edit<'a>>,
 }
 
-// A call at each exit of what holds a session, where a derived drop would be written out.
+// Written by hand: a derived drop is inlined wherever a value that holds a session is dropped.
 impl Drop for Session<'_> {
     fn drop(self) {
         let Session {
@@ -47,7 +48,7 @@ impl<'a> Model for Session<'a> {
 }
 
 impl<'a> Session<'a> {
-    /// A session that begins with this bank. It takes no memory.
+    /// Starts a session with this bank. It allocates nothing.
     pub fn new(alloc: Global, bank: Bank<'a>) -> Session<'a>
         ensures { result ≡ begun bank.entry }
     {
@@ -59,7 +60,7 @@ impl<'a> Session<'a> {
         }
     }
 
-    /// The bank at the place.
+    /// Returns the current bank.
     pub fn bank(&self) -> &Bank<'a>
         ensures value { bank_now self.now ≡ Some result.now }
         ensures history { IsHistory self.now }
@@ -67,9 +68,10 @@ impl<'a> Session<'a> {
         &self.bank
     }
 
-    /// Does an edit, after which nothing is there to redo. Or refuses it as the bank at the place does (one
-    /// step by the first cause that stands, a group by its first step that is refused) or, in any case, for
-    /// out of memory, returns it, and changes nothing: what was there to redo is there still.
+    /// Applies an edit to the current bank, and clears the redo list.
+    ///
+    /// A refused edit is returned with the reason, and nothing changes: one step is refused for its first
+    /// cause, a group for its first refused step. `OutOfMemory` may be returned in any case.
     pub fn edit(&mut self, alloc: Global, edit: Edit<'a>) -> Result<(), (Refusal, Edit<'a>)>
         ensures done { OnOk result (IsEdited self.old self.new edit.entry) }
         ensures unchanged { OnErr result (self.new ≡ self.old) }
@@ -85,8 +87,8 @@ impl<'a> Session<'a> {
         }
     }
 
-    /// Goes one bank back. It returns `NothingToUndo` at the first bank, whatever memory there is, and
-    /// else only out of memory; then nothing was changed.
+    /// Undoes the last edit. Returns `NothingToUndo` at the first bank, and otherwise fails only with
+    /// `OutOfMemory`; nothing changes then.
     pub fn undo(&mut self, alloc: Global) -> Result<(), Refusal>
         ensures done { OnOk result (IsForth self.new self.old) }
         ensures unchanged { OnErr result (self.new ≡ self.old) }
@@ -101,8 +103,8 @@ impl<'a> Session<'a> {
         )
     }
 
-    /// Goes one bank forth. It returns `NothingToRedo` at the last bank, whatever memory there is, and
-    /// else only out of memory; then nothing was changed.
+    /// Redoes the next edit. Returns `NothingToRedo` at the last bank, and otherwise fails only with
+    /// `OutOfMemory`; nothing changes then.
     pub fn redo(&mut self, alloc: Global) -> Result<(), Refusal>
         ensures done { OnOk result (IsForth self.old self.new) }
         ensures unchanged { OnErr result (self.new ≡ self.old) }
@@ -117,8 +119,8 @@ impl<'a> Session<'a> {
         )
     }
 
-    /// The edits that take the bank back to the first, the oldest edit's first: done from the last on,
-    /// each takes its edit back.
+    /// Returns the inverses of all edits up to the current bank, the oldest edit's first. Applied from
+    /// the last to the first, they restore the first bank.
     pub fn undo_list(&self) -> &[Edit<'a>]
         ensures { result.now ≡ way_back self.now }
     {

@@ -1,4 +1,4 @@
-//! One step of a session, over its bank and its lists of edits.
+//! Undo, redo and edit, on a bank and the lists of undo and redo edits.
 ghost use Rattle.std.specs.Prelude.{◌≡◌, ◌<◌, ◌++◌, ◌∷◌, [], vec_len, vec_capacity};
 ghost use Rattle.inverse_edits.specs.Steps.{IsStep, TakesLast, IsEdit};
 
@@ -8,8 +8,8 @@ use edit_forms::Edit;
 use edit_refusals::Refusal;
 use std::alloc::Global;
 
-/// Does the last edit of a list, which the bank takes, and puts the edit that takes it back behind
-/// the other list. Of an empty list the refusal given is answered, whatever memory there is.
+/// Applies the last edit of a list, which the bank accepts, and appends its inverse to the other list.
+/// Returns `at_end` if the list is empty.
 pub(crate) fn do_last<'a>(
     alloc: Global,
     bank: &mut Bank<'a>,
@@ -39,8 +39,7 @@ pub(crate) fn do_last<'a>(
     }
 }
 
-/// Does an edit, and puts the one that takes it back behind the list; or returns it, with nothing
-/// changed.
+/// Applies an edit and appends its inverse to the list, or returns the edit and changes nothing.
 pub(crate) fn do_edit<'a>(
     alloc: Global,
     bank: &mut Bank<'a>,
@@ -61,7 +60,7 @@ pub(crate) fn do_edit<'a>(
     }
 }
 
-// Puts an edit behind a list that has the memory for it.
+// Appends an edit to a list with spare capacity.
 fn push_reserved<'a>(list: &mut Vec<Edit<'a>>, edit: Edit<'a>)
     requires { vec_len list.old < vec_capacity list.old }
     ensures { list.new.items ≡ list.old.items ++ edit.entry ∷ [] }

@@ -1,4 +1,4 @@
--- Bags that are put behind others in flat lists of records.
+-- Appending bags to flat lists of records.
 use Rattle.std.proofs.Common.{◌≡◌, ◌≢◌, ◌==◌, false, ℕ, ◌+◌, ◌-◌, List, [], ◌∷◌, ◌++◌, length, refl, sym, ap, subst}
 use Rattle.std.proofs.Common.{◌∙◌, append_assoc, append-nil, ◌⊎◌, inl, inr, arith}
 use Rattle.std.specs.FinMap.{entries, len, len-entries}
@@ -17,12 +17,12 @@ no_members : {X : Type 0} (xs : List X) → length xs ≡ 0 → xs ≡ []
 no_members [] e = refl
 no_members (x ∷ xs) e = absurd (omega (arith, e))
 
--- ---- none, and some after others
+-- ---- appending nothing, and appending twice
 
 pub adds_none : (r : RecordsSoFar) → Adds r r []
 adds_none r = λ all a. subst (AreSoFar r) (sym (append-nil all)) a
 
--- all stay
+-- nothing changes
 pub adds_same : (a b : RecordsSoFar) → b.bags.items ≡ a.bags.items → b.gens.items ≡ a.gens.items
     → b.mods.items ≡ a.mods.items → Adds a b []
 adds_same a b bags gens mods =
@@ -35,9 +35,9 @@ adds_both a b c xs ys first second =
 pub adds_as : (a b : RecordsSoFar) (xs ys : List Bag) → xs ≡ ys → Adds a b xs → Adds a b ys
 adds_as a b xs ys same h = subst (Adds a b) same h
 
--- ---- one bag more
+-- ---- appending one bag
 
--- the index past all of them is behind the others
+-- the starts of an appended list end with its total
 starts-last : (at : ℕ × ℕ) (xs : List Bag) (b : Bag)
     → starts past_bag at (xs ++ b ∷ [])
     ≡ starts past_bag at xs ++ (at.0 + length (gens_in (xs ++ b ∷ [])), at.1 + length (mods_in (xs ++ b ∷ []))) ∷ []
@@ -77,7 +77,7 @@ module _ (old new : RecordsSoFar) (b : Bag) (gens : new.gens.items ≡ old.gens.
         mods = mods_are;
       }
 
--- the generators were put behind the others before
+-- the generators of the bag were appended before
 pub adds_held : (before mid new : RecordsSoFar) (gens more : List (ℕ × ℕ)) (mods : List Modulator)
     → HoldsGens before mid gens → EndsBag mid new more mods
     → Adds before new (record { gens = gens ++ more; mods = mods } ∷ [])
@@ -87,7 +87,7 @@ adds_held before mid new gens more mods h e =
     (e.mods_grow ∙ ap (λ ms. ms ++ mods) h.mods_stay)
     (e.bags_grow ∙ ap (λ is. is ++ (length new.gens.items, length new.mods.items) ∷ []) h.bags_stay)
 
--- ---- the bag of a global zone, where it holds something
+-- ---- the bag of a global zone, if it is not empty
 
 module _ (before now : RecordsSoFar) (g : GlobalZone) (gens mods : ℕ) (h : HoldsGens before now (entries g.gens))
     (gens_are : gens ≡ length now.gens.items - length before.gens.items)
@@ -138,6 +138,6 @@ terminals r gens mods g m all h =
     let mods_are = m ∙ ap (λ (ms : List Modulator). ms ++ no_modulator ∷ []) h.mods in
     λ i. record { bags = h.bags i; gens = gens_are i; mods = mods_are i }
 
--- how many bags there are
+-- the number of bags
 pub bags_so_far : (r : RecordsSoFar) (all : List Bag) → AreSoFar r all → length r.bags.items - 1 ≡ length all
 bags_so_far r all h = omega (arith, ap length h.bags, length-starts past_bag (0, 0) all)

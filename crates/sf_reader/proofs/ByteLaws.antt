@@ -3,7 +3,7 @@ use Rattle.std.proofs.Common.{◌<◌, ℕ, List, get_or, Fits, w8, arith}
 use Rattle.std.proofs.lemmas.List.{get_or_default}
 use Rattle.hydra_records.specs.Records.{AreBytes}
 
--- what a slice of `u8` says of its elements
+-- the elements of a slice of `u8` are bytes
 pub are_bytes : (xs : List ℕ) → ((i : ℕ) → Fits w8 (get_or xs i 0)) → AreBytes xs
 are_bytes xs fits =
     λ k d lt. let here =

@@ -1,4 +1,4 @@
--- What is read of the tables, member by member.
+-- The content of the tables, field by field.
 use Rattle.std.proofs.Common.{◌≡◌, ◌∙◌, ℕ, List, length, refl, ap}
 use Rattle.std.specs.Prelude.{count_by}
 use Rattle.riff_chunks.specs.Walk.{Chunk}
@@ -17,7 +17,7 @@ use Rattle.sf_reader.specs.Owners.{FlatMembers, added}
 use Rattle.sf_reader.specs.FlatContent.{FlatContent}
 use Rattle.sf_reader.specs.Content.{content_with}
 
--- the texts, cut after they were found
+-- truncating the texts after finding them is reading the texts
 cut_is : (info : List Chunk) → cut_of (texts_in info) ≡ texts_read info
 unfolding texts_in cut_of texts_read
 cut_is info = refl
@@ -26,7 +26,7 @@ cut_count_is : (info : List Chunk) → cut_count (texts_in info) ≡ texts_cut i
 unfolding texts_in cut_count texts_cut
 cut_count_is info = refl
 
--- what was found of lists and tables
+-- the parts that the reader has found, and their values by definition
 pub record Found (w : ListChunks) (heads : List SampleHead) (members : FlatMembers) (texts cut : Texts)
     (cut_texts sm24 : ℕ) (zone_counts : ZoneCounts) (loops links : ℕ) : Type 0 where
   pub texts_are : texts ≡ texts_in w.info

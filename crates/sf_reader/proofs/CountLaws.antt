@@ -1,4 +1,4 @@
--- How much is dropped or mended at most, so that it can be counted in 64 bits.
+-- Upper bounds on what is dropped or repaired, so that the counts fit in 64 bits.
 use Rattle.std.proofs.Common.{◌≡◌, ◌≤◌, ◌+◌, ◌-◌, ◌*◌, ◌==◌, ℕ, zero, suc, Bool, true, false, cond, List, [], ◌∷◌}
 use Rattle.std.proofs.Common.{length, take, drop, map, subst, sym, ap, arith}
 use Rattle.std.specs.Prelude.{sum_by, count_by, filter, not}
@@ -28,7 +28,7 @@ sum_by-within f most (x ∷ xs) h =
     let rest = sum_by-within f most xs h.1 in
     subst (λ (n : ℕ). n ≤ suc (length xs) * most) (sym (sum_by-cons f x xs)) (omega (arith, rest, h.0))
 
--- ---- what holds of all
+-- ---- a property of all elements
 
 all_of : {X : Type 0} (P Q : X → Type 0) (xs : List X) → ((x : X) → P x → Q x) → AllByRecursion P xs
     → AllByRecursion Q xs
@@ -45,9 +45,9 @@ all_left P zero xs h = h
 all_left P (suc n) [] h = tt
 all_left P (suc n) (x ∷ xs) h = all_left P n xs h.1
 
--- ---- of one bag
+-- ---- one bag
 
--- no more generators than a list has records
+-- at most as many generators as a list has records
 abbrev IsShort : Bagged → Type 0
 IsShort r = length r.gens ≤ 65536
 
@@ -57,7 +57,7 @@ dropped-few at r h = omega (arith, h)
 mended-few : (at : Level) (r : Bagged) → IsShort r → count_by is_mended (kept at r.gens) ≤ 65536
 mended-few at r h = omega (arith, h, count_by-le-length is_mended (kept at r.gens), length-kept at r.gens)
 
--- ---- of the bags of one head
+-- ---- the bags of one header
 
 passed_if : {X : Type 0} (P : X → Type 0) (b : Bool) (x : X) (xs : List X) → P x → AllByRecursion P xs
     → AllByRecursion P (cond b (x ∷ xs) xs)
@@ -81,7 +81,7 @@ length-looked_at at [] = omega arith
 length-looked_at at (r ∷ bags) =
     omega (arith, length-filter (has_target at) bags, count_by-le-length (has_target at) bags)
 
--- no more bags than a list has records, and each short
+-- at most as many bags as a list has records, each short
 record IsFew (bags : List Bagged) : Type 0 where
   few : length bags ≤ 65536
   short : AllByRecursion IsShort bags
@@ -117,7 +117,7 @@ ranges_mended-few at bags h =
       sum_by-within (λ (r : Bagged). count_by is_mended (kept at r.gens)) 65536 (looked_at at bags) short,
     )
 
--- ---- of all heads
+-- ---- all headers
 
 length-slice : {X : Type 0} (xs : List X) (from to : ℕ) → length (slice_range xs from to) ≤ length xs
 length-slice xs from to = omega (arith, length-take (to - from) (drop from xs), length-drop from xs)
@@ -183,7 +183,7 @@ few_windows : (bags : List Bagged) (is : List ℕ) → IsFew bags → AllByRecur
 few_windows bags [] h = tt
 few_windows bags (i ∷ is) h = few_windows_from bags i is h
 
--- few enough that two such counts together are small
+-- small enough that the sum of two such counts fits in 64 bits
 pub record AreFew (c : ZoneCounts) : Type 0 where
   pub zones : c.zones ≤ 281474976710656
   pub gens : c.gens ≤ 281474976710656
@@ -235,7 +235,7 @@ both-small a b f g = record {
   ranges = omega (arith, f.ranges, g.ranges);
 }
 
--- a part of few
+-- parts of a small sum are small
 pub part-small : (a b c whole : ZoneCounts) → added a (added b c) ≡ whole → AreFew whole → AreSmall (added a b)
 part-small a b c whole e f =
     let zones : a.zones + (b.zones + c.zones) ≡ whole.zones = ap (λ (k : ZoneCounts). k.zones) e in

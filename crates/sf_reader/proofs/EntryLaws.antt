@@ -1,4 +1,4 @@
--- Maps of generators as the last entries of a list.
+-- Generator maps stored as the last entries of a list.
 use Rattle.std.proofs.Common.{◌≡◌, ◌<◌, ◌≤◌, ◌+◌, ◌-◌, ◌^◌, ℕ, zero, suc, List, [], ◌∷◌, ◌++◌, length, take, drop}
 use Rattle.std.proofs.Common.{set, get_or, insert, Option, Some, None, Bool, not, ◌==◌, false, refl, sym, ap, subst}
 use Rattle.std.proofs.Common.{◌∙◌, zero-add, suc-add, arith}
@@ -44,11 +44,11 @@ pub take-all : {X : Type 0} (xs : List X) → take (length xs) xs ≡ xs
 take-all [] = refl
 take-all (x ∷ xs) = ap (λ ys. x ∷ ys) (take-all xs)
 
--- those from a place to the end
+-- the entries from index n to the end
 pub rest_is : {X : Type 0} (n : ℕ) (xs : List X) → take (length xs - n) (drop n xs) ≡ drop n xs
 rest_is n xs = ap (λ k. take k (drop n xs)) (sym (length-drop n xs)) ∙ take-all (drop n xs)
 
--- ---- nothing from the end on
+-- ---- an index at the end of a list
 
 pub ends_in_none : (es : List (ℕ × ℕ)) (start : ℕ) → start ≡ length es → EndsInMap start es
 ends_in_none es start e = record {
@@ -64,7 +64,7 @@ none_from es start e = from_sorted-nil (drop start es) (ap (λ n. drop n es) e �
 pub map_len : (es : List (ℕ × ℕ)) (start : ℕ) → EndsInMap start es → map.len (map_from start es) ≡ length es - start
 map_len es start m = len_held m.own refl ∙ length-drop start es
 
--- the last entries of a list are those of their map
+-- the list is the old entries followed by the entries of the map
 pub entries_behind : (old new : List (ℕ × ℕ)) (start : ℕ) (m : Gens) → start ≡ length old
     → take start new ≡ take start old → EndsInMap start new → map_from start new ≡ m → new ≡ old ++ map.entries m
 entries_behind old new start m from front ends is =
@@ -72,7 +72,7 @@ entries_behind old new start m from front ends is =
     let rest = sym (entries_held ends.own is) in
     front-and-rest start new ∙ (λ i. first i ++ rest i)
 
--- ---- one more is set
+-- ---- setting one operator
 
 module _ (start : ℕ) (es : List (ℕ × ℕ)) (m : EndsInMap start es) (op w : ℕ) (fits : op < 2 ^ 16)
     (fits_too : w < 2 ^ 16) where
@@ -115,7 +115,7 @@ module _ (start : ℕ) (es : List (ℕ × ℕ)) (m : EndsInMap start es) (op w :
         ap map.from_sorted (drop-insert start es i (op, w) m.within)
         ∙ inserted_is_insert m.own refl gap_held w fits fits_too
 
--- ---- a range is mended
+-- ---- repairing a range
 
 module _ (start : ℕ) (es : List (ℕ × ℕ)) (m : EndsInMap start es) (op : ℕ) where
   abbrev changes : Option ℕ → Bool

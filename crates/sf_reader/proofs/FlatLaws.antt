@@ -1,4 +1,4 @@
--- What is read of tables, in flat lists.
+-- The content of the tables, in flat lists.
 use Rattle.std.proofs.Common.{◌≡◌, List, [], ◌∷◌, length, map, Option, Some, None, IsSome, refl, ap, subst, arith}
 use Rattle.std.specs.Prelude.{MatchOption}
 use Rattle.sf_base.specs.Fields.{field_at}
@@ -30,7 +30,7 @@ use Rattle.sf_reader.specs.FlatContent.{heads_of, tables_at, flat_bank, flat_con
 use Rattle.sf_reader.specs.Content.{content_with}
 use Rattle.sf_reader.proofs.TableLaws.{rows_windows}
 
--- ---- of one level
+-- ---- one level
 
 module _ {H R : Type 0} (h : Headers H R) where
   heads_together : (rs : List R) (ws : List (List Bagged)) → length rs ≡ length ws
@@ -55,7 +55,7 @@ module _ {H R : Type 0} (h : Headers H R) where
         ≡ flat.tables_of (all_bags (map (own_bags h.level) ws))
     records_flat = ap (λ bs. flat.tables_of (all_bags bs)) (bags_together rs ws e)
 
--- ---- of all nine lists
+-- ---- all nine lists
 
 pub content_flat : (w : ListChunks) (t : Tables)
     → flat_content (content_of w.info w.sdta t)
@@ -85,7 +85,7 @@ content_flat w t =
       counts = all.counts;
     }
 
--- ---- the bank of flat lists
+-- ---- the bank with given flat lists
 
 pub is_flat : (f : Flat) (b : Parts) → f ≡ flat_bank b → IsFlatOf f b
 is_flat f b e = record {
@@ -98,7 +98,7 @@ is_flat f b e = record {
   samples = ap (λ (x : Flat). x.samples) e;
 }
 
--- where a sound bank has them, one is found
+-- if a sound bank has these lists, one is found
 pub is_there : (f : Flat) (o : Option Parts)
     → MatchOption o ((b : Parts) → IsSound b → IsFlatOf f b → ⊥) (λ b. IsFlatOf f b) → (b : Parts) → IsSound b
     → IsFlatOf f b → IsSome o
@@ -109,7 +109,7 @@ pub has_lists : (f : Flat) (o : Option Parts) (c : Parts)
     → MatchOption o ((b : Parts) → IsSound b → IsFlatOf f b → ⊥) (λ b. IsFlatOf f b) → o ≡ Some c → IsFlatOf f c
 has_lists f o c h e = subst (λ p. MatchOption p ((b : Parts) → IsSound b → IsFlatOf f b → ⊥) (λ b. IsFlatOf f b)) e h
 
--- it is the only one
+-- at most one sound bank has given flat lists
 pub bank_is : (f : Flat) (b c : Parts) → IsSound b → IsSound c → IsFlatOf f b → IsFlatOf f c → b ≡ c
 bank_is f b c sound sound_too are are_too =
     same_bank f b c sound (presets_plain c sound_too) (instruments_plain c sound_too) are are_too

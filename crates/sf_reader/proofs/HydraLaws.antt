@@ -1,4 +1,4 @@
--- The nine lists, as those of the presets, those of the instruments, and that of the samples.
+-- The nine lists as those of presets, of instruments, and of samples.
 use Rattle.std.proofs.Common.{◌≡◌, ◌≤◌, ◌-◌, ◌++◌, ℕ, Bool, true, leb, List, [], ◌∷◌, length, map, Some, None}
 use Rattle.std.proofs.Common.{Result, refl, sym, ap}
 use Rattle.std.specs.List.{AllByRecursion, list_all}
@@ -25,7 +25,7 @@ use Rattle.sf_reader.specs.Owners.{windows_of}
 use Rattle.bank_format.proofs.StepLaws.{split_none, both_none, passes_front, passes_after}
 use Rattle.sf_reader.proofs.WindowLaws.{or_zero-bags}
 
--- the nine lists of these
+-- the nine lists, from those of presets, instruments and samples
 abbrev pub seen : LevelTables PresetHead → LevelTables InstrumentHead → List SampleHead → Tables
 seen p i s = record {
   phdr = p.heads;
@@ -39,7 +39,7 @@ seen p i s = record {
   shdr = s;
 }
 
--- the steps of the presets' indexes, and those of the instruments'
+-- the index checks of presets
 abbrev preset_indexes : LevelTables PresetHead → List (Step ReadFault)
 preset_indexes p = level_index_steps (map (λ (h : PresetHead). h.bag) p.heads) p
 
@@ -68,7 +68,7 @@ instrument_indexes_pass p i s t r is none h =
     rw (← is, index_parts p i s)
     (passes_after (λ (u : Unit {0}). u) tt r (preset_indexes p) (instrument_indexes i) none h)
 
--- ---- how many records there are
+-- ---- the record counts
 
 held : (test : ℕ → Bool) (f : ReadFault) (ns : List ℕ) → first_broken (map (λ n. step (test n) f) ns) ≡ None
     → AllByRecursion (λ n. test n ≡ true) ns
@@ -77,7 +77,7 @@ held test f (n ∷ ns) e =
     let both = split_none (test n) (first_broken (map (λ k. step (test k) f) ns)) f e in
     (both.0, held test f ns both.1)
 
--- no list that presets and instruments are read from has too many
+-- the lists of presets and instruments have at most 65,536 records
 pub record AreFewRecords (t : Tables) : Type 0 where
   pub phdr : length t.phdr ≤ 65536
   pub pbag : length t.pbag ≤ 65536
@@ -103,7 +103,7 @@ few_records t e =
       igen = leb-true _ _ all.1.1.1.1.1.1.1.0;
     }
 
--- ---- the modulators of bags lie in their list
+-- ---- the modulators of bags are in their list
 
 inside : (is : List ℕ) (n : ℕ) → first_broken (index_steps is n) ≡ None → list_all (λ i. leb i (n - 1)) is ≡ true
 unfolding index_steps
@@ -141,7 +141,7 @@ all_mods_inside t e =
       mods_inside t.ibag (length t.igen) (length t.imod) third.1,
     )
 
--- the bags of each head, where a list of no modulators is seen as one zero record
+-- the bags of each header; an empty list of modulators reads as one zero record
 pub windows_are : {H : Type 0} (first_bag : H → ℕ) (l : LevelTables H) (heads : List H) (bags : List Bag)
     (gens : List Generator) (mods : List Modulator)
     → AreLists l heads bags gens mods → ModsInside bags mods

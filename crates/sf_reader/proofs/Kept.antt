@@ -1,4 +1,4 @@
--- The records that are kept, and the map that they are set in.
+-- The generator records that are kept, and the map of their operators.
 use Rattle.std.proofs.Common.{◌≡◌, ◌≤◌, ◌+◌, ℕ, true, false, cond, eqb, List, [], ◌∷◌, length, map, is_some, Some}
 use Rattle.std.proofs.Common.{refl, sym, ap, ◌∙◌, arith}
 use Rattle.std.specs.List.{list_any, find}
@@ -15,7 +15,7 @@ use Rattle.hydra_records.specs.declared.zone.Generator.{Generator}
 use Rattle.bank_format.specs.Zones.{is_target, target_of, before_target, allowed_in, last_of_each, kept, gens_of}
 use Rattle.sf_reader.specs.Gens.{entry_of, entries_in, one_if}
 
--- ---- the last of each operator, of records and of entries
+-- ---- the last record, or entry, of each operator
 
 stands_entry : (op : ℕ) (rs : List Generator)
     → list_any (λ (x : ℕ × ℕ). eqb x.0 op) (map entry_of rs) ≡ list_any (λ (x : Generator). eqb x.operator op) rs
@@ -35,7 +35,7 @@ last_entries (r ∷ rs) =
       | false ↦ ap (λ (es : List (ℕ × ℕ)). entry_of r ∷ es) rest
     ])
 
--- ---- the map of what is set
+-- ---- the map after setting all entries
 
 module _ (at : Level) (rs : List Generator) where
   pub set_kept : set_in_order no_gens (entries_in at rs) ≡ gens_of (kept at rs)
@@ -49,7 +49,7 @@ module _ (at : Level) (rs : List Generator) where
       last_of_each_are_all (entries_in at rs) ∙ ap length (sym (last_entries (allowed_in at (before_target at rs))))
       ∙ length-map (kept at rs) entry_of
 
--- ---- how many there are
+-- ---- the number of kept records
 
 length-last_of_each : (rs : List Generator) → length (last_of_each rs) ≤ length rs
 length-last_of_each [] = omega arith

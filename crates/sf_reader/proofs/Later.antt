@@ -1,4 +1,4 @@
--- Bags that are read one after the other.
+-- Reading bags in sequence.
 use Rattle.std.proofs.Common.{◌≡◌, ◌≤◌, ◌+◌, ◌-◌, ◌*◌, ◌==◌, ℕ, Bool, true, false, cond, List, [], ◌∷◌, ◌++◌, length}
 use Rattle.std.proofs.Common.{map, drop, filter, is_some, Option, Some, None, Result, refl, sym, ap, subst, ◌∙◌}
 use Rattle.std.proofs.Common.{append_assoc, arith}
@@ -47,7 +47,7 @@ gens_in at r = dropped at r.gens
 abbrev ranges_in : Level → Bagged → ℕ
 ranges_in at r = count_by is_mended (kept at r.gens)
 
--- ---- some bags and others
+-- ---- appended lists of bags
 
 module _ (at : Level) where
   more : (f : Bagged → ℕ) (n : ℕ) (xs ys : List Bagged) → n + sum_by f (xs ++ ys) ≡ n + sum_by f xs + sum_by f ys
@@ -107,7 +107,7 @@ module _ (at : Level) where
       ap (map (target_step n missing)) (zones-append xs ys)
       ∙ map-append (target_step n missing) (zones_read at xs) (zones_read at ys)
 
--- ---- where there are none
+-- ---- no bags
 
 no_counts : (at : Level) → ◌≡◌ {A = ZoneCounts} (record { zones = 0; gens = 0; ranges = 0 }) (counts_read at [])
 unfolding looked_at ignored gens_dropped ranges_mended
@@ -134,7 +134,7 @@ no_own_bags at = ap (λ (bs : List flat.Bag). bs ++ []) no_global_bags
 no_bags_added : (at : Level) (r : RecordsSoFar) → Adds r r (own_bags at [])
 no_bags_added at r = adds_as r r [] (own_bags at []) (sym (no_own_bags at)) (adds_none r)
 
--- where all are none
+-- all bags, if there are none
 module _ (at : Level) (n : ℕ) (missing : ReadFault) (all : List Bagged) (is : all ≡ []) where
   pub none_counted : (c : ZoneCounts) → c ≡ record { zones = 0; gens = 0; ranges = 0 }
       → (first_broken (steps_of_bags at n missing all) ≡ None) × (c ≡ counts_read at all)
@@ -146,7 +146,7 @@ module _ (at : Level) (n : ℕ) (missing : ReadFault) (all : List Bagged) (is : 
   pub none_put : (r : RecordsSoFar) → Adds r r (own_bags at all)
   none_put r = adds_as r r (own_bags at []) (own_bags at all) (ap (own_bags at) (sym is)) (no_bags_added at r)
 
--- ---- one bag, by its target
+-- ---- one bag, with or without a target
 
 module _ (at : Level) (r : Bagged) where
   abbrev zone_is : Option Zone → List Zone
@@ -169,7 +169,7 @@ module _ (at : Level) (r : Bagged) where
   unfolding global_read
   global_by o e = ap (λ (p : Option ℕ). global_is (is_some p)) e
 
--- ---- the same of what was read of its records
+-- ---- the same, from the result of reading its generator records
 
 module _ (at : Level) (r : Bagged) (g : GensRead) (is : g ≡ gens_read_of at r.gens) where
   target_as : (o : Option ℕ) → g.target ≡ o → target_of at r.gens ≡ o
@@ -198,7 +198,7 @@ module _ (at : Level) (r : Bagged) (g : GensRead) (is : g ≡ gens_read_of at r.
       ≡ zone_bags at (r ∷ [])
   bags_one t some = sym (ap (map (zone_bag (target_operator at))) (the_zone at r t (target_as (Some t) some)))
 
-  -- the first bag is the global zone
+  -- without a target the first bag is the global zone
   pub own_global : g.target ≡ None
       → global_bags (record { gens = gens_read at r.gens; mods = r.mods }) ≡ own_bags at (r ∷ [])
   own_global none =
@@ -206,7 +206,7 @@ module _ (at : Level) (r : Bagged) (g : GensRead) (is : g ≡ gens_read_of at r.
       sym (append-nil (global_bags (record { gens = gens_read at r.gens; mods = r.mods })))
       ∙ (λ i. global i ++ bags_none none i)
 
-  -- or a zone
+  -- with a target it is a zone
   pub own_zone : (t : ℕ) → g.target ≡ Some t
       → record { gens = entries (gens_read at r.gens) ++ (target_operator at, t) ∷ []; mods = r.mods } ∷ []
       ≡ own_bags at (r ∷ [])
@@ -254,7 +254,7 @@ module _ (at : Level) (r : Bagged) (g : GensRead) (is : g ≡ gens_read_of at r.
       omega (arith, ap (λ (x : GensRead). x.ranges) is, one_of_it (ranges_in at)) in
       λ i. record { zones = zones i; gens = gens i; ranges = ranges i }
 
--- ---- few bags with few records
+-- ---- the counts of bags are small if there are few bags with few records
 
 pub length-window : {X : Type 0} (xs : List X) (a b : ℕ) → length (slice_range xs a b) ≤ length xs
 length-window xs a b = omega (arith, length-take (b - a) (drop a xs), length-drop a xs)
@@ -354,7 +354,7 @@ few_in_all at bags gens mods few_bags few_gens =
 -- ---- the bags of a table
 
 module _ (gens : List Generator) (mods : List Modulator) where
-  -- the bag from one record up to the next
+  -- the bag between one record and the next
   abbrev pub bag_of : Bag → Bag → Bagged
   bag_of start end = bagged (slice_range gens start.gens end.gens) (slice_range mods start.mods end.mods)
 
@@ -371,7 +371,7 @@ module _ (gens : List Generator) (mods : List Modulator) where
   unfolding bags_in
   bags_in-none = refl
 
-  -- the next of them
+  -- the next bag
   pub next_bag : (start end : Bag) (left others : List Bag) (g : List Generator) (m : List Modulator)
       → left ≡ end ∷ others
       → g ≡ slice_range gens start.gens end.gens → m ≡ slice_range mods start.mods end.mods
@@ -380,20 +380,20 @@ module _ (gens : List Generator) (mods : List Modulator) where
       ap (λ (bs : List Bag). bags_in (start ∷ bs) gens mods) is ∙ bags_in-cons start end others
       ∙ (λ i. bagged (sym gs i) (sym ms i) ∷ bags_in (end ∷ others) gens mods)
 
--- ---- bag after bag
+-- ---- the loop over bags
 
 module _ (at : Level) (targets : ℕ) (missing : ReadFault) where
   abbrev steps : List Bagged → List (Step ReadFault)
   steps = steps_of_bags at targets missing
 
-  -- what was counted and put behind the others, with the bags that are left, is what all bags say, and the targets
-  -- that are left decide
+  -- the counts and records so far, continued by the remaining bags, are those of all bags, and the remaining targets
+  -- determine the fault
   pub record Left (old now : RecordsSoFar) (counts : ZoneCounts) (left all : List Bagged) : Type 0 where
     pub counts_are : counts_with_later at counts left ≡ counts_read at all
     pub steps_are : first_broken (steps left) ≡ first_broken (steps all)
     pub bags_are : (end : RecordsSoFar) → Adds now end (zone_bags at left) → Adds old end (own_bags at all)
 
-  -- the first bag was read
+  -- after the first bag
   pub first_left : (old now : RecordsSoFar) (counts : ZoneCounts) (r : Bagged) (left all : List Bagged) → all ≡ r ∷ left
       → first_broken (steps (r ∷ [])) ≡ None → counts ≡ counts_read at (r ∷ []) → Adds old now (own_bags at (r ∷ []))
       → Left old now counts left all
@@ -412,7 +412,7 @@ module _ (at : Level) (targets : ℕ) (missing : ReadFault) where
         (adds_both old now end (own_bags at (r ∷ [])) (zone_bags at left) put rest);
   }
 
-  -- its steps are the first of all
+  -- the fault of the first bag is the fault of all
   pub first_fails : (e : Failure ReadFault) (r : Bagged) (left all : List Bagged) → all ≡ r ∷ left
       → Fails e (first_broken (steps (r ∷ []))) → Fails e (first_broken (steps all))
   first_fails e r left all is h =
@@ -427,7 +427,7 @@ module _ (at : Level) (targets : ℕ) (missing : ReadFault) where
         ap first_broken (sym (steps-append at targets missing (r ∷ []) rest))
         ∙ ap (λ (bs : List Bagged). first_broken (steps bs)) (sym is) ∙ so_far.steps_are
 
-    -- a later one was
+    -- after a later bag
     pub later_left : (new : RecordsSoFar) (more : ZoneCounts) → first_broken (steps (r ∷ [])) ≡ None
         → more ≡ counts_with_later at counts (r ∷ []) → Adds now new (zone_bags at (r ∷ []))
         → Left old new more rest all
@@ -446,7 +446,7 @@ module _ (at : Level) (targets : ℕ) (missing : ReadFault) where
         → Fails e (first_broken (steps all))
     later_fails e h = subst (Fails e) steps-next (fails_front e (steps (r ∷ [])) (steps rest) h)
 
-  -- all were
+  -- after the last bag
   module _ (old now : RecordsSoFar) (counts : ZoneCounts) (left all : List Bagged) (is : left ≡ [])
       (so_far : Left old now counts left all) where
     pub all_counted : counts ≡ counts_read at all
@@ -461,7 +461,7 @@ module _ (at : Level) (targets : ℕ) (missing : ReadFault) where
         so_far.bags_are now
         (adds_as now now [] (zone_bags at left) (no_zone_bags at ∙ ap (zone_bags at) (sym is)) (adds_none now))
 
--- the counts so far are among all
+-- the counts so far are at most those of all bags
 pub few_so_far : (at : Level) (counts : ZoneCounts) (left all : List Bagged)
     → counts_with_later at counts left ≡ counts_read at all → AreFew (counts_read at all) → AreFew counts
 few_so_far at counts left all so_far few =

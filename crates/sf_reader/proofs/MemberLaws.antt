@@ -1,4 +1,4 @@
--- The presets and the instruments of the nine lists, each by its own four.
+-- Presets and instruments, each read from their four of the nine lists.
 use Rattle.std.proofs.Common.{◌≡◌, ◌∙◌, ℕ, List, length, map, None, Result, sym, ap, subst}
 use Rattle.std.specs.Result.{IsErrAnd}
 use Rattle.generators.specs.declared.level.Level.TheVariants as level
@@ -28,7 +28,7 @@ use Rattle.sf_reader.proofs.StepLaws.{given_by, given_front, given_after}
 use Rattle.sf_reader.proofs.HydraLaws.{ModsInside, few_records, windows_are}
 use Rattle.sf_reader.proofs.CountLaws.{counts-few, both-small}
 
--- ---- of the nine lists
+-- ---- the nine lists
 
 abbrev pub preset_part : Tables → List (Step ReadFault)
 preset_part t = zone_steps level.Preset (length (rows t.inst)) BadInstrument (preset_windows t)
@@ -36,17 +36,17 @@ preset_part t = zone_steps level.Preset (length (rows t.inst)) BadInstrument (pr
 abbrev pub instrument_part : Tables → List (Step ReadFault)
 instrument_part t = zone_steps level.Inst (length (rows t.shdr)) BadSample (instrument_windows t)
 
--- ---- of four lists, of either level
+-- ---- the four lists of one level
 
--- the zones that they say, where the targets are among so many
+-- the target checks of the zones
 abbrev pub steps_of : {H R : Type 0} → Headers H R → ReadFault → LevelTables R → ℕ → List (Step ReadFault)
 steps_of h missing l targets = zone_steps h.level targets missing (windows_of h.first_bag l)
 
--- what they hold
+-- the owners
 abbrev pub read_of : {H R : Type 0} → Headers H R → LevelTables R → FlatOwners H
 read_of h l = owners_with_counts h l.heads (windows_of h.first_bag l)
 
--- where they are these four of the nine lists
+-- if the four lists are these four of the nine
 module _ {H R : Type 0} (h : Headers H R) (l : LevelTables R) (heads : List R) (bags : List Bag)
     (gens : List Generator) (mods : List Modulator) (are : AreLists l heads bags gens mods)
     (within : ModsInside bags mods) where
@@ -66,7 +66,7 @@ module _ {H R : Type 0} (h : Headers H R) (l : LevelTables R) (heads : List R) (
       ap (λ (ws : List (List Bagged)). owners_with_counts h l.heads ws) same_windows
       ∙ ap (λ (hs : List R). owners_with_counts h hs all) are.heads_are
 
--- ---- of both levels
+-- ---- both levels
 
 abbrev pub preset_steps : LevelTables PresetHead → ℕ → List (Step ReadFault)
 preset_steps = steps_of format.presets BadInstrument
@@ -74,7 +74,7 @@ preset_steps = steps_of format.presets BadInstrument
 abbrev pub instrument_steps : LevelTables InstrumentHead → ℕ → List (Step ReadFault)
 instrument_steps = steps_of format.instruments BadSample
 
--- the four lists of the presets, those of the instruments, and the numbers of their targets
+-- the lists of presets and of instruments, and the numbers of possible targets
 pub record Levels (t : Tables) (p : LevelTables PresetHead) (i : LevelTables InstrumentHead)
     (instruments samples : ℕ) : Type 0 where
   pub presets_are : AreLists p t.phdr t.pbag t.pgen t.pmod

@@ -1,4 +1,4 @@
--- The ranges of what is kept, mended in the map.
+-- Repairing the ranges of the kept records in the map.
 use Rattle.std.proofs.Common.{◌≡◌, ◌≢◌, ◌+◌, ℕ, Bool, true, false, cond, not, ◌||◌, ◌&&◌, eqb, List, [], ◌∷◌, map}
 use Rattle.std.proofs.Common.{Option, Some, None, refl, sym, ap, ◌∙◌, inl, inr, arith}
 use Rattle.std.specs.Prelude.{count_by}
@@ -15,7 +15,7 @@ use Rattle.hydra_records.specs.declared.zone.Generator.{Generator}
 use Rattle.bank_format.specs.Zones.{last_of_each, gens_of, mended, is_mended, range_mended}
 use Rattle.sf_reader.specs.Gens.{entry_of, one_if, is_out_of_order, mended_at}
 
--- ---- the amounts
+-- ---- amounts
 
 abbrev amount_mended : ℕ → ℕ → ℕ
 amount_mended op w = cond (is_range_operator op) (range_mended w) w
@@ -44,7 +44,7 @@ find-mended q (r ∷ rs) =
       | false ↦ λ t. rest
     ] refl
 
--- ---- the map
+-- ---- the map of repaired records
 
 get-mended_at : (op q : ℕ) (m : Gens)
     → get (mended_at op m) q ≡ cond (tied q op) (option_map range_mended (get m q)) (get m q)
@@ -78,7 +78,7 @@ option_map-same f same (Some w) = ap Some (same w)
 other_amount : (q w : ℕ) → q ≢ 43 → q ≢ 44 → amount_mended q w ≡ w
 other_amount q w n k = rw (ne_eqb q 43 n, ne_eqb q 44 k) refl
 
--- the range of an operator that is one, or of none
+-- the amount of an operator after both repairs
 mended_amount_at : (q : ℕ) (o : Option ℕ)
     → cond (tied q 44) (option_map range_mended (cond (tied q 43) (option_map range_mended o) o))
     (cond (tied q 43) (option_map range_mended o) o)
@@ -104,12 +104,12 @@ mended_gens rs =
     ∙ ap (option_map (amount_mended q)) (get-gens_of rs q)
     ∙ sym (get-gens_of (map mended rs) q ∙ find-mended q rs))
 
--- ---- how many
+-- ---- how many ranges are repaired
 
 abbrev changes : ℕ → Bool
 changes w = not (eqb (range_mended w) w)
 
--- a range of this operator that is not in order
+-- a record with this operator and a range that must be repaired
 abbrev changes_at : ℕ → Generator → Bool
 changes_at op r = eqb r.operator op && changes r.amount
 
@@ -141,7 +141,7 @@ both_ranges (r ∷ rs) =
       count_by-cons (changes_at 44) r rs,
     )
 
--- an operator that none of the records has
+-- no record has this operator
 none_changes : (op : ℕ) (rs : List Generator) → list_any (λ (x : Generator). eqb x.operator op) rs ≡ false
     → count_by (changes_at op) (last_of_each rs) ≡ 0
 none_changes op [] e = refl
@@ -205,6 +205,6 @@ mended_count rs =
     ap (λ (o : Option ℕ). one_if (amount_changes o)) (get-gens_of lasts 44) ∙ sym (changes_found 44 rs) in
     omega (arith, keys, velocities, both_ranges lasts)
 
--- the key range doesn't matter to the velocity range
+-- repairing the key range does not affect the velocity range
 pub second_range : (m : Gens) → is_out_of_order 44 (mended_at 43 m) ≡ is_out_of_order 44 m
 second_range m = ap amount_changes (get-mended_at 43 44 m)

@@ -1,4 +1,4 @@
--- The presets or the instruments, one head after the other.
+-- Reading the presets or the instruments, header by header.
 use Rattle.std.proofs.Common.{◌≡◌, ◌+◌, ◌-◌, ◌∙◌, ℕ, suc, List, [], ◌∷◌, ◌++◌, length, map, Some, None, Option}
 use Rattle.std.proofs.Common.{Result, IsSome, refl, sym, ap, subst, append_assoc, append-nil, arith}
 use Rattle.std.specs.Prelude.{flat_map, MatchOption}
@@ -78,19 +78,19 @@ rows-next h n ns =
     let count : length (h ∷ n ∷ ns) - 1 ≡ suc (length (n ∷ ns) - 1) = omega arith in
     rw count refl
 
--- the zones of the next head, then those of the others
+-- the checks of the first header's zones, then those of the others
 zone_steps-next : (at : Level) (targets : ℕ) (missing : ReadFault) (w : List Bagged) (ws : List (List Bagged))
     → zone_steps at targets missing (w ∷ ws)
     ≡ map (target_step targets missing) (zones_read at w) ++ zone_steps at targets missing ws
 zone_steps-next at targets missing w ws =
     map-append (target_step targets missing) (zones_read at w) (flat_map (zones_read at) ws)
 
--- ---- one more of them
+-- ---- appending one owner
 
 pub pushed_as : {X : Type 0} (old new : List X) (x y : X) → new ≡ old ++ x ∷ [] → x ≡ y → new ≡ old ++ y ∷ []
 pushed_as old new x y e is = e ∙ ap (λ z. old ++ z ∷ []) is
 
--- where the bags of the next one begin
+-- the starts of an appended list end with its total
 begins-last : (at : ℕ) (owners : List (List flat.Bag)) (own : List flat.Bag)
     → starts past_owner at (owners ++ own ∷ [])
     ≡ starts past_owner at owners ++ (at + length (all_bags (owners ++ own ∷ []))) ∷ []
@@ -130,9 +130,9 @@ are_as r hs names bs owners b c heads bags counts are = record {
   counts_are = are.counts_are ∙ counts;
 }
 
--- ---- all of them
+-- ---- all owners
 
--- either side of an answer that is there
+-- lemmas about `MatchOption`
 pub found : {X : Type 0} (P : Type 0) (Q : X → Type 0) (o : Option X) → MatchOption o (P → ⊥) Q → P → IsSome o
 found P Q None h p = absurd (h p)
 found P Q (Some x) h p = refl
@@ -141,7 +141,7 @@ pub found_that : {X : Type 0} (P : Type 0) (Q : X → Type 0) (o : Option X) (x 
     → o ≡ Some x → Q x
 found_that P Q o x h e = subst (λ p. MatchOption p (P → ⊥) Q) e h
 
--- there is one place more than heads
+-- there is one start more than heads
 pub places : {H : Type 0} (r : OwnersSoFar H) (hs : List H) (owners : List (List flat.Bag)) (c : ZoneCounts)
     → AreOwnersSoFar r hs owners c → length owners ≡ length hs
     → length r.first_bags.items ≡ length r.heads.items + 1
@@ -164,14 +164,14 @@ ended_as r e hs owners c are ended =
     let counts = ended.counts_are ∙ are.counts_are in
     λ i. record { heads = heads i; records = records i; counts = counts i }
 
--- ---- head after head
+-- ---- the loop over headers
 
 module _ {O H : Type 0} (k : Headers O H) (targets : ℕ) (missing : ReadFault) (table : List Bagged) (heads : List H)
   where
     abbrev all : List (List Bagged)
     all = windows table (map k.first_bag heads)
 
-    -- those so far and those of head h and the heads after it are all, and the zones that are left decide
+    -- the owners read so far, header h and the headers hs are all, and the remaining zones determine the fault
     pub record Left (read : OwnersSoFar O) (h : H) (hs : List H) : Type 0 where
       pub names : List O
       pub owners : List (List flat.Bag)
@@ -185,7 +185,7 @@ module _ {O H : Type 0} (k : Headers O H) (targets : ℕ) (missing : ReadFault) 
       pub steps_are : first_broken (zone_steps k.level targets missing (windows table (map k.first_bag (h ∷ hs))))
           ≡ first_broken (zone_steps k.level targets missing all)
 
-    -- none so far
+    -- before the first owner
     pub none_left : (read : OwnersSoFar O) (h : H) (hs : List H) → heads ≡ h ∷ hs → AreOwnersSoFar read [] [] no_counts
         → Left read h hs
     none_left read h hs is so_far =
@@ -204,12 +204,12 @@ module _ {O H : Type 0} (k : Headers O H) (targets : ℕ) (missing : ReadFault) 
           steps_are = ap (λ (l : List (List Bagged)). first_broken (zone_steps k.level targets missing l)) ws;
         }
 
-    -- the bags of head h end where those of the next one begin
+    -- the bags of header h end at the first bag of the next header
     abbrev between : H → H → List Bagged
     between h n = slice_range table (k.first_bag h) (k.first_bag n)
 
     module _ (read : OwnersSoFar O) (h n : H) (ns : List H) (left : Left read h (n ∷ ns)) where
-      -- one more
+      -- after one owner
       pub left_next : (new : OwnersSoFar O)
           → first_broken (steps_of_bags k.level targets missing (between h n)) ≡ None
           → AddsOwner read new (k.read h) (own_bags k.level (between h n)) (counts_read k.level (between h n))
@@ -241,7 +241,7 @@ module _ {O H : Type 0} (k : Headers O H) (targets : ℕ) (missing : ReadFault) 
                 ∙ left.steps_are;
           }
 
-      -- one of its zones names no target
+      -- a zone of header h has a target that does not exist
       pub left_fails : {Y Z : Type 0} (view : Y → Z) (value : Z) (r : Result Y (Failure ReadFault))
           (e : Failure ReadFault)
           → IsErrAnd r (λ d. d ≡ e)
@@ -257,7 +257,7 @@ module _ {O H : Type 0} (k : Headers O H) (targets : ℕ) (missing : ReadFault) 
           (ap first_broken (sym (zone_steps-next k.level targets missing (between h n) rest)) ∙ left.steps_are)
           here)
 
-      -- its counts can be added
+      -- adding its counts does not overflow
       pub left_small : AreFew (counts_over k.level all) → AreSmall (added read.counts (counts_read k.level (between h n)))
       left_small few =
           let rest = windows table (map k.first_bag (n ∷ ns)) in
@@ -267,7 +267,7 @@ module _ {O H : Type 0} (k : Headers O H) (targets : ℕ) (missing : ReadFault) 
           so_far.counts_are
           ∙ ap (added left.counts) (sym (counts_over-next k.level (between h n) rest)) ∙ left.counts_are) few
 
-    -- how many there are
+    -- there are as many owners as headers without the terminal
     pub as_many : length (map (own_bags k.level) all) ≡ length (map k.read (rows heads))
     as_many =
         omega (
@@ -279,7 +279,7 @@ module _ {O H : Type 0} (k : Headers O H) (targets : ℕ) (missing : ReadFault) 
           length-rows heads,
         )
 
-    -- all of them were read
+    -- after the last owner
     pub record AllRead (read : OwnersSoFar O) : Type 0 where
       pub are : AreOwnersSoFar read (map k.read (rows heads)) (map (own_bags k.level) all) (counts_over k.level all)
       pub hold : first_broken (zone_steps k.level targets missing all) ≡ None
@@ -333,9 +333,9 @@ module _ {O H : Type 0} (k : Headers O H) (targets : ℕ) (missing : ReadFault) 
             ended,
       )
 
--- ---- one head
+-- ---- one header
 
--- the bags of a head, in the records from its first bag's to the next head's first
+-- the bags of a header, from its first bag's record to that of the next header's first bag
 bags_between : (bags part : List Bag) (gens : List Generator) (mods : List Modulator) (i j from to : ℕ)
     → part ≡ slice_range bags i (j + 1) → i ≡ from → j ≡ to
     → bags_in part gens mods ≡ slice_range (bags_in bags gens mods) from to
@@ -344,7 +344,7 @@ bags_between bags part gens mods i j from to is first next =
     (is ∙ ap (λ (n : ℕ). slice_range bags n (j + 1)) first ∙ ap (λ (n : ℕ). slice_range bags from (n + 1)) next)
     ∙ sym (slice-bags_in bags gens mods from to)
 
--- what is said of those records is said of the bags of the head
+-- a property of those bags is a property of the bags of the header
 pub between_as : {H : Type 0} (P : Level → List Bagged → Type 0) (first_bag : H → ℕ) (l : LevelTables H) (h n : H)
     (at found : Level) (part : List Bag) (i j : ℕ)
     → found ≡ at → part ≡ slice_range l.bags i (j + 1) → i ≡ first_bag h → j ≡ first_bag n

@@ -1,4 +1,4 @@
--- The steps of a file, part after part.
+-- The checks of a file, function by function.
 use Rattle.std.proofs.Common.{◌≡◌, ◌++◌, ◌∙◌, ℕ, List, [], ◌∷◌, map, None, Result, Ok, Err, refl, sym, ap, subst}
 use Rattle.sf_base.specs.Fields.{field_at}
 use Rattle.sf_base.specs.declared.memory.Failure.{Failure}
@@ -19,7 +19,7 @@ use Rattle.sf_reader.proofs.StepLaws.{fails_front, fails_after}
 use Rattle.sf_reader.proofs.TableLaws.{from_counts_are}
 use Rattle.sf_reader.proofs.FlatLaws.{content_flat}
 
--- ---- of the three lists, where the parts were found
+-- ---- the three lists, from the results of their parts
 
 abbrev pub ifil_in : ListChunks → List ℕ
 ifil_in w = body_in IFIL w.info
@@ -36,7 +36,7 @@ version_there w = chunk_step w.info IFIL ∷ []
 abbrev pub nine_there : ListChunks → List (Step ReadFault)
 nine_there w = map (chunk_step w.pdta) nine
 
--- the steps from a part on
+-- the checks from those of record sizes on
 abbrev pub from_whole : ListChunks → List (Step ReadFault)
 from_whole w = whole_steps (nine_in w) ++ table_steps (tables_from (nine_in w)) (smpl_in w)
 
@@ -59,7 +59,7 @@ pub content_in_parts : (w : ListChunks)
 unfolding points_in tables_in bodies_in tables_from
 content_in_parts w = content_flat w (tables_from (nine_in w))
 
--- ---- what the reader has found of the lists before it looks at the records
+-- ---- what the reader has found in the lists before it reads records
 
 pub record Opened (w : ListChunks) (version : List ℕ) (bodies : Bodies) : Type 0 where
   pub there : first_broken (version_there w) ≡ None
@@ -76,7 +76,7 @@ pub record Cut (w : ListChunks) (version : List ℕ) (bodies : Bodies) (minor : 
   pub tables_are : t ≡ tables_from bodies
   pub smpl_is : smpl ≡ smpl_in w
 
--- ---- a fault of a part is that of the lists
+-- ---- the fault of a part is the fault of the lists
 
 module _ (w : ListChunks) (e : Failure ReadFault) where
   pub in_there : Fails e (first_broken (version_there w)) → Fails e (first_broken (list_content_steps w))
@@ -125,7 +125,7 @@ module _ (w : ListChunks) (e : Failure ReadFault) where
       (fails_after e (whole_steps bodies) (table_steps (tables_from bodies) (smpl_in w)) k.whole
       (rw (← k.tables_are, ← k.smpl_is) h))
 
--- the lists hold, and say what their parts do
+-- the lists pass their checks, and have the content of their parts
 pub lists_hold : (w : ListChunks) (version : List ℕ) (bodies : Bodies) (minor : ℕ) (t : Tables) (smpl : List ℕ)
     → Cut w version bodies minor t smpl
     → first_broken (table_steps t smpl) ≡ None
@@ -148,7 +148,7 @@ lists_hold w version bodies minor t smpl k none =
           ∙ sym (content_in_parts w),
     )
 
--- the tables pass, and so do the lists
+-- the result for the tables is the result for the lists
 pub tables_pass : {X : Type 0} (seen : X → FlatContent) (r : Result X (Failure ReadFault)) (w : ListChunks)
     (version : List ℕ) (bodies : Bodies) (minor : ℕ) (t : Tables) (smpl : List ℕ)
     → Cut w version bodies minor t smpl
@@ -159,7 +159,7 @@ tables_pass seen (Ok x) w version bodies minor t smpl k h =
     (hold.0, h.1 ∙ hold.1)
 tables_pass seen (Err e) w version bodies minor t smpl k h = in_tables w e version bodies minor t smpl k h
 
--- ---- of a file
+-- ---- the whole file
 
 pub file_in_parts : (file : List ℕ)
     → steps file
@@ -172,7 +172,7 @@ pub content_is : (file : List ℕ)
 unfolding content_in chunks_in_lists
 content_is file = refl
 
--- the file holds, and says what its lists do
+-- the file passes its checks, and has the content of its lists
 pub file_holds : (file w : List ℕ) (v : ListChunks) → w ≡ window file → v ≡ chunks_in_lists w
     → first_broken (frame_steps file) ≡ None → first_broken (list_steps w) ≡ None
     → first_broken (list_content_steps v) ≡ None
@@ -189,7 +189,7 @@ file_holds file w v ew ev frame lists inside =
       ap list_content vw ∙ sym (content_is file),
     )
 
--- ---- a fault of a part is that of the file
+-- ---- the fault of a part is the fault of the file
 
 module _ (file : List ℕ) (e : Failure ReadFault) where
   abbrev rest : List (Step ReadFault)

@@ -1,4 +1,4 @@
--- What is read of the generator records of a bag.
+-- The result of reading the generator records of a bag.
 use Rattle.std.proofs.Common.{◌≡◌, ◌≤◌, ◌+◌, ◌-◌, ℕ, List, length, Option, is_some, ap, ◌∙◌, arith}
 use Rattle.std.specs.FinMap.{len}
 use Rattle.generators.specs.Gens.{Gens, no_gens, set_in_order}

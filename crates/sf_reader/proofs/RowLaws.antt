@@ -1,4 +1,4 @@
--- The rows of a table, one after the other.
+-- Loops over the records of a table.
 use Rattle.std.proofs.Common.{◌≡◌, ◌<◌, ◌+◌, ◌-◌, ℕ, suc, List, [], ◌∷◌, ◌++◌, take, map, Option, Some, None, Result}
 use Rattle.std.proofs.Common.{refl, sym, ap, subst, ◌∙◌, append_assoc, arith}
 use Rattle.std.specs.Prelude.{flat_map, sum_by}
@@ -17,19 +17,19 @@ use Rattle.bank_format.specs.Steps.{Step, first_broken, Passes}
 use Rattle.bank_format.specs.ReadSteps.{total_steps}
 use Rattle.bank_format.proofs.StepLaws.{first_broken-append, first_broken-front, passes_by}
 
--- the next of at most n is x, and at most m of the others come after it
+-- the next of at most n records is x, and at most m follow it
 module _ {X : Type 0} (n m : ℕ) (xs ys : List X) (x : X) (next : xs ≡ x ∷ ys) (fewer : m + 1 ≡ n) where
   pub take-next : take n xs ≡ x ∷ take m ys
   take-next = let e : n ≡ suc m = omega (arith, fewer) in rw (e, next) refl
 
-  -- its steps hold, so that those of the others decide
+  -- its checks hold, so the result depends on the remaining records
   pub steps_hold : (f : X → List (Step ReadFault)) (whole : Option ReadFault) → first_broken (f x) ≡ None
       → first_broken (flat_map f (take n xs)) ≡ whole → first_broken (flat_map f (take m ys)) ≡ whole
   steps_hold f whole holds so_far =
       sym (first_broken-append (f x) (flat_map f (take m ys)) holds)
       ∙ sym (ap (λ (l : List X). first_broken (flat_map f l)) take-next) ∙ so_far
 
-  -- one of its steps is broken
+  -- one of its checks fails
   pub steps_fail : {Y : Type 0} (view : Y → Unit {0}) (f : X → List (Step ReadFault)) (r : Result Y ReadFault)
       (e : ReadFault) (whole : List (Step ReadFault))
       → IsErrAnd r (λ d. d ≡ e) → first_broken (f x) ≡ Some e
@@ -38,7 +38,7 @@ module _ {X : Type 0} (n m : ℕ) (xs ys : List X) (x : X) (next : xs ≡ x ∷ 
       let all = ap (λ (l : List X). first_broken (flat_map f l)) take-next in
       passes_by view tt r e whole is (sym so_far ∙ all ∙ first_broken-front (f x) (flat_map f (take m ys)) e h)
 
-  -- a sum over them
+  -- a running sum
   pub sum_more : (f : X → ℕ) (total here whole : ℕ) → here ≡ f x → total + sum_by f (take n xs) ≡ whole
       → total + here + sum_by f (take m ys) ≡ whole
   sum_more f total here whole is so_far =
@@ -46,7 +46,7 @@ module _ {X : Type 0} (n m : ℕ) (xs ys : List X) (x : X) (next : xs ≡ x ∷ 
       ap (sum_by f) take-next ∙ sum_by-cons f x (take m ys) in
       omega (arith, e, is, so_far)
 
-  -- what is made of them
+  -- a list built by the loop
   pub map_more : {Y : Type 0} (f : X → Y) (old new : List Y) (made : Y) (whole : List Y)
       → made ≡ f x → new ≡ old ++ made ∷ [] → old ++ map f (take n xs) ≡ whole → new ++ map f (take m ys) ≡ whole
   map_more f old new made whole is pushed so_far =
@@ -63,7 +63,7 @@ pub total_breaks : (heads : List SampleHead) → 500000000 < sum_by (λ (h : Sam
 unfolding total_steps
 total_breaks heads h = rw (lt-leb _ _ h) refl
 
--- ---- chains over them
+-- ---- checks of consecutive records
 
 pub rows_yield : {X : Type 0} (s : Take (List X)) (xs : List X) → take (take_count s) (take_source s) ≡ xs
     → YieldsList (take_steps (YieldsFirst (λ l. l))) (λ x. x) s xs

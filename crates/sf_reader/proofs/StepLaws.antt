@@ -1,4 +1,4 @@
--- Parts of the reader that take memory, one after the other; and steps of one fault.
+-- Functions of the reader that allocate, called in sequence; and checks with one fault.
 use Rattle.std.proofs.Common.{◌≡◌, ◌&&◌, Bool, true, false, cond, List, [], ◌∷◌, ◌++◌, map, Option, Some, None}
 use Rattle.std.proofs.Common.{Result, Ok, Err, refl, sym, subst, ◌∙◌}
 use Rattle.std.specs.Result.{IsErrAnd, IfErr, OnOk}
@@ -25,41 +25,41 @@ pub fails_by : {X : Type 0} (r : Result X (Failure ReadFault)) (e : Failure Read
 fails_by (Ok x) e broken is h = tt
 fails_by (Err d) e broken is h = subst (λ (c : Failure ReadFault). Fails c broken) (sym is) h
 
--- the same, where the caller says more of it
+-- the same, if the caller makes more checks
 pub given_by : {X Y : Type 0} (view : X → Y) (value : Y) (r : Result X (Failure ReadFault)) (e : Failure ReadFault)
     (xs : List (Step ReadFault))
     → IsErrAnd r (λ d. d ≡ e) → Fails e (first_broken xs) → PassesGivenMemory view r xs value
 given_by view value (Ok x) e xs is h = absurd is
 given_by view value (Err d) e xs is h = subst (λ (c : Failure ReadFault). Fails c (first_broken xs)) (sym is) h
 
--- a part that fails, first of all
+-- the first function fails
 pub given_front : {X Y : Type 0} (view : X → Y) (value : Y) (r : Result X (Failure ReadFault))
     (e : Failure ReadFault) (xs ys : List (Step ReadFault))
     → IsErrAnd r (λ d. d ≡ e) → Fails e (first_broken xs) → PassesGivenMemory view r (xs ++ ys) value
 given_front view value r e xs ys is h = given_by view value r e (xs ++ ys) is (fails_front e xs ys h)
 
--- a part after one that went through
+-- a function after one that succeeds
 pub given_after : {X Y : Type 0} (view : X → Y) (value : Y) (r : Result X (Failure ReadFault))
     (xs ys : List (Step ReadFault))
     → first_broken xs ≡ None → PassesGivenMemory view r ys value → PassesGivenMemory view r (xs ++ ys) value
 given_after view value (Ok x) xs ys h k = (then_none xs ys h k.0, k.1)
 given_after view value (Err e) xs ys h k = fails_after e xs ys h k
 
--- ---- steps of one fault
+-- ---- checks with one fault
 
 hold_on : {A : Type 0} (b c : Bool) (x : Option A) (w : A) → x ≡ cond c None (Some w)
     → cond b x (Some w) ≡ cond (b && c) None (Some w)
 hold_on true c x w h = h
 hold_on false c x w h = refl
 
--- the fault comes where some step is broken
+-- the fault is returned if any check fails
 pub same_fault : {X : Type 0} (p : X → Bool) (fault : ReadFault) (xs : List X)
     → first_broken (map (λ x. step (p x) fault) xs) ≡ cond (list_all p xs) None (Some fault)
 same_fault p fault [] = refl
 same_fault p fault (x ∷ xs) =
     hold_on (p x) (list_all p xs) (first_broken (map (λ y. step (p y) fault) xs)) fault (same_fault p fault xs)
 
--- what follows where it went well
+-- consequences of success
 pub on_ok : {X E : Type 0} (r : Result X E) (P Q : Type 0) → (P → Q) → OnOk r P → OnOk r Q
 on_ok (Ok x) P Q f p = f p
 on_ok (Err e) P Q f p = tt

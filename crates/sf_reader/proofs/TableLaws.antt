@@ -1,4 +1,4 @@
--- What is asked of the nine lists and the points, part after part.
+-- The checks of the nine lists and the points, function by function.
 use Rattle.std.proofs.Common.{◌≡◌, ◌≢◌, ◌/◌, ◌%◌, ◌++◌, ◌∙◌, ℕ, List, [], ◌∷◌, length, map, Some, None, Result, refl}
 use Rattle.std.proofs.Common.{sym, ap, append_assoc, arith}
 use Rattle.std.specs.Prelude.{flat_map}
@@ -33,7 +33,7 @@ use Rattle.bank_format.proofs.WindowLaws.{length-together}
 use Rattle.sf_reader.proofs.WindowLaws.{length-windows, length-rows}
 use Rattle.sf_reader.proofs.MemberLaws.{preset_part, instrument_part}
 
--- ---- the steps from a part on
+-- ---- the checks from one function on
 
 abbrev pub each_sample : Tables → List ℕ → List (Step ReadFault)
 each_sample t smpl = flat_map (sample_step (length (words smpl))) (rows t.shdr)
@@ -44,7 +44,7 @@ from_indexes t smpl = all_index_steps t ++ each_sample t smpl
 abbrev pub from_even : Tables → List ℕ → List (Step ReadFault)
 from_even t smpl = even_steps smpl ++ from_indexes t smpl
 
--- ---- past the parts that hold
+-- ---- after the functions that succeed
 
 abbrev Checks : Result (Unit {0}) ReadFault → List (Step ReadFault) → Type 0
 Checks r steps = Passes (λ (u : Unit {0}). u) r steps tt
@@ -61,20 +61,20 @@ module _ (t : Tables) (smpl : List ℕ) (r : Result (Unit {0}) ReadFault) where
       → Checks r (from_indexes t smpl)
   past_indexes = passes_after (λ (u : Unit {0}). u) tt r (all_index_steps t) (each_sample t smpl)
 
--- ---- a part that fails
+-- ---- a function that fails
 
--- points that are no whole words
+-- the points are an odd number of bytes
 pub odd_fails : (t : Tables) (smpl : List ℕ) → length smpl % 2 ≢ 0 → first_broken (from_even t smpl) ≡ Some OddSamples
 odd_fails t smpl odd = rw (ne_eqb _ _ odd) refl
 
--- two bytes hold a point
+-- a point has two bytes
 pub samples_are : (t : Tables) (smpl : List ℕ) (heads : List SampleHead) → heads ≡ t.shdr
     → flat_map (sample_step (length smpl / 2)) (rows heads) ≡ each_sample t smpl
 samples_are t smpl heads e =
     ap (λ (l : List SampleHead). flat_map (sample_step (length smpl / 2)) (rows l)) e
     ∙ ap (λ (n : ℕ). flat_map (sample_step n) (rows t.shdr)) (sym (length-words smpl))
 
--- ---- the parts that hold
+-- ---- the functions that succeed
 
 pub record AreChecked (t : Tables) : Type 0 where
   pub counts : first_broken (count_steps t) ≡ None
@@ -88,9 +88,9 @@ checked t smpl e =
     let third = both_none (all_index_steps t) (each_sample t smpl) second.1 in
     record { counts = first.0; indexes = third.0 }
 
--- ---- with what is asked of presets and instruments
+-- ---- with the checks of presets and instruments
 
--- the zones of members that heads and windows make
+-- the zones of the owners read from headers and windows
 zones_together : {H M : Type 0} (f : H → List Bagged → M) (zones : M → List Zone) (read : List Bagged → List Zone)
     → ((h : H) (w : List Bagged) → zones (f h w) ≡ read w)
     → (hs : List H) (ws : List (List Bagged)) → length hs ≡ length ws
@@ -144,7 +144,7 @@ targets_are info sdta t =
     first
     ∙ ap (λ (l : List (Step ReadFault)). preset_part t ++ l) second
 
--- the steps from the counts on, as a file's steps have them
+-- the checks from the record counts on, as the specification of files has them
 abbrev pub from_counts : List Chunk → List Chunk → Tables → List ℕ → List (Step ReadFault)
 from_counts info sdta t smpl =
     count_steps t

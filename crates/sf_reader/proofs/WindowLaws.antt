@@ -1,4 +1,4 @@
--- Windows of windows, and of a list of no modulators.
+-- Windows of windows, and windows of an empty list of modulators.
 use Rattle.std.proofs.Common.{◌≡◌, ◌≤◌, ◌+◌, ◌-◌, ◌&&◌, ◌∙◌, ℕ, zero, suc, Bool, true, false, leb, List, [], ◌∷◌}
 use Rattle.std.proofs.Common.{length, take, drop, map, refl, sym, ap, inl, inr, arith}
 use Rattle.std.specs.List.{slice_range, list_all}
@@ -13,7 +13,7 @@ use Rattle.bank_format.specs.Tables.{modulator_end}
 use Rattle.bank_format.specs.Chunks.{or_zero}
 use Rattle.bank_format.specs.Reading.{bagged, bags_in}
 
--- ---- a range of them
+-- ---- a range of windows
 
 drop-none : {X : Type 0} (n : ℕ) → drop {A = X} n [] ≡ []
 drop-none zero = refl
@@ -65,7 +65,7 @@ map-drop f zero xs = refl
 map-drop f (suc n) [] = refl
 map-drop f (suc n) (x ∷ xs) = map-drop f n xs
 
--- one more index than windows
+-- there is one index more than windows
 range-windows : {X Y : Type 0} (table : List X) (index : Y → ℕ) (ys : List Y) (n at : ℕ)
     → take n (drop at (windows table (map index ys))) ≡ windows table (map index (take (suc n) (drop at ys)))
 range-windows table index ys n at =
@@ -92,7 +92,7 @@ no-bags [] gens mods h = refl
 no-bags (b ∷ []) gens mods h = refl
 no-bags (b ∷ c ∷ bags) gens mods h = absurd (omega arith)
 
--- A range of the bags of a level is in the records from the first one's to the one after the last one's.
+-- The bags between two indexes, from their records and the record after the last one.
 pub slice-bags_in : (bags : List Bag) (gens : List Generator) (mods : List Modulator) (from to : ℕ)
     → slice_range (bags_in bags gens mods) from to ≡ bags_in (slice_range bags from (to + 1)) gens mods
 slice-bags_in bags gens mods from to = elim (cases_lt to from) [
@@ -107,13 +107,13 @@ slice-bags_in bags gens mods from to = elim (cases_lt to from) [
       (omega (arith, few, length-take (to + 1 - from) (drop from bags))))))
 ]
 
--- ---- no modulators
+-- ---- an empty list of modulators
 
 split_and : (b c : Bool) → (b && c) ≡ true → (b ≡ true) × (c ≡ true)
 split_and true c h = (refl, h)
 split_and false c h = absurd cc
 
--- indexes that are all 0 say nothing of the one zero record
+-- if all indexes are 0, the single zero record is in no window
 zero-windows_from : (at : ℕ) (is : List ℕ) → at ≤ 0 → list_all (λ i. leb i 0) is ≡ true
     → windows_from (modulator_end ∷ []) at is ≡ windows_from [] at is
 zero-windows_from at [] h all = refl
@@ -141,7 +141,7 @@ or_zero-bags bags gens mods all =
     ap (together bagged (windows gens (map (λ (r : Bag). r.gens) bags)))
     (or_zero-windows mods (map (λ (r : Bag). r.mods) bags) all)
 
--- ---- how many
+-- ---- the number of windows
 
 length-windows_from : {X : Type 0} (table : List X) (at : ℕ) (is : List ℕ)
     → length (windows_from table at is) ≡ length is

@@ -1,4 +1,4 @@
--- What the bags of a preset or of an instrument say.
+-- What is read from the bags of a preset or of an instrument.
 use Rattle.std.specs.Prelude.{ℕ, List, ◌++◌, map}
 use Rattle.generators.specs.Levels.{target_operator}
 use Rattle.generators.specs.declared.level.Level.{Level}
@@ -13,16 +13,16 @@ use Rattle.sf_reader.specs.declared.zones.ZoneCounts.{ZoneCounts}
 abbrev pub counts_read : Level → List Bagged → ZoneCounts
 counts_read at bags = record { zones = ignored at bags; gens = gens_dropped at bags; ranges = ranges_mended at bags }
 
--- the target of each zone that they say
+-- the check of each zone's target
 abbrev pub steps_of_bags : Level → ℕ → ReadFault → List Bagged → List (Step ReadFault)
 steps_of_bags at targets missing bags = map (target_step targets missing) (zones_read at bags)
 
--- ---- as a bank has them
+-- ---- as bags of a bank
 
--- the bags of the zones that they say
+-- the bags of the zones
 abbrev pub zone_bags : Level → List Bagged → List Bag
 zone_bags at bags = map (zone_bag (target_operator at)) (zones_read at bags)
 
--- and that of the global zone before them, where it holds something
+-- the bag of the global zone, if it is not empty, and those of the zones
 abbrev pub own_bags : Level → List Bagged → List Bag
 own_bags at bags = global_bags (global_read at bags) ++ zone_bags at bags

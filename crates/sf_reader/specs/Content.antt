@@ -1,4 +1,4 @@
--- The steps of the three lists, and what they hold, by the parts in which the reader goes through them.
+-- The checks and the content of the three lists, by the functions of the reader.
 use Rattle.std.specs.Prelude.{◌==◌, ◌&&◌, ◌+◌, ◌%◌, ◌++◌, ℕ, List, [], ◌∷◌, length, count_by, flat_map}
 use Rattle.bank_parts.specs.declared.parts.Sample.{Sample}
 use Rattle.sf_base.specs.Fields.{field_at}
@@ -17,7 +17,7 @@ use Rattle.sf_reader.specs.Lists.{ListChunks}
 use Rattle.sf_reader.specs.Owners.{FlatMembers, members_of, member_steps}
 use Rattle.sf_reader.specs.FlatContent.{FlatContent, flat_content}
 
--- ---- of the three lists
+-- ---- from the three lists
 
 abbrev pub list_content_steps : ListChunks → List (Step ReadFault)
 list_content_steps w = content_steps w.info w.sdta w.pdta (tables_in w.pdta)
@@ -25,17 +25,17 @@ list_content_steps w = content_steps w.info w.sdta w.pdta (tables_in w.pdta)
 abbrev pub list_content : ListChunks → FlatContent
 list_content w = flat_content (content_of w.info w.sdta (tables_in w.pdta))
 
--- ---- of a version, tables and points
+-- ---- from a version, tables and points
 
--- the version is of four bytes, and 2
+-- the version has four bytes, and the major version is 2
 abbrev pub version_steps : List ℕ → List (Step ReadFault)
 version_steps ifil = step (length ifil == 4 && field_at 0 2 ifil == 2) Version ∷ []
 
--- points are whole words
+-- the points are an even number of bytes
 abbrev pub even_steps : List ℕ → List (Step ReadFault)
 even_steps smpl = step (length smpl % 2 == 0) OddSamples ∷ []
 
--- what is asked of the nine lists and the points before presets and instruments are read
+-- the checks of the nine lists and the points before presets and instruments are read
 unfoldable pub checked_steps : Tables → List ℕ → List (Step ReadFault)
 checked_steps t smpl =
     count_steps t
@@ -43,11 +43,11 @@ checked_steps t smpl =
     ++ (all_index_steps t
     ++ flat_map (sample_step (length (words smpl))) (rows t.shdr)))
 
--- and with what is asked then
+-- all checks of the nine lists and the points
 abbrev pub table_steps : Tables → List ℕ → List (Step ReadFault)
 table_steps t smpl = checked_steps t smpl ++ (member_steps t ++ total_steps (rows t.shdr))
 
--- the bank and the counts, of presets, instruments and samples
+-- the bank and the counts, from presets, instruments and samples
 unfoldable pub content_with : ℕ → ListChunks → Tables → FlatMembers → List Sample → FlatContent
 content_with minor w t members samples = record {
   bank = record {
@@ -70,6 +70,6 @@ content_with minor w t members samples = record {
   };
 }
 
--- of a minor version, tables and points
+-- the same, from a minor version, tables and points
 abbrev pub table_content : ℕ → ListChunks → Tables → List ℕ → FlatContent
 table_content minor w t smpl = content_with minor w t (members_of t) (samples_read (words smpl) (rows t.shdr))

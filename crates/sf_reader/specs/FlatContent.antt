@@ -1,4 +1,4 @@
--- What a file says, with its presets and instruments in flat lists.
+-- The content of a file, with presets and instruments in flat lists.
 use Rattle.std.specs.Prelude.{ℕ, List, map}
 use Rattle.generators.specs.declared.level.Level.{Level}
 use Rattle.generators.specs.declared.level.Level.TheVariants as level
@@ -39,7 +39,7 @@ flat_bank b = record {
 abbrev pub flat_content : Content → FlatContent
 flat_content c = record { bank = flat_bank c.bank; counts = c.counts }
 
--- ---- of the lists in memory
+-- ---- of the reader's result
 
 abbrev pub content_seen : Flat × Counts → FlatContent
 content_seen r = record { bank = r.0; counts = r.1 }

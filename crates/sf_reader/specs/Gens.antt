@@ -1,4 +1,4 @@
--- What the generator records of one bag say besides the generators that are kept.
+-- What is read from the generator records of one bag.
 use Rattle.std.specs.Prelude.{ℕ, Bool, false, List, map, not, ◌==◌, count_by, Some, None, if◌then◌else◌}
 use Rattle.std.specs.FinMap.{get, insert}
 use Rattle.generators.specs.Gens.{Gens}
@@ -11,22 +11,22 @@ abbrev pub gens_read_of : Level → List Generator → GensRead
 gens_read_of at rs =
     record { target = target_of at rs; dropped = dropped at rs; ranges = count_by is_mended (kept at rs) }
 
--- ---- the way there
+-- ---- while they are read
 
 abbrev pub entry_of : Generator → ℕ × ℕ
 entry_of r = (r.operator, r.amount)
 
--- the settings up to the target that the level allows, in their order
+-- the allowed entries before the target, in file order
 abbrev pub entries_in : Level → List Generator → List (ℕ × ℕ)
 entries_in at rs = map entry_of (allowed_in at (before_target at rs))
 
 abbrev pub one_if : Bool → ℕ
 one_if b = if b then 1 else 0
 
--- an operator is set to a range that is not in order
+-- the operator is set to a range that must be repaired
 abbrev pub is_out_of_order : ℕ → Gens → Bool
 is_out_of_order op gs = elim (get gs op) [ None ↦ false | Some w ↦ not (range_mended w == w) ]
 
--- the map with this operator's range in order
+-- the map with this operator's range repaired
 abbrev pub mended_at : ℕ → Gens → Gens
 mended_at op gs = elim (get gs op) [ None ↦ gs | Some w ↦ insert gs op (range_mended w) ]

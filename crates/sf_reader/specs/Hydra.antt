@@ -1,4 +1,4 @@
--- The nine lists of records, before and after their bytes are cut into records.
+-- The nine record lists of `pdta`, as bytes and as records.
 use Rattle.std.specs.Prelude.{◌≡◌, ◌==◌, ◌%◌, ◌++◌, ℕ, List, [], ◌∷◌, length}
 use Rattle.riff_chunks.specs.Walk.{Chunk}
 use Rattle.modulators.specs.declared.modulator.Modulator.{Modulator}
@@ -31,7 +31,7 @@ pub record Bodies : Type 0 where
   pub igen : List ℕ
   pub shdr : List ℕ
 
--- the first body of each id
+-- the body of the first chunk with each id
 unfoldable pub bodies_in : List Chunk → Bodies
 bodies_in pdta = record {
   phdr = body_in id.PHDR pdta;
@@ -47,11 +47,11 @@ bodies_in pdta = record {
 
 -- ---- records
 
--- a body is whole records of a size long
+-- the length of a body is a multiple of the record size
 abbrev pub whole_step : ℕ → List ℕ → Step ReadFault
 whole_step size body = step (length body % size == 0) RecordSize
 
--- each of the nine is
+-- the size check of each of the nine bodies
 unfoldable pub whole_steps : Bodies → List (Step ReadFault)
 whole_steps b =
     whole_step 38 b.phdr ∷ whole_step 4 b.pbag ∷ whole_step 10 b.pmod ∷ whole_step 4 b.pgen
@@ -59,7 +59,7 @@ whole_steps b =
     ∷ whole_step 46 b.shdr
     ∷ []
 
--- the nine lists in those bytes
+-- the nine lists of records
 unfoldable pub tables_from : Bodies → Tables
 tables_from b = record {
   phdr = records 38 preset_head_of b.phdr;
@@ -73,15 +73,15 @@ tables_from b = record {
   shdr = records 46 sample_head_of b.shdr;
 }
 
--- ---- presets, or instruments
+-- ---- presets or instruments
 
--- each of the four bodies is whole records long, where a head has a size
+-- the size checks of the four bodies, where `size` is the size of a header
 abbrev pub level_whole_steps : ℕ → LevelChunks → List (Step ReadFault)
 level_whole_steps size c =
     whole_step size c.heads.now ∷ whole_step 4 c.bags.now ∷ whole_step 10 c.modulators.now
     ∷ whole_step 4 c.generators.now ∷ []
 
--- the four lists in those bytes
+-- the four lists of records
 abbrev pub level_of : {H : Type 0} → ℕ → (List ℕ → H) → LevelChunks → LevelTables H
 level_of size of_bytes c = record {
   heads = records size of_bytes c.heads.now;
@@ -90,12 +90,12 @@ level_of size of_bytes c = record {
   generators = records 4 generator_of c.generators.now;
 }
 
--- where the first bags of the heads, and the generators and modulators of the bags, may lie
+-- the checks of the indexes in headers and bags
 abbrev pub level_index_steps : {H : Type 0} → List ℕ → LevelTables H → List (Step ReadFault)
 level_index_steps first_bags l =
     index_steps first_bags (length l.bags) ++ bag_steps l.bags (length l.generators) (length (or_zero l.modulators))
 
--- the four lists are these, where a list of no modulators is seen as one zero record
+-- the four lists are these; an empty list of modulators reads as one zero record
 pub record AreLists {H : Type 0} (l : LevelTables H) (heads : List H) (bags : List Bag) (generators : List Generator)
     (modulators : List Modulator) : Type 0 where
   pub heads_are : l.heads ≡ heads

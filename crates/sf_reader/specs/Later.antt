@@ -1,4 +1,4 @@
--- What was counted in the first bags, gone on with by later ones.
+-- The counts of the first bags, continued by later bags.
 use Rattle.std.specs.Prelude.{◌+◌, ◌^◌, ◌≤◌, List, not, filter, count_by, sum_by}
 use Rattle.generators.specs.declared.level.Level.{Level}
 use Rattle.bank_format.specs.Zones.{Bagged, has_target, dropped, kept, is_mended}
@@ -11,7 +11,7 @@ counts_with_later at counts bags = record {
   ranges = counts.ranges + sum_by (λ (r : Bagged). count_by is_mended (kept at r.gens)) (filter (has_target at) bags);
 }
 
--- far below 64 bits
+-- adding the counts of another bag does not overflow 64 bits
 pub record AreFew (counts : ZoneCounts) : Type 0 where
   pub zones : counts.zones ≤ 2 ^ 32
   pub gens : counts.gens ≤ 2 ^ 32

@@ -1,4 +1,4 @@
--- Presets and instruments with their zones, as the reader goes through them.
+-- Presets and instruments with their zones, as the reader builds them.
 use Rattle.std.specs.Prelude.{◌≡◌, ◌+◌, ◌-◌, ◌++◌, ◌∷◌, [], ◌<◌, ◌^◌, ℕ, List, length, map, flat_map, sum_by}
 use Rattle.std.specs.List.{slice_range}
 use Rattle.generators.specs.declared.level.Level.{Level}
@@ -31,21 +31,21 @@ use Rattle.sf_reader.specs.declared.owners.Members.{Members}
 abbrev pub added : ZoneCounts → ZoneCounts → ZoneCounts
 added a b = record { zones = a.zones + b.zones; gens = a.gens + b.gens; ranges = a.ranges + b.ranges }
 
--- each can be counted in 64 bits
+-- each count fits in 64 bits
 pub record AreSmall (c : ZoneCounts) : Type 0 where
   pub zones : c.zones < 2 ^ 64
   pub gens : c.gens < 2 ^ 64
   pub ranges : c.ranges < 2 ^ 64
 
--- of the bags of all heads
+-- the counts of the bags of all headers
 abbrev pub counts_over : Level → List (List Bagged) → ZoneCounts
 counts_over at ws =
     record
     { zones = sum_by (ignored at) ws; gens = sum_by (gens_dropped at) ws; ranges = sum_by (ranges_mended at) ws }
 
--- ---- lists that grow
+-- ---- lists under construction
 
--- those with these heads, each with its bags
+-- the lists have these heads and bags, and these counts
 pub record AreOwnersSoFar {H : Type 0} (r : OwnersSoFar H) (hs : List H) (owners : List (List Bag))
     (c : ZoneCounts) : Type 0 where
   pub heads_are : r.heads.items ≡ hs
@@ -53,7 +53,7 @@ pub record AreOwnersSoFar {H : Type 0} (r : OwnersSoFar H) (hs : List H) (owners
   pub records_are : AreSoFar r.records (all_bags owners)
   pub counts_are : r.counts ≡ c
 
--- one more was put behind the others, with this head and these bags, in which so much was dropped or mended
+-- an owner with this head and these bags is appended, and its counts are added
 pub record AddsOwner {H : Type 0} (old new : OwnersSoFar H) (head : H) (own : List Bag) (more : ZoneCounts) : Type 0
   where
     pub heads_grow : new.heads.items ≡ old.heads.items ++ head ∷ []
@@ -61,7 +61,7 @@ pub record AddsOwner {H : Type 0} (old new : OwnersSoFar H) (head : H) (own : Li
     pub records_grow : Adds old.records new.records own
     pub counts_grow : new.counts ≡ added old.counts more
 
--- and the terminals behind all of them
+-- the lists are completed by their terminals
 pub record AreEnded {H : Type 0} (r : OwnersSoFar H) (e : OwnersRead H) : Type 0 where
   pub heads_are : e.heads ≡ head_records r.heads.items r.first_bags.items
   pub records_are : (all : List Bag) → AreSoFar r.records all → e.records ≡ tables_of all
@@ -69,15 +69,15 @@ pub record AreEnded {H : Type 0} (r : OwnersSoFar H) (e : OwnersRead H) : Type 0
 
 -- ---- the presets, or the instruments
 
--- the bags from one head's first to the next one's
+-- the bags from the first bag of one header up to that of the next
 abbrev pub window_of : {H : Type 0} → (H → ℕ) → LevelTables H → H → H → List Bagged
 window_of first_bag l h next = slice_range (bags_in l.bags l.generators l.modulators) (first_bag h) (first_bag next)
 
--- the bags of each head
+-- the bags of each header
 abbrev pub windows_of : {H : Type 0} → (H → ℕ) → LevelTables H → List (List Bagged)
 windows_of first_bag l = windows (bags_in l.bags l.generators l.modulators) (map first_bag l.heads)
 
--- all of them in flat lists, and what was dropped or mended in their zones
+-- all owners in flat lists, and the counts of their zones
 pub record FlatOwners (H : Type 0) : Type 0 where
   pub heads : List (HeadRecord H)
   pub records : flat.Tables
@@ -86,7 +86,7 @@ pub record FlatOwners (H : Type 0) : Type 0 where
 abbrev pub owners_seen : {H : Type 0} → OwnersRead H → FlatOwners H
 owners_seen r = record { heads = r.heads; records = r.records; counts = r.counts }
 
--- those with these heads and bags
+-- the owners with these heads and bags
 abbrev pub flat_owners : {H : Type 0} → List H → List (List Bag) → ZoneCounts → FlatOwners H
 flat_owners hs owners counts =
     record
@@ -95,11 +95,11 @@ flat_owners hs owners counts =
 abbrev pub owners_with_counts : {H R : Type 0} → Headers H R → List R → List (List Bagged) → FlatOwners H
 owners_with_counts h rs ws = flat_owners (map h.read (rows rs)) (map (own_bags h.level) ws) (counts_over h.level ws)
 
--- the target of each zone that their bags say
+-- the target checks of the zones
 abbrev pub zone_steps : Level → ℕ → ReadFault → List (List Bagged) → List (Step ReadFault)
 zone_steps at targets missing ws = map (target_step targets missing) (flat_map (zones_read at) ws)
 
--- ---- both
+-- ---- both levels
 
 pub record FlatMembers : Type 0 where
   pub presets : FlatOwners Head
@@ -114,7 +114,7 @@ members_of t = record {
   instruments = owners_with_counts instruments t.inst (instrument_windows t);
 }
 
--- the presets' zones first
+-- the target checks of presets, then those of instruments
 abbrev pub member_steps : Tables → List (Step ReadFault)
 member_steps t =
     zone_steps level.Preset (length (rows t.inst)) BadInstrument (preset_windows t)

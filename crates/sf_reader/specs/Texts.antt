@@ -1,4 +1,4 @@
--- The eight texts of a file.
+-- The eight texts of a file, before and after they are truncated.
 use Rattle.std.specs.Prelude.{◌+◌, ℕ, List, take}
 use Rattle.sf_base.specs.declared.limits.TheConstants.{TEXT_LENGTH, COMMENT_LENGTH}
 use Rattle.riff_chunks.specs.Walk.{Chunk}
@@ -6,7 +6,7 @@ use Rattle.bank_parts.specs.declared.texts.Texts.{Texts}
 use Rattle.bank_format.specs.Ids as id
 use Rattle.bank_format.specs.Texts.{text_in, engine_read, over}
 
--- before any is cut
+-- before they are truncated
 unfoldable pub texts_in : List Chunk → Texts
 texts_in info = record {
   engine = text_in id.ISNG info;
@@ -19,7 +19,7 @@ texts_in info = record {
   software = text_in id.ISFT info;
 }
 
--- each cut to the length that it may have
+-- truncated to their maximum lengths, with a default engine
 unfoldable pub cut_of : Texts → Texts
 cut_of t = record {
   engine = engine_read (take TEXT_LENGTH t.engine);
@@ -32,7 +32,7 @@ cut_of t = record {
   software = take TEXT_LENGTH t.software;
 }
 
--- how many are longer
+-- how many are too long
 unfoldable pub cut_count : Texts → ℕ
 cut_count t =
     over TEXT_LENGTH t.engine + over TEXT_LENGTH t.name + over TEXT_LENGTH t.date + over TEXT_LENGTH t.engineers

@@ -12,19 +12,18 @@ use generators::{Level, allowed};
 use hydra_records::{Generator, Table};
 use sf_base::OutOfMemory;
 
-/// What the generator records of a bag say besides the generators that are kept.
+/// What is read from the generator records of a bag, besides the generators that are kept.
 #[derive(Drop)]
 pub(crate) struct GensRead {
-    /// The amount of the first target.
+    /// The amount of the first target record.
     pub(crate) target: Option<u16>,
-    /// How many records are neither kept nor the target.
+    /// The number of records that are neither kept nor the target.
     pub(crate) dropped: u64,
-    /// How many ranges were mended.
+    /// The number of ranges that were repaired.
     pub(crate) ranges: u64,
 }
 
-/// Reads the generator records of a bag, and puts those that are kept, with their ranges mended, behind
-/// others.
+/// Reads the generator records of a bag, and appends those that are kept to `gens`, with repaired ranges.
 pub(crate) fn read_gens(
     gens: &mut Vec<(u16, u16)>,
     level: Level,
@@ -47,8 +46,8 @@ pub(crate) fn read_gens(
     })
 }
 
-// Sets the generators up to the first target, as far as the level allows them, in the map of those from `start`
-// on, and gives the target.
+// Sets the allowed generators before the target in the map of the entries from `start` on, and returns
+// the target.
 fn set_gens(
     gens: &mut Vec<(u16, u16)>,
     start: usize,
@@ -72,7 +71,7 @@ fn set_gens(
     Ok(None)
 }
 
-// Mends both ranges in that map, and says how many changed.
+// Repairs the key range and the velocity range in that map, and returns how many changed.
 fn mend_ranges(gens: &mut Vec<(u16, u16)>, start: usize) -> u64
     requires { EndsInMap start gens.old.items }
     ensures front { take start gens.new.items ≡ take start gens.old.items }

@@ -1,4 +1,4 @@
-//! A map of generators as the last entries of a list.
+//! Generator maps stored as the last entries of a list.
 ghost use Rattle.std.specs.Prelude.{◌≡◌, take, OnOk};
 ghost use Rattle.std.specs.FinMap.{insert};
 ghost use Rattle.sf_reader.specs.Entries.{EndsInMap, map_from};
@@ -11,7 +11,7 @@ use sf_base::OutOfMemory;
 /// The highest key and the highest velocity.
 const HIGHEST: u8 = 127;
 
-/// Sets an operator in the map of the entries from `start` on.
+/// Sets an operator in the map of the entries from `start` on. It keeps the entries sorted.
 pub(crate) fn set_from(
     entries: &mut Vec<(u16, u16)>,
     start: usize,
@@ -35,7 +35,7 @@ pub(crate) fn set_from(
     }
 }
 
-/// Mends the range of an operator in that map, and says whether it changed.
+/// Repairs the range of an operator in that map, and returns whether it changed.
 pub(crate) fn mend_from(entries: &mut Vec<(u16, u16)>, start: usize, operator: u16) -> bool
     requires { EndsInMap start entries.old.items }
     ensures front { take start entries.new.items ≡ take start entries.old.items }
@@ -52,7 +52,7 @@ pub(crate) fn mend_from(entries: &mut Vec<(u16, u16)>, start: usize, operator: u
     mended != amount
 }
 
-// A range whose ends are cut to the highest and put in order.
+// Lowers ends above 127 to 127, and exchanges ends in the wrong order.
 fn mended_amount(amount: u16) -> u16
     ensures { result ≡ range_mended amount }
 {

@@ -1,4 +1,4 @@
-//! The three lists in the RIFF chunk of a file.
+//! The lists INFO, sdta and pdta in the RIFF chunk of a file.
 ghost use Rattle.std.specs.Prelude.{◌≡◌};
 ghost use Rattle.bank_format.specs.Steps.{Passes};
 ghost use Rattle.bank_format.specs.ReadSteps.{list_steps};
@@ -13,7 +13,7 @@ const INFO_IDS: &[[u8; 4]] = &[
     *b"ifil", *b"isng", *b"INAM", *b"ICRD", *b"IENG", *b"IPRD", *b"ICOP", *b"ICMT", *b"ISFT",
 ];
 
-/// The chunks of `sdta`: the points, and the eight further bits of each.
+/// The chunks of `sdta` that are read: the points, and the low-order bytes of 24-bit points.
 const SDTA_IDS: &[[u8; 4]] = &[*b"smpl", *b"sm24"];
 
 /// The chunks of `pdta`: the nine lists of records.
@@ -21,7 +21,7 @@ const PDTA_IDS: &[[u8; 4]] = &[
     *b"phdr", *b"pbag", *b"pmod", *b"pgen", *b"inst", *b"ibag", *b"imod", *b"igen", *b"shdr",
 ];
 
-/// The three lists of a file, each as its chunks (SoundFont 2.04, section 4).
+/// The three lists of a file, each with its chunks (SoundFont 2.04, section 4).
 #[derive(Drop)]
 pub(crate) struct Lists<'a> {
     pub(crate) info: FirstChunks<'a>,
@@ -37,7 +37,7 @@ impl<'a> Model for Lists<'a> {
     ghost view = { λ lists. record { info = lists.info; sdta = lists.sdta; pdta = lists.pdta } };
 }
 
-/// The first list of each form in the body of the RIFF chunk. Each is walked once, to its end.
+/// Finds the first list of each form in the body of the RIFF chunk, and the first chunk of each id in it.
 #[tactic(auto, unfolding(crate::specs::Lists::chunks_in_lists, bank_format::specs::ReadSteps::list_steps, bank_format::specs::Chunks::list_window, bank_format::specs::Ids::INFO, bank_format::specs::Ids::SDTA, bank_format::specs::Ids::PDTA))]
 pub(crate) fn lists_of(window: &[u8]) -> Result<Lists, ReadFault>
     ensures { Passes (λ lists. lists) result (list_steps window.now) (chunks_in_lists window.now) }

@@ -1,4 +1,4 @@
-//! The nine lists of records that `pdta` holds (SoundFont 2.04, section 7).
+//! The nine record lists of `pdta` (SoundFont 2.04, section 7).
 ghost use Rattle.std.specs.Prelude.{◌≡◌, [], ◌∷◌, length, map, nat_le};
 ghost use Rattle.std.specs.List.{list_all};
 ghost use Rattle.bank_format.specs.Steps.{Passes};
@@ -17,14 +17,14 @@ use sf_base::Name20;
 use sf_base::limits::RECORDS;
 use std::marker::Model;
 
-/// The body of the first chunk of an id, which has to be there.
+/// Returns the body of the first chunk with an id, or `MissingChunk`.
 pub(crate) fn needed_body<'a>(chunks: &FirstChunks<'a>, id: [u8; 4]) -> Result<&'a [u8], ReadFault>
     ensures { Passes (λ body. body.now) result (chunk_step chunks.now id ∷ []) (body_in id chunks.now) }
 {
     chunks.body_of(id).ok_or(ReadFault::MissingChunk)
 }
 
-/// The bodies of the four chunks of presets, or of instruments.
+/// The bodies of the four chunks of presets or of instruments.
 #[derive(Clone, Copy)]
 pub(crate) struct LevelChunks<'a> {
     heads: &'a [u8],
@@ -60,7 +60,7 @@ impl<'a> Model for HydraChunks<'a> {
 }
 
 impl<'a> HydraChunks<'a> {
-    /// The first chunk of each of the nine ids, all of which have to be there.
+    /// Finds the first chunk with each of the nine ids.
     #[tactic(auto, unfolding(crate::specs::Hydra::bodies_in, bank_format::specs::Ids::PHDR, bank_format::specs::Ids::PBAG, bank_format::specs::Ids::PMOD, bank_format::specs::Ids::PGEN, bank_format::specs::Ids::INST, bank_format::specs::Ids::IBAG, bank_format::specs::Ids::IMOD, bank_format::specs::Ids::IGEN, bank_format::specs::Ids::SHDR))]
     pub(crate) fn of(pdta: &FirstChunks<'a>) -> Result<HydraChunks<'a>, ReadFault>
         ensures { Passes (λ bodies. bodies) result (map (chunk_step pdta.now) nine)
@@ -83,7 +83,7 @@ impl<'a> HydraChunks<'a> {
         })
     }
 
-    /// The nine lists, each of which has to be whole records long.
+    /// The nine lists of records; the length of each body must be a multiple of its record size.
     #[tactic(auto, unfolding(crate::specs::Hydra::whole_steps, crate::specs::Hydra::tables_from))]
     pub(crate) fn tables(&self) -> Result<Tables<'a>, ReadFault>
         ensures { Passes (λ tables. tables) result (whole_steps self.now) (tables_from self.now) }
@@ -96,13 +96,13 @@ impl<'a> HydraChunks<'a> {
     }
 }
 
-/// The four lists of presets, or of instruments.
+/// The four lists of presets or of instruments, borrowed from the file.
 #[derive(Drop)]
 pub(crate) struct LevelTables<'a, H: Record> {
-    /// The heads of the presets or of the instruments, and their terminal.
+    /// The headers of the presets or of the instruments, and their terminal.
     pub(crate) heads: Table<'a, H>,
 
-    /// Their bags, each of which is a zone, and a terminal.
+    /// The bags, one for each zone, and a terminal.
     pub(crate) bags: Table<'a, Bag>,
 
     /// The modulators of the bags, and a terminal, which may be missing.
@@ -113,7 +113,7 @@ pub(crate) struct LevelTables<'a, H: Record> {
 }
 
 impl<'a> LevelChunks<'a> {
-    // The four lists, each of which has to be whole records long.
+    // The four lists of records; the length of each body must be a multiple of its record size.
     fn tables<H: Record>(&self) -> Result<LevelTables<'a, H>, ReadFault>
         ensures { Passes (λ level. level) result (level_whole_steps H.SIZE self.now)
             (level_of H.SIZE H.of_bytes self.now) }
@@ -128,14 +128,14 @@ impl<'a> LevelChunks<'a> {
 }
 
 impl<'a, H: Record + Copy> LevelTables<'a, H> {
-    // How many modulators there are; a list of none reads as one zero record.
+    // The number of modulators; an empty list reads as one zero record.
     fn modulator_count(&self) -> usize
         ensures { result ≡ length (or_zero self.now.modulators) }
     {
         self.modulators.len().max(1)
     }
 
-    // Each head says where its bags begin, and each bag where its generators and modulators do.
+    // Checks the bag indexes of headers, and the generator and modulator indexes of bags.
     #[tactic(auto, unfolding(bank_format::specs::ReadSteps::index_steps))]
     fn check_indexes<I: Index<H>>(&self) -> Result<(), ReadFault>
         ensures { Passes (λ u. u) result (level_index_steps (map I.index self.now.heads) self.now) tt }
@@ -146,7 +146,7 @@ impl<'a, H: Record + Copy> LevelTables<'a, H> {
     }
 }
 
-/// The nine lists. A list of modulators that holds none is seen as one zero record.
+/// The nine lists of records. An empty list of modulators reads as one zero record.
 #[derive(Drop)]
 pub(crate) struct Tables<'a> {
     presets: LevelTables<'a, PresetHead>,
@@ -188,14 +188,14 @@ impl<'a> Tables<'a> {
         &self.instruments
     }
 
-    /// The heads of the samples, and their terminal.
+    /// The headers of the samples, and their terminal.
     pub(crate) fn samples(&self) -> &Table<'a, SampleHead>
         ensures { result.now ≡ self.now.shdr }
     {
         &self.samples
     }
 
-    // How many records each of the nine has.
+    // The number of records in each of the nine lists.
     fn counts(&self) -> [usize; 9]
         ensures { result ≡ record_counts self.now }
     {
@@ -212,7 +212,7 @@ impl<'a> Tables<'a> {
         ]
     }
 
-    /// Each of the nine has a terminal, and none has too many records.
+    /// Checks that each of the nine lists has a terminal, and none has too many records.
     #[tactic(auto, using(crate::proofs::StepLaws::same_fault), unfolding(bank_format::specs::ReadSteps::count_steps))]
     pub(crate) fn check_counts(&self) -> Result<(), ReadFault>
         ensures { Passes (λ u. u) result (count_steps self.now) tt }
@@ -227,7 +227,7 @@ impl<'a> Tables<'a> {
         Ok(())
     }
 
-    /// The indexes of each list rise, and lie in the list that they point into.
+    /// Checks that the indexes of each list are non-decreasing and inside the list that they refer to.
     pub(crate) fn check_indexes(&self) -> Result<(), ReadFault>
         ensures { Passes (λ u. u) result (all_index_steps self.now) tt }
     {
@@ -236,21 +236,21 @@ impl<'a> Tables<'a> {
     }
 }
 
-/// How many members the heads of a list are of: all but the last, which is the terminal.
+/// The number of headers without the terminal.
 pub(crate) fn row_count<H: Record>(heads: &Table<H>) -> usize
     ensures { result ≡ length (rows heads.now) }
 {
     heads.len().saturating_sub(1)
 }
 
-// Whether no count is below the least.
+// Whether each count is at least `least`.
 fn all_at_least(least: usize, counts: &[usize]) -> bool
     ensures { result ≡ list_all (λ count. nat_le least count) counts.now }
 {
     counts.iter().all(|count| *count >= least)
 }
 
-// Whether no count is above the most.
+// Whether each count is at most `most`.
 fn all_at_most(most: usize, counts: &[usize]) -> bool
     ensures { result ≡ list_all (λ count. nat_le count most) counts.now }
 {

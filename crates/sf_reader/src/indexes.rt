@@ -1,4 +1,4 @@
-//! Indexes of records that point into other lists.
+//! Indexes of records into other lists.
 ghost use Rattle.std.specs.Prelude.{◌≡◌, ℕ, map};
 ghost use Rattle.bank_format.specs.Steps.{Passes};
 ghost use Rattle.bank_format.specs.ReadSteps.{index_steps};
@@ -7,23 +7,23 @@ use bank_format::{ReadFault, RecordedHead};
 use hydra_records::{Bag, Record, Table};
 use std::marker::PhantomData;
 
-/// A number of a record that says where in another list something of it begins.
+/// An index in a record of type `R`, into another list.
 pub(crate) trait Index<R> {
-    /// The number.
+    /// The index.
     ghost index: { R → ℕ };
 
-    /// The number.
+    /// Returns the index.
     fn of(row: &R) -> u16
         ensures { result ≡ index row.now };
 }
 
-/// Where the bags of a preset or an instrument begin, of which a bank keeps `H`.
+/// The first bag of a preset or an instrument with head `H`.
 pub(crate) struct FirstBag<H>(PhantomData<H>);
 
-/// Where the generators of a bag begin.
+/// The first generator of a bag.
 pub(crate) enum FirstGenerator {}
 
-/// Where the modulators of a bag begin.
+/// The first modulator of a bag.
 pub(crate) enum FirstModulator {}
 
 impl<H: RecordedHead> Index<H::Record> for FirstBag<H> {
@@ -50,8 +50,8 @@ impl Index<Bag> for FirstModulator {
     }
 }
 
-/// The indexes of a list into one of `count` records: none falls below the one before it, and none
-/// passes the last record.
+/// Checks that the indexes into a list of `count` records are non-decreasing, and at most that of its
+/// last record.
 #[tactic(auto, unfolding(bank_format::specs::ReadSteps::index_steps))]
 pub(crate) fn check_indexes<R: Record + Copy, I: Index<R>>(
     records: &Table<R>,

@@ -1,6 +1,5 @@
-//! Reading SoundFont 2 files (SoundFont 2.04): a file is gone through by steps in a fixed order, and
-//! the first that it breaks gives its fault. What a file says, and what the steps are, stands in
-//! bank_format.
+//! Reads SoundFont 2 files (SoundFont 2.04). The reader makes its checks in a fixed order, and the first
+//! that fails determines the fault. `bank_format` defines the checks and the content of a file.
 #![tactic(auto)]
 
 mod bag;

@@ -16,20 +16,20 @@ use numbered_lists::NumberedList;
 use sf_base::{Failure, Name20, OutOfMemory};
 use std::alloc::Global;
 
-/// The presets or the instruments of a file so far, in lists that grow at their ends.
+/// The presets or the instruments read so far.
 pub(crate) struct OwnersSoFar<H> {
     heads: Vec<H>,
 
-    // Where the bags of each begin, and last how many bags there are.
+    // The index of the first bag of each, and last the number of bags.
     first_bags: Vec<u16>,
 
     records: RecordsSoFar,
 
-    // What was dropped or mended in their zones.
+    // What was dropped or repaired in their zones.
     counts: ZoneCounts,
 }
 
-// Not derived: a derived drop is written out, and proved, wherever a value is dropped; this one is a call.
+// Written by hand: a derived drop is inlined, and proved again, wherever a value is dropped.
 impl<H: Drop> Drop for OwnersSoFar<H> {
     fn drop(self) {
         let OwnersSoFar {
@@ -42,7 +42,7 @@ impl<H: Drop> Drop for OwnersSoFar<H> {
 }
 
 impl<H: Drop> OwnersSoFar<H> {
-    // All of them, with their terminals.
+    // Completes the lists with their terminals.
     fn ended(self) -> Result<OwnersRead<H>, OutOfMemory>
         requires { length self.first_bags.items ≡ length self.heads.items + 1 }
         ensures { IfOk result (λ read. AreEnded self read) }
@@ -63,14 +63,15 @@ impl<H: Drop> OwnersSoFar<H> {
     }
 }
 
-/// The presets or the instruments of a file in flat lists, and what was dropped or mended in their zones.
+/// The presets or the instruments of a file in flat lists, and what was dropped or repaired in their
+/// zones.
 pub(crate) struct OwnersRead<H> {
     pub(crate) heads: FlatHeads<H>,
     pub(crate) records: Recs,
     pub(crate) counts: ZoneCounts,
 }
 
-// Not derived, for the same reason.
+// Written by hand, for the same reason.
 impl<H: Drop> Drop for OwnersRead<H> {
     fn drop(self) {
         let OwnersRead {
@@ -82,7 +83,7 @@ impl<H: Drop> Drop for OwnersRead<H> {
 }
 
 impl<H: Drop> OwnersRead<H> {
-    /// Their heads, and their records.
+    /// Returns the heads and the records.
     pub(crate) fn into_lists(self) -> (FlatHeads<H>, Recs)
         ensures heads { result.0 ≡ self.heads }
         ensures records { result.1 ≡ self.records }
@@ -103,7 +104,7 @@ pub(crate) struct Members {
     pub(crate) instruments: OwnersRead<Name20>,
 }
 
-/// The presets and the instruments, each zone of which names a target that is there.
+/// Reads the presets, then the instruments. The target of each zone must exist.
 pub(crate) fn read_members(alloc: Global, tables: &Tables) -> Result<Members, Failure<ReadFault>>
     requires counts { first_broken (count_steps tables.now) ≡ None }
     requires indexes { first_broken (all_index_steps tables.now) ≡ None }
@@ -125,7 +126,7 @@ pub(crate) fn read_members(alloc: Global, tables: &Tables) -> Result<Members, Fa
     })
 }
 
-// The presets or the instruments, in whose zones the targets are among these.
+// Reads the presets or the instruments; the targets of their zones must be in `targets`.
 fn read_owners<H: RecordedHead>(
     alloc: Global,
     level: &LevelTables<H::Record>,
@@ -150,7 +151,7 @@ fn read_owners<H: RecordedHead>(
     Ok(read.ended()?)
 }
 
-// None yet, with room for what the tables hold.
+// Empty lists with capacity for all records of the tables.
 fn no_owners<H: RecordedHead>(
     alloc: Global,
     level: &LevelTables<H::Record>,
@@ -174,7 +175,7 @@ fn no_owners<H: RecordedHead>(
     })
 }
 
-// One more of them. Its bags end where those of the next one begin.
+// Reads one preset or instrument. Its bags end at the first bag of the next header.
 fn read_owner<H: RecordedHead>(
     level: &LevelTables<H::Record>,
     head: &H::Record,
@@ -207,7 +208,7 @@ fn read_owner<H: RecordedHead>(
     Ok(())
 }
 
-/// Both counts together.
+/// Adds the counts.
 pub(crate) fn add(a: ZoneCounts, b: ZoneCounts) -> ZoneCounts
     requires { AreSmall (added a b) }
     ensures { result ≡ added a b }

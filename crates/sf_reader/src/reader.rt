@@ -1,4 +1,4 @@
-//! Reading a file.
+//! Reading a file as a bank.
 ghost use Rattle.std.specs.Prelude.{◌≡◌, ◌%◌, length, IfOk, IfErr, OnOk};
 ghost use Rattle.sf_base.specs.Fields.{field_at};
 ghost use Rattle.bank_parts.specs.Valid.{IsValid};
@@ -26,12 +26,12 @@ use riff_chunks::FirstChunks;
 use sf_base::{Failure, u16_at};
 use std::alloc::Global;
 
-/// The bank of a file, and the counts of what was dropped or mended; or the fault of the first step
-/// of reading that the file breaks. Out of memory may come in place of either, where memory for the
-/// presets, instruments or samples was refused.
+/// Reads the bank of a file, and counts what was dropped or repaired.
 ///
-/// The bank borrows the file: its texts and the points of its samples are slices of it. No bank
-/// is read that is not valid.
+/// It returns the fault of the first check that the file fails. `OutOfMemory` may be returned for any
+/// file, if an allocation for presets, instruments or samples fails.
+///
+/// The bank borrows its texts and the points of its samples from `file`. It is always valid.
 pub fn read<'a>(alloc: Global, file: &'a [u8]) -> Result<(Bank<'a>, Counts), Failure<ReadFault>>
     ensures ok { IfOk result (λ r. ReadsAs file.now r.0 r.1) }
     ensures err { IfErr result (λ failure. Fails failure (fault_of file.now)) }
@@ -49,12 +49,12 @@ pub fn read<'a>(alloc: Global, file: &'a [u8]) -> Result<(Bank<'a>, Counts), Fai
     let (flat, counts) = read_lists(alloc, &lists)?;
     read_banks_are_valid();
     let bank = Bank::from_flat(flat).unwrap();
-    // Only one sound bank has these lists.
+    // Proves that no other sound bank has these lists.
     bank.soundness();
     Ok((bank, counts))
 }
 
-// What the three lists hold.
+// Checks and reads the three lists.
 fn read_lists<'a>(
     alloc: Global,
     lists: &Lists<'a>,
@@ -70,7 +70,7 @@ fn read_lists<'a>(
     read_tables(alloc, minor, lists, &tables, smpl)
 }
 
-// The minor version, where the major one is 2 (SoundFont 2.04, section 5.1).
+// Returns the minor version; the major version must be 2 (SoundFont 2.04, section 5.1).
 fn minor_of(ifil: &[u8]) -> Result<u16, ReadFault>
     ensures { Passes (λ minor. minor) result (version_steps ifil.now) (field_at 2 2 ifil.now) }
 {
@@ -80,7 +80,7 @@ fn minor_of(ifil: &[u8]) -> Result<u16, ReadFault>
     Ok(u16_at(ifil, 2))
 }
 
-// The bytes of the points. A missing chunk holds none.
+// Returns the bytes of the points; none if the chunk is missing.
 #[tactic(auto, unfolding(bank_format::specs::Ids::SMPL))]
 fn smpl_of<'a>(sdta: &FirstChunks<'a>) -> &'a [u8]
     ensures { result.now ≡ body_in SMPL sdta.now }
@@ -88,7 +88,7 @@ fn smpl_of<'a>(sdta: &FirstChunks<'a>) -> &'a [u8]
     sdta.body_of(*b"smpl").unwrap_or(&[])
 }
 
-// What the nine lists and the points hold.
+// Checks and reads the nine lists and the points.
 fn read_tables<'a>(
     alloc: Global,
     minor: u16,
@@ -106,7 +106,7 @@ fn read_tables<'a>(
     Ok(content_of(minor, lists, tables, members, samples))
 }
 
-// What is asked of the nine lists and the points before presets and instruments are read.
+// Makes the checks of the nine lists and the points that precede reading presets and instruments.
 #[tactic(auto, unfolding(crate::specs::Content::checked_steps))]
 fn check_tables(tables: &Tables, smpl: &[u8]) -> Result<(), ReadFault>
     ensures passes { Passes (λ u. u) result (checked_steps tables.now smpl.now) tt }
@@ -120,7 +120,7 @@ fn check_tables(tables: &Tables, smpl: &[u8]) -> Result<(), ReadFault>
     check_samples(tables.samples(), smpl.len() / 2)
 }
 
-// The lists of these members, and the counts.
+// The flat lists of the bank, and the counts.
 fn content_of<'a>(
     minor: u16,
     lists: &Lists<'a>,
@@ -160,7 +160,7 @@ fn content_of<'a>(
     (flat, counts)
 }
 
-// One where there is a chunk of the eight further bits of each point.
+// Returns 1 if there is a chunk `sm24`, which is dropped.
 #[tactic(auto, unfolding(bank_format::specs::Ids::SM24))]
 fn count_sm24(sdta: &FirstChunks<'_>) -> u64
     ensures { result ≡ sm24_dropped sdta.now }

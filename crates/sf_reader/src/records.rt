@@ -1,4 +1,4 @@
-//! The flat lists of records of a level, which grow at their ends.
+//! The flat lists of records of one level, while they are built.
 ghost use Rattle.std.specs.Prelude.{◌≡◌, ◌≤◌, ◌-◌, ◌++◌, ◌∷◌, [], List, length, IfOk, OnOk};
 ghost use Rattle.std.specs.FinMap.{entries};
 ghost use Rattle.sf_reader.specs.declared.records.RecordsSoFar.{RecordsSoFar};
@@ -13,7 +13,7 @@ use modulators::Modulator;
 use sf_base::OutOfMemory;
 use std::alloc::Global;
 
-/// The modulator that ends a list of modulators.
+/// The terminal of a list of modulators.
 const LAST_MODULATOR: Modulator = Modulator {
     source: 0,
     dest: 0,
@@ -22,8 +22,8 @@ const LAST_MODULATOR: Modulator = Modulator {
     transform: 0,
 };
 
-/// The records of the bags, generators and modulators of a level so far, those of the generators and the
-/// modulators without their terminals.
+/// The bags, generators and modulators of a level read so far. Generators and modulators have no
+/// terminals yet.
 #[derive(Drop)]
 pub(crate) struct RecordsSoFar {
     pub(crate) bags: Vec<(u16, u16)>,
@@ -32,7 +32,7 @@ pub(crate) struct RecordsSoFar {
 }
 
 impl RecordsSoFar {
-    /// All of them, with their terminals.
+    /// Completes the lists with their terminals.
     pub(crate) fn ended(self) -> Result<Recs, OutOfMemory>
         ensures { IfOk result (λ recs. (all : List Bag) → AreSoFar self all → recs ≡ tables_of all) }
     {
@@ -47,7 +47,7 @@ impl RecordsSoFar {
     }
 }
 
-/// The lists of no bags, with room for so many records.
+/// Empty lists with capacity for these numbers of records.
 pub(crate) fn no_records(
     alloc: Global,
     bags: usize,
@@ -63,8 +63,8 @@ pub(crate) fn no_records(
     Ok(RecordsSoFar { bags, gens, mods })
 }
 
-/// Ends a zone's bag, whose generators stand behind the others already, with its target, the amount of an
-/// operator, and its modulators.
+/// Completes the bag of a zone, whose generators are already in the list, with its target (an operator
+/// and its amount) and its modulators.
 pub(crate) fn end_zone(
     records: &mut RecordsSoFar,
     target: (u16, u16),
@@ -76,8 +76,8 @@ pub(crate) fn end_zone(
     end_bag(records, modulators)
 }
 
-/// Ends the bag of a global zone, whose generators stand behind the others from `start` on, where the zone holds
-/// something.
+/// Completes the bag of a global zone, whose generators are the entries from `start` on. An empty global
+/// zone has no bag.
 pub(crate) fn end_global(
     records: &mut RecordsSoFar,
     start: usize,
@@ -95,7 +95,7 @@ pub(crate) fn end_global(
     end_bag(records, modulators)
 }
 
-// Ends a bag, whose generators stand behind the others already, with its modulators.
+// Completes a bag, whose generators are already in the list, with its modulators.
 fn end_bag(records: &mut RecordsSoFar, modulators: &Table<'_, Modulator>) -> Result<(), OutOfMemory>
     ensures { OnOk result (EndsBag records.old records.new [] modulators.now) }
 {
@@ -106,7 +106,7 @@ fn end_bag(records: &mut RecordsSoFar, modulators: &Table<'_, Modulator>) -> Res
     Ok(())
 }
 
-// Puts modulators behind the others.
+// Appends modulators.
 fn push_mods(
     mods: &mut Vec<Modulator>,
     modulators: &Table<'_, Modulator>,
@@ -119,14 +119,14 @@ fn push_mods(
     Ok(())
 }
 
-/// How many bags there are, as an index.
+/// Returns the number of bags as an index.
 pub(crate) fn bag_count(records: &RecordsSoFar) -> Result<u16, OutOfMemory>
     ensures { IfOk result (λ count. count ≡ length records.now.bags.items - 1) }
 {
     index(records.bags.len().saturating_sub(1))
 }
 
-// A count as an index, which has 16 bits. No table of a file that is read has more records.
+// Converts a count to a 16-bit index. The lists of a file that passes its checks are never longer.
 fn index(count: usize) -> Result<u16, OutOfMemory>
     ensures { IfOk result (λ index. index ≡ count) }
 {

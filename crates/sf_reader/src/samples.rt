@@ -19,32 +19,32 @@ use sf_base::{OutOfMemory, part_of};
 use std::alloc::Global;
 use std::iter::Take;
 
-/// The type of a sample that stands alone.
+/// `sfSampleType` of a mono sample.
 const MONO: u16 = 1;
 
-/// The type of the right one of two samples.
+/// `sfSampleType` of the right sample of a stereo pair.
 const RIGHT: u16 = 2;
 
-/// The type of the left one of two samples.
+/// `sfSampleType` of the left sample of a stereo pair.
 const LEFT: u16 = 4;
 
-/// The type of a sample that is linked with others.
+/// `sfSampleType` of a linked sample.
 const LINKED: u16 = 8;
 
-/// The bit of a type by which the points are packed.
+/// The bit of `sfSampleType` that marks packed points.
 const PACKED: u16 = 0x0010;
 
-/// The bit of a type by which the points are in ROM.
+/// The bit of `sfSampleType` that marks points in ROM.
 const ROM: u16 = 0x8000;
 
-// The heads of the samples.
+// The headers of the samples without the terminal.
 fn rows<'a>(heads: &Table<'a, SampleHead>) -> Take<Records<'a, SampleHead>>
     ensures { take (take_count result) (take_source result) ≡ rows heads.now }
 {
     heads.iter().take(row_count(heads))
 }
 
-/// Each sample can be read, and its points are among so many.
+/// Checks that each sample can be read, where `points` is the number of points in the file.
 pub(crate) fn check_samples(heads: &Table<SampleHead>, points: usize) -> Result<(), ReadFault>
     ensures { Passes (λ u. u) result (flat_map (sample_step points) (rows heads.now)) tt }
 {
@@ -54,7 +54,7 @@ pub(crate) fn check_samples(heads: &Table<SampleHead>, points: usize) -> Result<
     Ok(())
 }
 
-// The sample is neither packed nor in ROM, and its points are among as many as there are.
+// Checks that the sample is neither packed nor in ROM, and its range is within the points.
 #[tactic(auto, unfolding(bank_format::specs::ReadSteps::sample_step))]
 fn check_sample(head: &SampleHead, points: usize) -> Result<(), ReadFault>
     ensures { Passes (λ u. u) result (sample_step points head.now) tt }
@@ -71,7 +71,7 @@ fn check_sample(head: &SampleHead, points: usize) -> Result<(), ReadFault>
     Ok(())
 }
 
-/// All samples together, with the zero points that follow each, are few enough.
+/// Checks that the points of all samples, with the zero points after each, are not too many.
 #[tactic(auto, unfolding(bank_format::specs::ReadSteps::total_steps))]
 pub(crate) fn check_total(heads: &Table<SampleHead>) -> Result<(), ReadFault>
     ensures { Passes (λ u. u) result (total_steps (rows heads.now)) tt }
@@ -86,14 +86,14 @@ pub(crate) fn check_total(heads: &Table<SampleHead>) -> Result<(), ReadFault>
     Ok(())
 }
 
-// How many points a sample has.
+// The number of points of a sample.
 fn point_count(head: &SampleHead) -> u32
     ensures { result ≡ head.now.end - head.now.start }
 {
     head.end.saturating_sub(head.start)
 }
 
-/// The samples, whose points lie among those of `smpl`.
+/// Reads the samples. They borrow their points from `smpl`.
 pub(crate) fn read_samples<'a>(
     alloc: Global,
     heads: &Table<SampleHead>,
@@ -110,7 +110,7 @@ pub(crate) fn read_samples<'a>(
     Ok(LinkedMembers::from_vec(samples))
 }
 
-// One sample of `count`.
+// Reads one of `count` samples.
 #[tactic(auto, unfolding(bank_format::specs::Samples::sample_read))]
 fn read_sample<'a>(alloc: Global, head: &SampleHead, count: usize, smpl: &'a [u8]) -> Sample<'a>
     requires { length smpl.now % 2 ≡ 0 }
@@ -127,7 +127,7 @@ fn read_sample<'a>(alloc: Global, head: &SampleHead, count: usize, smpl: &'a [u8
     }
 }
 
-// Its points, of those in `smpl`.
+// The points of the sample, borrowed from `smpl`.
 fn points_of<'a>(alloc: Global, head: &SampleHead, smpl: &'a [u8]) -> Points<'a>
     requires { length smpl.now % 2 ≡ 0 }
     ensures { result ≡ slice_range (words smpl.now) head.now.start head.now.end }
@@ -137,14 +137,14 @@ fn points_of<'a>(alloc: Global, head: &SampleHead, smpl: &'a [u8]) -> Points<'a>
     Points::of_slice(alloc, part_of(smpl, 2 * start, 2 * count)).unwrap()
 }
 
-// Whether its loop has a point and lies in the sample.
+// Whether the loop is not empty, and inside the sample.
 fn has_loop(head: &SampleHead) -> bool
     ensures { result ≡ has_loop head.now }
 {
     head.start <= head.loop_start && head.loop_start < head.loop_end && head.loop_end <= head.end
 }
 
-// Its loop, counted from its start.
+// The loop relative to the start of the sample, if there is one.
 #[tactic(auto, unfolding(bank_format::specs::Samples::loop_read))]
 fn loop_of(head: &SampleHead) -> Option<(u32, u32)>
     ensures { result ≡ loop_read head.now }
@@ -155,7 +155,7 @@ fn loop_of(head: &SampleHead) -> Option<(u32, u32)>
     Some((head.loop_start - head.start, head.loop_end - head.start))
 }
 
-// Its kind, among `count` samples.
+// The kind of the sample, one of `count`.
 #[tactic(auto, unfolding(bank_format::specs::Samples::kind_read))]
 fn kind_of(head: &SampleHead, count: usize) -> Kind
     ensures { result ≡ kind_read count head.now }
@@ -171,14 +171,15 @@ fn kind_of(head: &SampleHead, count: usize) -> Kind
     }
 }
 
-/// How many loops do not lie in their sample, though their ends differ.
+/// Returns how many loops are dropped: those that are not inside their sample, unless their ends are
+/// equal.
 pub(crate) fn count_lost_loops(heads: &Table<SampleHead>) -> u64
     ensures { result ≡ count_by is_loop_lost (rows heads.now) }
 {
     rows(heads).filter(|head| is_loop_lost(head)).count() as u64
 }
 
-// Whether it has no loop, though its ends differ.
+// Whether the loop is dropped.
 #[tactic(auto, unfolding(bank_format::specs::Samples::is_loop_lost))]
 fn is_loop_lost(head: &SampleHead) -> bool
     ensures { result ≡ is_loop_lost head.now }
@@ -186,7 +187,7 @@ fn is_loop_lost(head: &SampleHead) -> bool
     !has_loop(head) && head.loop_start != head.loop_end
 }
 
-/// How many samples have a type that is none but not 0, or a link that names no sample.
+/// Returns how many samples have an unknown type other than 0, or a link to a sample that does not exist.
 pub(crate) fn count_lost_links(heads: &Table<SampleHead>) -> u64
     ensures { result ≡ count_by (is_link_lost (length (rows heads.now))) (rows heads.now) }
 {
@@ -194,7 +195,7 @@ pub(crate) fn count_lost_links(heads: &Table<SampleHead>) -> u64
     rows(heads).filter(|head| is_link_lost(head, count)).count() as u64
 }
 
-// Whether its type is none but not 0, or its link names none of `count` samples.
+// Whether the sample has an unknown type other than 0, or a link to a sample that does not exist.
 #[tactic(auto, unfolding(bank_format::specs::Samples::is_link_lost))]
 fn is_link_lost(head: &SampleHead, count: usize) -> bool
     ensures { result ≡ is_link_lost count head.now }

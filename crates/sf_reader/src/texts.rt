@@ -9,7 +9,7 @@ use riff_chunks::FirstChunks;
 use sf_base::limits::{COMMENT_LENGTH, TEXT_LENGTH};
 use sf_base::{Lent, front_of};
 
-/// The eight texts of the list `INFO`, before any is cut. A missing one is empty.
+/// The eight texts of the list `INFO`, before they are truncated. A missing text is empty.
 #[tactic(auto, unfolding(crate::specs::Texts::texts_in, bank_format::specs::Ids::ISNG, bank_format::specs::Ids::INAM, bank_format::specs::Ids::ICRD, bank_format::specs::Ids::IENG, bank_format::specs::Ids::IPRD, bank_format::specs::Ids::ICOP, bank_format::specs::Ids::ICMT, bank_format::specs::Ids::ISFT))]
 pub(crate) fn texts_of<'a>(info: &FirstChunks<'a>) -> Texts<'a>
     ensures { result ≡ texts_in info.now }
@@ -26,7 +26,7 @@ pub(crate) fn texts_of<'a>(info: &FirstChunks<'a>) -> Texts<'a>
     }
 }
 
-// The first text of an id.
+// The text of the first chunk with an id.
 fn text_of<'a>(info: &FirstChunks<'a>, id: [u8; 4]) -> Lent<'a>
     ensures { result ≡ text_in id info.now }
 {
@@ -34,7 +34,7 @@ fn text_of<'a>(info: &FirstChunks<'a>, id: [u8; 4]) -> Lent<'a>
     Lent::new(before_zero(body))
 }
 
-/// The texts as a bank has them: cut to the lengths that a bank allows, and with an engine.
+/// The texts of the bank: truncated to their maximum lengths, with a default engine.
 #[tactic(auto, unfolding(crate::specs::Texts::cut_of))]
 pub(crate) fn cut_texts<'a>(texts: &Texts<'a>) -> Texts<'a>
     ensures { result ≡ cut_of texts.now }
@@ -58,7 +58,7 @@ fn cut<'a>(text: &Lent<'a>, most: usize) -> Lent<'a>
     Lent::new(front_of(text.bytes(), most))
 }
 
-// The engine that a file names, or else the one for which every bank can be taken.
+// The engine that the file names, or `EMU8000`, the default of the standard.
 #[tactic(auto, unfolding(bank_format::specs::Ids::EMU8000))]
 fn engine_or_default(engine: &[u8]) -> Lent
     ensures { result ≡ engine_read engine.now }
@@ -69,7 +69,7 @@ fn engine_or_default(engine: &[u8]) -> Lent
     Lent::new(engine)
 }
 
-/// How many of the texts are longer than a bank allows.
+/// Returns how many of the texts are too long.
 #[tactic(auto, unfolding(crate::specs::Texts::cut_count))]
 pub(crate) fn count_cut(texts: &Texts) -> u64
     ensures { result ≡ cut_count texts.now }
@@ -84,7 +84,7 @@ pub(crate) fn count_cut(texts: &Texts) -> u64
         + over(&texts.software, TEXT_LENGTH)
 }
 
-// One where a text is longer.
+// Returns 1 if the text is longer than `most`.
 fn over(text: &Lent, most: usize) -> u64
     ensures value { result ≡ over most text.now }
     ensures small { result ≤ 1 }

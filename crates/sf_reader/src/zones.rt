@@ -1,4 +1,4 @@
-//! The zones that bags say, put behind those of a level.
+//! Reading the zones of presets and instruments from bags.
 ghost use Rattle.std.specs.Prelude.{◌≡◌, ◌≤◌, ◌∷◌, [], length, nat_lt, slice_range, OnOk};
 ghost use Rattle.sf_base.specs.declared.limits.TheConstants.{RECORDS};
 ghost use Rattle.bank_format.specs.Steps.{Passes, PassesGivenMemory, step};
@@ -15,41 +15,41 @@ use hydra_records::{Bag, Generator, Table};
 use modulators::Modulator;
 use sf_base::Failure;
 
-/// What was dropped or mended in the bags of a preset or an instrument, each counted.
+/// What was dropped or repaired in the bags of a preset or an instrument.
 #[derive(Clone, Copy, Debug, PartialEq, Eq)]
 pub(crate) struct ZoneCounts {
-    /// Zones without a target, the first not among them, that were ignored.
+    /// Zones without a target that were dropped. The first bag is not counted.
     pub(crate) zones: u64,
     /// Generator records that were dropped.
     pub(crate) gens: u64,
-    /// Ranges that were cut or turned.
+    /// Ranges that were repaired.
     pub(crate) ranges: u64,
 }
 
-/// What the zones of a level name.
+/// The possible targets of the zones of a level.
 #[derive(Clone, Copy)]
 pub(crate) struct Targets {
-    /// How many there are.
+    /// The number of targets.
     pub(crate) count: usize,
 
-    /// The fault of a zone that names none of them.
+    /// The fault of a zone whose target does not exist.
     pub(crate) missing: ReadFault,
 }
 
-/// Nothing was dropped or mended.
+/// Nothing was dropped or repaired.
 pub(crate) const NO_COUNTS: ZoneCounts = ZoneCounts {
     zones: 0,
     gens: 0,
     ranges: 0,
 };
 
-/// Reads the zones of a preset or an instrument at its level, and puts their records behind those of the
-/// others. `bags` are its bags and the bag after them, which says where the last one's generators and
-/// modulators end.
+/// Reads the zones of a preset or an instrument, and appends their records. The last of `bags` only marks
+/// the end of the bag before it.
 ///
-/// The records up to the first target are kept, of each operator the last, where the level allows the
-/// operator; a range has its ends cut to 127 and put in order. The first bag, where it has no target,
-/// is the global zone; a later one is ignored. Each target has to be there.
+/// Of the records before the first target, the last of each operator is kept if the level allows the
+/// operator. Ends of ranges above 127 become 127, and ends in the wrong order are exchanged. The first
+/// bag is the global zone if it has no target; a later bag without a target is dropped. Each target must
+/// exist.
 pub(crate) fn read_bags(
     level: Level,
     bags: &Table<'_, Bag>,
@@ -83,7 +83,7 @@ pub(crate) fn read_bags(
     Ok(counts)
 }
 
-// The generators and the modulators of a bag, which end where those of the next one begin.
+// The generators and the modulators of a bag, up to those of the next bag.
 fn bag_between<'g, 'm>(
     start: &Bag,
     end: &Bag,
@@ -98,7 +98,7 @@ fn bag_between<'g, 'm>(
     (gens, mods)
 }
 
-// Reads the first bag, which is the global zone where it has no target.
+// Reads the first bag. It is the global zone if it has no target.
 fn read_first(
     level: Level,
     generators: &Table<'_, Generator>,
@@ -131,7 +131,7 @@ fn read_first(
     Ok(counts)
 }
 
-// Reads a later bag, which is ignored where it has no target, and counts on.
+// Reads a later bag, and adds to the counts. It is dropped if it has no target.
 fn read_later(
     level: Level,
     generators: &Table<'_, Generator>,
@@ -169,7 +169,7 @@ fn read_later(
     })
 }
 
-// The target is one of these.
+// Checks that the target exists.
 fn check_target(target: u16, targets: Targets) -> Result<(), ReadFault>
     ensures { Passes (λ u. u) result (step (nat_lt target targets.count) targets.missing ∷ []) tt }
 {

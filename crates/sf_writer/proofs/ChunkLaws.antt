@@ -1,4 +1,4 @@
--- Chunks of even size, and loops over members.
+-- Chunks with bodies of even length, and loops over lists.
 use Rattle.std.proofs.Common.{◌≡◌, ◌+◌, ◌<◌, ◌%◌, ℕ, List, ◌++◌, length, get_or, drop, refl, ap, sym, ◌∙◌}
 use Rattle.std.proofs.Common.{append_assoc, arith, false, eqb, Option}
 use Rattle.std.specs.List.{flat_map}
@@ -14,12 +14,12 @@ use Rattle.outputs.proofs.OutputLaws.{puts_row}
 
 -- ---- chunks
 
--- a body of even size has no pad byte
+-- a body of even length has no pad byte
 pub pad-even : (body : List ℕ) (n : ℕ) → n % 2 ≡ 0 → body ++ pad n ≡ body
 unfolding pad
 pad-even body n e = let t : eqb (n % 2) 1 ≡ false = ne_eqb _ _ (omega arith) in rw t (append-nil body)
 
--- a chunk of even size is its head and its body
+-- a chunk with a body of even length is its header and its body
 pub chunk-even : (id body : List ℕ) → length body % 2 ≡ 0 → chunk id body ≡ chunk_head id (length body) ++ body
 chunk-even id body e = ap (λ (t : List ℕ). chunk_head id (length body) ++ t) (pad-even body (length body) e)
 
@@ -31,7 +31,7 @@ pub length-LIST : length LIST ≡ 4
 unfolding LIST
 length-LIST = refl
 
--- a chunk of even size that has a form is its head with the form, and what follows
+-- a chunk with a form and an even body is its header, its form, and the rest
 pub form-even : (id form chunks : List ℕ) → length form ≡ 4 → length chunks % 2 ≡ 0
     → chunk id (form ++ chunks) ≡ (chunk_head id (length (form ++ chunks)) ++ form) ++ chunks
 form-even id form chunks e even =
@@ -44,14 +44,14 @@ length-form-even id form chunks named e even =
     omega (arith, e, even, length-append form chunks, length-chunk id (form ++ chunks) named)
 
 module _ {W : Type 0} {c : W → Option (List ℕ)} {o p q : Output W} where
-  -- a head, and a body of even size
+  -- writing a header, and a body of even length
   pub put_even : (name id body : List ℕ) (size : ℕ) → name ≡ id → length body % 2 ≡ 0 → size ≡ length body
       → Puts c o p (chunk_head name size) → Puts c p q body → Puts c o q (chunk id body)
   put_even name id body size named even sized =
       puts_row (chunk id body) (chunk_head name size) body
       (chunk-even id body even ∙ (λ i. chunk_head (sym named i) (sym sized i) ++ body))
 
-  -- a head with a form, and chunks of even size
+  -- writing a header with a form, and chunks of even length
   pub put_form : (id form chunks : List ℕ) (size : ℕ) → length form ≡ 4 → length chunks % 2 ≡ 0
       → size ≡ length (form ++ chunks) → Puts c o p (chunk_head id size ++ form) → Puts c p q chunks
       → Puts c o q (chunk id (form ++ chunks))
@@ -59,21 +59,21 @@ module _ {W : Type 0} {c : W → Option (List ℕ)} {o p q : Output W} where
       puts_row (chunk id (form ++ chunks)) (chunk_head id size ++ form) chunks
       (form-even id form chunks e even ∙ ap (λ (n : ℕ). (chunk_head id n ++ form) ++ chunks) (sym sized))
 
--- ---- loops over members
+-- ---- loops over lists
 
--- what the members from place i on make is that of member i, and of those after it
+-- the flat map of the elements from index i on is that of element i, and of those after it
 pub flat_map-next : {X Y : Type 0} (f : X → List Y) (xs : List X) (i : ℕ) (d : X) → i < length xs
     → flat_map f (drop i xs) ≡ f (get_or xs i d) ++ flat_map f (drop (i + 1) xs)
 flat_map-next f xs i d lt = at_drop_more (flat_map f) xs i d lt
 
--- the same where what they make is spelled
+-- the same for bytes of a flat map
 pub spelled-next : {X Y Z : Type 0} (g : Y → List Z) (f : X → List Y) (xs : List X) (i : ℕ) (d : X) → i < length xs
     → flat_map g (flat_map f (drop i xs)) ≡ flat_map g (f (get_or xs i d)) ++ flat_map g (flat_map f (drop (i + 1) xs))
 spelled-next g f xs i d lt =
     ap (flat_map g) (flat_map-next f xs i d lt)
     ∙ flat_map-append g (f (get_or xs i d)) (flat_map f (drop (i + 1) xs))
 
--- the same for a member that was read
+-- the same for an element that was read
 pub spelled-read : {X Y Z : Type 0} (g : Y → List Z) (f : X → List Y) (xs : List X) (i : ℕ) (x : X) → i < length xs
     → x ≡ get_or xs i x
     → flat_map g (flat_map f (drop i xs)) ≡ flat_map g (f x) ++ flat_map g (flat_map f (drop (i + 1) xs))

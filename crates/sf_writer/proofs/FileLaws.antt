@@ -1,4 +1,4 @@
--- The canonical file as its parts, and how long it is.
+-- The canonical file as its parts, and its length.
 use Rattle.std.proofs.Common.{◌≡◌, ◌+◌, ◌%◌, ℕ, List, ◌++◌, length, refl, ap, arith}
 use Rattle.std.proofs.lemmas.List.{length-append, append-nil}
 use Rattle.riff_chunks.specs.Walk.{LIST}
@@ -39,7 +39,7 @@ pub length-SFBK : length SFBK ≡ 4
 unfolding SFBK
 length-SFBK = refl
 
--- each list is of even size
+-- each list has an even length
 pub lists-even : (b : Parts) → length (spell (lists b)) % 2 ≡ 0
 lists-even b =
     omega (

@@ -1,4 +1,4 @@
--- The three lists of the zones of a level from its flat lists, and how long they are.
+-- The bag, modulator and generator lists of a level as its flat lists, and their lengths.
 use Rattle.std.proofs.Common.{◌≡◌, ◌<◌, ◌+◌, ◌*◌, ℕ, List, [], ◌∷◌, ◌++◌, length, map, get_or, drop, refl, ap, sym}
 use Rattle.std.proofs.Common.{◌∙◌, arith}
 use Rattle.std.specs.List.{flat_map}
@@ -16,7 +16,7 @@ use Rattle.bank_format.specs.Tables.{bag_list, mod_list, gen_list, all_bags}
 use Rattle.bank_format.specs.FlatTables.{bag_of, generator_of}
 use Rattle.bank_format.proofs.FlatLaws.{bags-flat, mods-flat, gens-flat}
 
--- ---- the records from a place on are that of the place, and those after it
+-- ---- the records from an index on are that of the index, and those after it
 
 pub records_at : {X R : Type 0} (bytes_of : R → List ℕ) (f : X → R) (xs : List X) (i : ℕ) (d : X) (bytes : List ℕ)
     → i < length xs → bytes ≡ bytes_of (f (get_or xs i d))
@@ -32,7 +32,7 @@ mods_at ms i d bytes lt spelled =
     at_drop_more (flat_map modulator_bytes) ms i d lt
     ∙ ap (λ (t : List ℕ). t ++ flat_map modulator_bytes (drop (i + 1) ms)) (sym spelled)
 
--- ---- how long records are
+-- ---- lengths of records
 
 pub length-bags : (rs : List Bag) → length (flat_map bag_bytes rs) ≡ 4 * length rs
 unfolding bag_bytes
@@ -52,7 +52,7 @@ length-gens (g ∷ gs) = let e = length-gens gs in omega (arith, e)
 -- ---- the lists of all presets or instruments
 
 module _ {H : Type 0} (at : Level) (owners : List (WithZones H)) where
-  -- those that are lent are the tables' records
+  -- the borrowed flat lists are the records of the tables
   pub bags-lent : (bags : List (ℕ × ℕ)) → bags ≡ (lists_of at owners).bags
       → flat_map bag_bytes (map bag_of bags) ≡ flat_map bag_bytes (bag_list (all_bags at owners))
   bags-lent bags e =

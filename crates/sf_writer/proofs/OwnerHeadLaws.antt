@@ -1,4 +1,4 @@
--- The heads of presets and of instruments, and how long they are.
+-- The headers of presets and of instruments, and their lengths.
 use Rattle.std.proofs.Common.{◌≡◌, ◌<◌, ◌+◌, ◌*◌, ◌%◌, ℕ, zero, suc, List, [], ◌∷◌, ◌++◌, length, get_or, drop}
 use Rattle.std.proofs.Common.{slice_get, Some, refl, ap, sym, ◌∙◌, arith}
 use Rattle.std.specs.List.{flat_map, concat, AllByRecursion}
@@ -22,7 +22,7 @@ use Rattle.bank_format.specs.FlatTables.{headers_of}
 use Rattle.bank_format.proofs.NameLaws.{length-filled}
 use Rattle.bank_format.proofs.FlatLaws.{heads-flat}
 
--- ---- a member and those after it
+-- ---- an owner and those after it
 
 there : {X : Type 0} (xs : List X) (i : ℕ) → i < length xs → (x : X) × (slice_get xs i ≡ Some x)
 there [] i lt = absurd (omega arith)
@@ -33,10 +33,10 @@ left_at : {X : Type 0} (xs : List X) (i : ℕ) (x d : X) → i < length xs → x
     → drop i xs ≡ x ∷ drop (i + 1) xs
 left_at xs i x d lt e = at_drop_more (λ ys. ys) xs i d lt ∙ ap (λ y. y ∷ drop (i + 1) xs) (sym e)
 
--- ---- the heads of any
+-- ---- the headers of either level
 
 module _ {H R : Type 0} (bytes_of : R → List ℕ) (h : Headers H R) where
-  -- the bytes of the heads of these, with these first bags, and of the last record
+  -- the bytes of the headers of these owners, with these first bags, and of the terminal
   abbrev spelled : List (WithZones H) → List ℕ → List ℕ
   spelled owners first_bags = flat_map bytes_of (headers_of h owners first_bags)
 
@@ -48,7 +48,7 @@ module _ {H R : Type 0} (bytes_of : R → List ℕ) (h : Headers H R) where
       ∙ (ap (λ (l : Level). spelled owners (lists_of l owners).first_bags) level
       ∙ ap (spelled owners) (sym e))
 
-  -- the heads from number i on are its own, and those after it
+  -- the headers from index i on are that of owner i, and those after it
   pub heads-next : (owners : List (WithZones H)) (first_bags : List ℕ) (i at : ℕ) (head : H) (r : R) (bytes : List ℕ)
       → i < length owners → i < length first_bags
       → head_at owners i ≡ Some head → at ≡ get_or first_bags i 0 → r ≡ h.written at head → bytes ≡ bytes_of r
@@ -63,7 +63,7 @@ module _ {H R : Type 0} (bytes_of : R → List ℕ) (h : Headers H R) where
       (left_at first_bags i at 0 within is j))
       ∙ ap (λ (t : List ℕ). t ++ spelled (drop (i + 1) owners) (drop (i + 1) first_bags)) record_is
 
-  -- after the last of them the last record is left
+  -- after the last owner, only the terminal remains
   pub heads-last : (owners : List (WithZones H)) (first_bags : List ℕ) (n at : ℕ) (r : R) (bytes : List ℕ)
       → n ≡ length owners → n < length first_bags
       → at ≡ get_or first_bags n 0 → r ≡ h.last at → bytes ≡ bytes_of r
@@ -72,11 +72,11 @@ module _ {H R : Type 0} (bytes_of : R → List ℕ) (h : Headers H R) where
       (λ j. spelled (drop_all n owners (omega (arith, all)) j) (left_at first_bags n at 0 within is j))
       ∙ append-nil (bytes_of (h.last at)) ∙ ap bytes_of (sym made) ∙ sym put
 
-  -- the bytes of the heads of these and of the last record, where so many bags stand before theirs
+  -- the bytes of the headers of these owners and of the terminal, if `at` bags precede theirs
   abbrev spelled_from : ℕ → List (WithZones H) → List ℕ
   spelled_from at owners = flat_map bytes_of (heads_from h at owners)
 
-  -- where each head has one size, and the last record too
+  -- if each header and the terminal have one size
   length-heads : (size : ℕ) (Fits : WithZones H → Type 0)
       → ((at : ℕ) (x : WithZones H) → Fits x → length (bytes_of (h.written at x.head)) ≡ size)
       → ((at : ℕ) → length (bytes_of (h.last at)) ≡ size)
@@ -122,7 +122,7 @@ length_phdr b v =
     (λ at x v. length-preset_head (preset_written at x.head) (length-filled x.head.name v.name.0)) length-preset_end
     0 b.presets v.presets
 
--- the heads of the presets that a bank lends are those of its list
+-- the headers of the borrowed presets are those of the table
 pub phdr-lent : (b : Parts) (owners : List (WithZones Head)) → owners ≡ b.presets
     → flat_map preset_head_bytes (heads_from presets 0 owners) ≡ flat_map preset_head_bytes (tables_of b).phdr
 phdr-lent b owners e =

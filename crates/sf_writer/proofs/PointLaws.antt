@@ -1,4 +1,4 @@
--- The points of all samples, and how long they are.
+-- The points of all samples, and their lengths.
 use Rattle.std.proofs.Common.{◌≡◌, ◌<◌, ◌+◌, ◌*◌, ◌%◌, ℕ, List, [], ◌∷◌, ◌++◌, length, get_or, drop, replicate, refl}
 use Rattle.std.proofs.Common.{ap, sym, ◌∙◌, arith}
 use Rattle.std.specs.List.{flat_map}
@@ -24,7 +24,7 @@ zero_bytes : flat_map word_bytes (replicate 46 0) ≡ replicate 92 0
 unfolding word_bytes
 zero_bytes = refl
 
--- its points, and then zeros
+-- the points of the sample, and then zeros
 pub sample-parts : (s : Sample)
     → flat_map word_bytes (points_written s) ≡ flat_map word_bytes s.points ++ replicate 92 0
 sample-parts s =
@@ -33,7 +33,7 @@ sample-parts s =
 
 -- ---- all samples
 
--- the points from place i on
+-- the points from sample i on
 pub point_total-next : (samples : List Sample) (i : ℕ) (s : Sample) → i < length samples → s ≡ get_or samples i s
     → point_total (drop i samples) ≡ (length s.points + 46) + point_total (drop (i + 1) samples)
 point_total-next samples i s lt is =
@@ -49,7 +49,7 @@ all_points-even b = omega (arith, length_all_points b)
 
 -- ---- the list
 
--- it has one chunk
+-- the list has one chunk
 pub sdta-is : (b : Parts) → spell (sdta b) ≡ chunk SMPL (flat_map word_bytes (all_points b))
 unfolding sdta
 sdta-is b = append-nil (chunk SMPL (flat_map word_bytes (all_points b)))

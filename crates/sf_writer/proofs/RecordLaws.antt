@@ -1,4 +1,4 @@
--- The heads of samples, and the nine lists, and how long they are.
+-- The headers of samples, the nine lists, and their lengths.
 use Rattle.std.proofs.Common.{◌≡◌, ◌<◌, ◌≤◌, ◌+◌, ◌*◌, ◌%◌, ℕ, List, [], ◌∷◌, ◌++◌, length, get_or, drop, refl, ap}
 use Rattle.std.proofs.Common.{sym, ◌∙◌, append_assoc, arith}
 use Rattle.std.specs.List.{flat_map, concat, AllByRecursion}
@@ -23,12 +23,12 @@ use Rattle.sf_writer.proofs.ChunkLaws.{length-form-even, length-LIST}
 use Rattle.bank_format.proofs.NameLaws.{length-filled}
 use Rattle.sf_writer.proofs.ZoneListLaws.{zone_lists-even}
 
--- ---- the heads of samples
+-- ---- the headers of samples
 
 abbrev heads : Parts → List ℕ
 heads b = flat_map sample_head_bytes (tables_of b).shdr
 
--- the heads, and then the last record
+-- the headers, and then the terminal
 pub shdr-is : (b : Parts)
     → heads b ≡ flat_map sample_head_bytes (sample_heads_from 0 b.samples) ++ sample_head_bytes sample_end
 unfolding tables_of
@@ -87,7 +87,7 @@ length_shdr b v = omega (arith, length-shdr_parts b, length-heads (length b.samp
 pub shdr-even : (b : Parts) → IsValid b → length (heads b) % 2 ≡ 0
 shdr-even b v = omega (arith, length_shdr b v)
 
--- the heads of the samples from place i on, and the last record
+-- the headers of the samples from index i on, and the terminal
 unfoldable pub heads_left : ℕ → ℕ → List Sample → List ℕ
 heads_left start i samples =
     flat_map sample_head_bytes (sample_heads_from start (drop i samples)) ++ sample_head_bytes sample_end
@@ -101,7 +101,7 @@ heads-start b samples e =
     flat_map sample_head_bytes (sample_heads_from 0 xs) ++ sample_head_bytes sample_end)
     (sym e)
 
--- those from place i on are that of sample i, and those after it
+-- the headers from index i on are that of sample i, and those after it
 pub heads-next : (samples : List Sample) (i start : ℕ) (s : Sample) (h : SampleHead) (bytes : List ℕ)
     → i < length samples → s ≡ get_or samples i s
     → h ≡ sample_head start s → bytes ≡ sample_head_bytes h
@@ -123,7 +123,7 @@ heads-next samples i start s h bytes lt is made spelled =
     ∙ ap (λ (x : SampleHead). sample_head_bytes x ++ heads_left (x.end + 46) (i + 1) samples) (sym made)
     ∙ ap (λ (t : List ℕ). t ++ heads_left (h.end + 46) (i + 1) samples) (sym spelled)
 
--- after the last of them the last record is left
+-- after the last sample, only the terminal remains
 pub heads-last : (samples : List Sample) (i start : ℕ) (h : SampleHead) (bytes : List ℕ) → length samples ≤ i
     → h ≡ sample_end → bytes ≡ sample_head_bytes h
     → heads_left start i samples ≡ bytes

@@ -1,4 +1,4 @@
--- What the heads of the file, of its lists and of their chunks say, by what stands in them.
+-- The sizes of the file, of its lists and of their chunks are the lengths of their bodies.
 use Rattle.std.proofs.Common.{◌*◌, ◌≤◌, ◌≡◌, ◌+◌, ℕ, List, ◌++◌, length, ap, refl, arith}
 use Rattle.std.specs.List.{flat_map}
 use Rattle.std.proofs.lemmas.List.{length-append}
@@ -51,7 +51,7 @@ info_size b = omega (arith, length-append INFO (spell (info b)), length-INFO)
 pub sdta_size : (b : Parts) → length (SDTA ++ spell (sdta b)) ≡ 12 + length (flat_map word_bytes (all_points b))
 sdta_size b = omega (arith, length-append SDTA (spell (sdta b)), length-SDTA, length-sdta b)
 
--- the bytes of the records of the three lists of these bags
+-- the length of the bag, modulator and generator records of these bags
 abbrev pub zone_records : List Bagged → ℕ
 zone_records bags =
     length (flat_map bag_bytes (bag_list bags)) + length (flat_map modulator_bytes (mod_list bags))
@@ -90,7 +90,7 @@ pdta_size b v =
       shdr-even b v,
     )
 
--- ---- totals, and the records of which they are
+-- ---- totals and record counts
 
 module _ (b : Parts) (t : Totals) (is : t ≡ totals_of b) (w : IsWithin b) where
   pub few_members : (t.presets.count ≤ 65535) × (t.instruments.count ≤ 65535) × (t.samples ≤ 65535)
@@ -135,7 +135,7 @@ module _ (b : Parts) (t : Totals) (is : t ≡ totals_of b) (w : IsWithin b) wher
   unfolding totals_of
   few_points = rw is (let p = w.points in omega (arith, p))
 
--- the sizes of the three lists of all presets, or of all instruments
+-- the sizes of the bag, modulator and generator lists of all presets, or of all instruments
 pub zone_sizes : {H : Type 0} (at : Level) (owners : List (WithZones H)) (l : LevelTotals) (sizes : ZoneSizes)
     → l ≡ level_totals owners
     → sizes.bags ≡ 4 * (l.records.zones + 1) → sizes.mods ≡ 10 * (l.records.mods + 1)

@@ -1,4 +1,4 @@
--- The chunks of texts, and how long they are.
+-- The chunks of texts, and their lengths.
 use Rattle.std.proofs.Common.{◌≡◌, ◌≢◌, ◌≤◌, ◌+◌, ◌*◌, ◌/◌, ◌%◌, ℕ, List, [], ◌∷◌, ◌++◌, length, replicate, refl, ap}
 use Rattle.std.proofs.Common.{arith, true, false, eqb, inl, inr}
 use Rattle.std.specs.List.{flat_map}
@@ -59,7 +59,7 @@ pub length-text : (which : InfoId) (text : List ℕ)
     → length (chunk (text_id which) (text_body text)) ≡ 8 + length (text_body text)
 length-text which text = length-chunk-even (text_id which) (text_body text) (length-text_id which) (text_body-even text)
 
--- ---- a text that is left out where it is empty
+-- ---- a text that is omitted if empty
 
 text_chunk_if-empty : (id text : List ℕ) → length text ≡ 0 → spell (text_chunk_if id text) ≡ []
 text_chunk_if-empty id [] e = refl
@@ -87,7 +87,7 @@ optional_texts = Date ∷ Engineers ∷ Product ∷ Copyright ∷ Comment ∷ So
 abbrev spelled_text : Parts → InfoId → List ℕ
 spelled_text b which = chunk (text_id which) (text_body (text_of b.texts which))
 
--- the version, the engine, the name, and the texts that may be left out
+-- the version, the engine, the name, and the texts that may be omitted
 pub info-parts : (b : Parts)
     → spell (info b)
     ≡ chunk IFIL (version b)

@@ -1,4 +1,4 @@
--- The three lists of the zones of a level as chunks.
+-- The bag, modulator and generator lists of a level as chunks.
 use Rattle.std.proofs.Common.{◌≡◌, ◌+◌, ◌%◌, ℕ, List, ◌++◌, length, refl, ap, arith}
 use Rattle.std.specs.List.{flat_map}
 use Rattle.std.proofs.lemmas.List.{length-append, append-nil}

@@ -1,4 +1,4 @@
--- The texts of a bank as chunks, by what they are.
+-- The texts of a bank as chunks, by `InfoId`.
 use Rattle.std.specs.Prelude.{ℕ, List}
 use Rattle.riff_chunks.specs.Walk.{Chunk}
 use Rattle.riff_chunks.specs.Spelling.{chunk}
@@ -22,10 +22,10 @@ text_id Copyright = id.ICOP
 text_id Comment = id.ICMT
 text_id Software = id.ISFT
 
--- a text as a chunk, by its bytes
+-- the chunk of a text, as bytes
 abbrev pub text_bytes : Parts → InfoId → List ℕ
 text_bytes b which = chunk (text_id which) (text_body (text_of b.texts which))
 
--- a text that is written only where it is not empty
+-- the chunk of a text, omitted if the text is empty
 abbrev pub optional_chunk : Parts → InfoId → List Chunk
 optional_chunk b which = text_chunk_if (text_id which) (text_of b.texts which)

@@ -1,4 +1,4 @@
--- The bytes of lists, and the three lists of the zones of a level.
+-- The bytes of LIST chunks, and the bag, modulator and generator lists of a level.
 use Rattle.std.specs.Prelude.{ℕ, List, [], ◌∷◌, ◌++◌, flat_map}
 use Rattle.generators.specs.declared.level.Level.{Level}
 use Rattle.generators.specs.declared.level.Level.TheVariants.{Preset, Inst}
@@ -10,15 +10,15 @@ use Rattle.bank_format.specs.Zones.{Bagged}
 use Rattle.bank_format.specs.Tables.{bag_list, mod_list, gen_list}
 use Rattle.bank_format.specs.Canon.{made}
 
--- the bytes of a list of a form
+-- a LIST chunk of a form, as bytes
 abbrev pub list_bytes : List ℕ → List Chunk → List ℕ
 list_bytes form chunks = chunk LIST (form ++ spell chunks)
 
--- the bytes of a chunk of records
+-- a chunk of records, as bytes
 abbrev pub table_bytes : {R : Type 0} → List ℕ → (R → List ℕ) → List R → List ℕ
 table_bytes name bytes_of records = chunk name (flat_map bytes_of records)
 
--- the ids of a level's lists
+-- the ids of the lists of a level
 
 abbrev pub bag_id : Level → List ℕ
 bag_id Preset = id.PBAG
@@ -32,7 +32,7 @@ abbrev pub gen_id : Level → List ℕ
 gen_id Preset = id.PGEN
 gen_id Inst = id.IGEN
 
--- the three lists of the zones of a level
+-- the bag, modulator and generator lists of a level
 unfoldable pub zone_lists : Level → List Bagged → List Chunk
 zone_lists at bags =
     made (bag_id at) (flat_map bag_bytes (bag_list bags))

@@ -1,4 +1,4 @@
--- What the heads of the chunks of a bank's file say: the length of each body.
+-- The sizes in the chunk headers of a bank's file: the lengths of the bodies.
 use Rattle.std.specs.Prelude.{◌≡◌, ◌≤◌, List, ◌++◌, length, flat_map}
 use Rattle.generators.specs.declared.level.Level.TheVariants as level
 use Rattle.sample_view.specs.Words.{word_bytes}
@@ -14,19 +14,19 @@ use Rattle.bank_format.specs.Canon.{info, sdta, pdta, lists}
 use Rattle.sf_writer.specs.declared.sizes.Sizes.{Sizes}
 use Rattle.sf_writer.specs.declared.sizes.ZoneSizes.{ZoneSizes}
 
--- as many as an index of 16 bits counts
+-- each count fits in 16 bits
 pub record AreFew (r : Records) : Type 0 where
   pub zones : r.zones ≤ 65535
   pub gens : r.gens ≤ 65535
   pub mods : r.mods ≤ 65535
 
--- of the three lists of these bags
+-- the sizes of the bag, modulator and generator lists of these bags
 pub record AreZoneSizes (all : List Bagged) (sizes : ZoneSizes) : Type 0 where
   pub bags : sizes.bags ≡ length (flat_map bag_bytes (bag_list all))
   pub mods : sizes.mods ≡ length (flat_map modulator_bytes (mod_list all))
   pub gens : sizes.gens ≡ length (flat_map generator_bytes (gen_list all))
 
--- of all chunks but those of texts
+-- the sizes of all chunks but those of texts
 pub record AreSizes (b : Parts) (sizes : Sizes) : Type 0 where
   pub file : sizes.file ≡ length (SFBK ++ spell (lists b))
   pub info : sizes.info ≡ length (INFO ++ spell (info b))

@@ -1,4 +1,4 @@
-//! Chunks of even size, as all of a canonical file are: none has a pad byte.
+//! Writing chunks of even length. All chunks of a canonical file are such, so none has a pad byte.
 ghost use Rattle.std.specs.Prelude.{◌≡◌, ◌<◌, ◌%◌, ◌^◌, ◌++◌, length};
 ghost use Rattle.outputs.specs.Output.{Puts};
 ghost use Rattle.riff_chunks.specs.Spelling.{chunk, chunk_head};
@@ -7,13 +7,13 @@ use outputs::Output;
 use riff_chunks::ChunkWriter;
 use std::io::Write;
 
-/// The bytes of a chunk's id and size.
+/// The length of a chunk's id and size in bytes.
 pub(crate) const HEAD_SIZE: u32 = 8;
 
-/// The bytes of the form of a list.
+/// The length of the form of a list in bytes.
 pub(crate) const FORM_SIZE: u32 = 4;
 
-// Puts the id, the size and the form of a chunk, whose body has `size` bytes with the form.
+// Writes the id, the size and the form of a chunk; `size` counts the form.
 #[tactic(auto, using(outputs::proofs::OutputLaws::puts_then))]
 pub(crate) fn put_form_head<W: Write>(
     output: &mut Output<'_, W>,
@@ -27,7 +27,7 @@ pub(crate) fn put_form_head<W: Write>(
     output.put(&form);
 }
 
-// Puts a chunk of even size.
+// Writes a chunk with a body of even length.
 #[tactic(auto, using(crate::proofs::ChunkLaws::put_even))]
 pub(crate) fn put_chunk<W: Write>(output: &mut Output<'_, W>, id: [u8; 4], body: &[u8])
     requires size { length body.now < 2 ^ 32 }

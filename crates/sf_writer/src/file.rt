@@ -1,4 +1,4 @@
-//! The whole file: the form `sfbk` with its three lists.
+//! The whole file: the RIFF form `sfbk` with its three lists.
 ghost use Rattle.std.specs.Prelude.{◌≡◌, ◌++◌, length};
 ghost use Rattle.outputs.specs.Output.{Puts};
 ghost use Rattle.outputs.specs.Writing.{Writes};
@@ -15,11 +15,11 @@ use bank_core::Bank;
 use outputs::{Output, WriteFault};
 use std::io::Write;
 
-/// Puts the bank's canonical file. Takes no memory.
+/// Puts the bank's canonical file into an output. It allocates nothing.
 ///
-/// The file holds the lists `INFO`, `sdta` and `pdta`: the version, the engine and the name, and each
-/// other text that is not empty; the points of each sample, each followed by 46 zero points; the nine
-/// lists of records.
+/// The file has the lists `INFO`, `sdta` and `pdta`: the version, the engine, the name, and each other
+/// text that is not empty; the points of each sample, followed by 46 zero points; and the nine lists of
+/// records.
 pub fn put_bank<W: Write>(bank: &Bank<'_>, output: &mut Output<'_, W>)
     ensures { Puts W.contents output.old output.new (canon bank.now) }
 {
@@ -28,10 +28,10 @@ pub fn put_bank<W: Write>(bank: &Bank<'_>, output: &mut Output<'_, W>)
     put_lists(output, bank, sizes);
 }
 
-/// Writes the bank's canonical file as `put_bank` puts it. It does not flush.
+/// Writes the bank's canonical file to a writer. It does not flush.
 ///
-/// A writer that answers an error, or takes no byte, is the fault. It tells how many bytes of the
-/// file went out before, which are never all of them. There is no retry.
+/// It fails if the writer returns an error or accepts no bytes; the fault has the number of bytes written
+/// before, which is less than the length of the file. There is no retry.
 pub fn write<W: Write>(bank: &Bank<'_>, out: &mut W) -> Result<(), WriteFault>
     ensures { Writes (W.contents out.old) (W.contents out.new) (canon bank.now) result }
 {
@@ -41,7 +41,7 @@ pub fn write<W: Write>(bank: &Bank<'_>, out: &mut W) -> Result<(), WriteFault>
     Ok(())
 }
 
-/// The length of the bank's canonical file in bytes. Takes no memory.
+/// Returns the length of the bank's canonical file in bytes. It allocates nothing.
 #[tactic(auto, using(crate::proofs::FileLaws::file_size))]
 pub fn encoded_len(bank: &Bank<'_>) -> u64
     ensures { result ≡ length (canon bank.now) }

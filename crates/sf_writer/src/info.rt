@@ -14,10 +14,10 @@ use outputs::Output;
 use riff_chunks::{ChunkWriter, LIST_ID};
 use std::io::Write;
 
-/// The bytes of the chunk `ifil`, its head counted.
+/// The length of the chunk `ifil` with its header.
 const VERSION_SIZE: u32 = 12;
 
-/// The texts that are left out where they are empty, in their order.
+/// The texts that are omitted if empty, in file order.
 const OPTIONAL_TEXTS: [InfoId; 6] = [
     InfoId::Date,
     InfoId::Engineers,
@@ -27,7 +27,7 @@ const OPTIONAL_TEXTS: [InfoId; 6] = [
     InfoId::Software,
 ];
 
-// How many bytes the chunks in the list have.
+// The length of all chunks of the list.
 #[tactic(auto, using(crate::proofs::TextLaws::info_size))]
 pub(crate) fn chunks_size(bank: &Bank<'_>) -> u32
     ensures value { result ≡ length (spell (info bank.now)) }
@@ -37,7 +37,7 @@ pub(crate) fn chunks_size(bank: &Bank<'_>) -> u32
     VERSION_SIZE + kept + texts_size(bank, &OPTIONAL_TEXTS)
 }
 
-// How many bytes those of the texts that are not empty have as chunks.
+// The length of the chunks of these texts; empty texts are omitted.
 fn texts_size(bank: &Bank<'_>, texts: &[InfoId]) -> u32
     requires { length texts.now ≤ 8 }
     ensures value { result ≡ length (spell (flat_map (optional_chunk bank.now) texts.now)) }
@@ -50,7 +50,7 @@ fn texts_size(bank: &Bank<'_>, texts: &[InfoId]) -> u32
     size
 }
 
-// How many bytes a text has as a chunk, and none if it is empty.
+// The length of a text's chunk; 0 if the text is empty.
 #[tactic(auto, using(crate::proofs::TextLaws::texts))]
 fn optional_text_size(bank: &Bank<'_>, which: InfoId) -> u32
     ensures value { result ≡ length (spell (optional_chunk bank.now which)) }
@@ -62,7 +62,7 @@ fn optional_text_size(bank: &Bank<'_>, which: InfoId) -> u32
     text_size(bank, which)
 }
 
-// How many bytes a text has as a chunk.
+// The length of a text's chunk.
 #[tactic(auto, using(crate::proofs::TextLaws::texts))]
 fn text_size(bank: &Bank<'_>, which: InfoId) -> u32
     ensures value { result ≡ length (text_bytes bank.now which) }
@@ -72,7 +72,7 @@ fn text_size(bank: &Bank<'_>, which: InfoId) -> u32
     HEAD_SIZE + body_size(text)
 }
 
-// How many bytes a text has with the zeros after it.
+// The length of a text with its padding.
 fn body_size(text: &[u8]) -> u32
     requires { length text.now ≤ 65535 }
     ensures { result ≡ length (text_body text.now) }
@@ -80,7 +80,7 @@ fn body_size(text: &[u8]) -> u32
     (text.len() + text_end(text).len()) as u32
 }
 
-// The zero bytes after a text: one if its length is odd, else two.
+// The padding of a text: one zero byte if its length is odd, otherwise two.
 fn text_end(text: &[u8]) -> &'static [u8]
     ensures { result.now ≡ replicate (if length text.now % 2 == 1 then 1 else 2) 0 }
 {
@@ -105,7 +105,7 @@ fn id_of(which: InfoId) -> [u8; 4]
     }
 }
 
-// Puts the list.
+// Puts the list `INFO`.
 pub(crate) fn put_info<W: Write>(output: &mut Output<'_, W>, bank: &Bank<'_>, size: u32)
     requires { size ≡ length (INFO ++ spell (info bank.now)) }
     ensures { Puts W.contents output.old output.new (list_bytes INFO (info bank.now)) }
@@ -124,7 +124,7 @@ fn put_chunks<W: Write>(output: &mut Output<'_, W>, bank: &Bank<'_>)
     put_texts(output, bank, &OPTIONAL_TEXTS);
 }
 
-// Puts the version of the format: the major one is 2.
+// Puts the version; the major version is 2.
 #[tactic(auto, unfolding(bank_format::specs::Ids::IFIL))]
 fn put_version<W: Write>(output: &mut Output<'_, W>, bank: &Bank<'_>)
     ensures { Puts W.contents output.old output.new (chunk IFIL (version bank.now)) }
@@ -133,7 +133,7 @@ fn put_version<W: Write>(output: &mut Output<'_, W>, bank: &Bank<'_>)
     put_chunk(output, *b"ifil", &[2, 0, low, high]);
 }
 
-// Puts a text as a chunk.
+// Puts the chunk of a text.
 fn put_text<W: Write>(output: &mut Output<'_, W>, bank: &Bank<'_>, which: InfoId)
     ensures { Puts W.contents output.old output.new (text_bytes bank.now which) }
 {
@@ -143,7 +143,7 @@ fn put_text<W: Write>(output: &mut Output<'_, W>, bank: &Bank<'_>, which: InfoId
     output.put(text_end(text));
 }
 
-// Puts those of the texts that are not empty.
+// Puts the chunks of these texts; empty texts are omitted.
 #[tactic(auto, using(outputs::proofs::OutputLaws::putting_start, outputs::proofs::OutputLaws::putting_end))]
 fn put_texts<W: Write>(output: &mut Output<'_, W>, bank: &Bank<'_>, texts: &[InfoId])
     ensures { Puts W.contents output.old output.new
@@ -154,7 +154,7 @@ fn put_texts<W: Write>(output: &mut Output<'_, W>, bank: &Bank<'_>, texts: &[Inf
     }
 }
 
-// Puts a text as a chunk, and nothing if it is empty.
+// Puts the chunk of a text; nothing if the text is empty.
 #[tactic(auto, using(crate::proofs::TextLaws::texts, outputs::proofs::OutputLaws::puts_nothing))]
 fn put_optional_text<W: Write>(output: &mut Output<'_, W>, bank: &Bank<'_>, which: InfoId)
     ensures { Puts W.contents output.old output.new (spell (optional_chunk bank.now which)) }

@@ -1,8 +1,8 @@
-//! A bank as its canonical file (SoundFont 2.04, section 4).
+//! Writes a bank as its canonical file (SoundFont 2.04, section 4).
 //!
-//! Sizes stand before bodies in such a file. They follow from the totals that a bank keeps and from the
-//! texts, and then each list is put into an output. It takes no memory: a long run of points goes out as
-//! the slice of the file that it was read from, and records and short runs of points go out together.
+//! Chunk sizes come before chunk bodies, so they are computed first, from the bank's totals and texts.
+//! Writing allocates nothing: long runs of points are written as slices of the file that they were read
+//! from, while records and short runs of points are buffered.
 #![tactic(auto)]
 
 mod chunks;

@@ -1,5 +1,5 @@
-//! The lists `phdr` and `inst`: the heads of presets and of instruments, which own zones (SoundFont
-//! 2.04, sections 7.2 and 7.6).
+//! The lists `phdr` and `inst`: the headers of presets and of instruments (SoundFont 2.04, sections 7.2
+//! and 7.6).
 ghost use Rattle.std.specs.Prelude.{◌≡◌, ◌<◌, ◌^◌, length, flat_map, slice_index_or};
 ghost use Rattle.outputs.specs.Output.{Puts};
 ghost use Rattle.hydra_records.specs.Spelling.{preset_head_bytes, instrument_head_bytes};
@@ -35,7 +35,7 @@ pub(crate) fn put_inst<W: Write>(output: &mut Output<'_, W>, bank: &Bank<'_>, si
     put_heads(output, bank.instruments());
 }
 
-// Each head says how many bags stand before those of its owner, and the last one how many there are.
+// Puts a header for each owner with the index of its first bag, and the terminal with the number of bags.
 fn put_heads<const N: usize, H: RecordedHead, W: Write>(
     output: &mut Output<'_, W>,
     owners: &Owners<H>,

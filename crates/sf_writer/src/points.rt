@@ -15,10 +15,10 @@ use riff_chunks::{ChunkWriter, LIST_ID};
 use sample_view::Points;
 use std::io::Write;
 
-/// The zero points after those of a sample, as their bytes.
+/// The zero points after each sample, as bytes.
 const ZERO_BYTES: [u8; 92] = [0; 92];
 
-// Puts the list, and in it its one chunk.
+// Puts the list `sdta`.
 pub(crate) fn put_sdta<W: Write>(output: &mut Output<'_, W>, bank: &Bank<'_>, size: u32, smpl: u32)
     requires size { size ≡ length (SDTA ++ spell (sdta bank.now)) }
     requires smpl { smpl ≡ length (flat_map word_bytes (all_points bank.now)) }
@@ -28,7 +28,7 @@ pub(crate) fn put_sdta<W: Write>(output: &mut Output<'_, W>, bank: &Bank<'_>, si
     put_smpl(output, bank, smpl);
 }
 
-// Puts the points of all samples as a chunk.
+// Puts the chunk `smpl`.
 fn put_smpl<W: Write>(output: &mut Output<'_, W>, bank: &Bank<'_>, size: u32)
     requires { size ≡ length (flat_map word_bytes (all_points bank.now)) }
     ensures { Puts W.contents output.old output.new (spell (sdta bank.now)) }
@@ -37,7 +37,7 @@ fn put_smpl<W: Write>(output: &mut Output<'_, W>, bank: &Bank<'_>, size: u32)
     put_samples(output, bank.samples());
 }
 
-// Puts the points of each sample, and its zero points.
+// Puts the points of each sample, and the zero points after them.
 #[tactic(auto, using(outputs::proofs::OutputLaws::putting_start, outputs::proofs::OutputLaws::putting_end))]
 fn put_samples<W: Write>(output: &mut Output<'_, W>, samples: &[Sample<'_>])
     ensures { Puts W.contents output.old output.new
@@ -56,7 +56,7 @@ fn put_sample<W: Write>(output: &mut Output<'_, W>, sample: &Sample<'_>)
     output.put(&ZERO_BYTES);
 }
 
-// Puts points as the slices of the file that they were read from: a long one goes out as it stands.
+// Puts points as slices of the file that they were read from, so that long ones are not copied.
 #[tactic(auto, using(outputs::proofs::OutputLaws::putting_start, outputs::proofs::OutputLaws::putting_end))]
 fn put_points<W: Write>(output: &mut Output<'_, W>, points: &Points<'_>)
     ensures { Puts W.contents output.old output.new (flat_map word_bytes points.now) }

@@ -1,4 +1,4 @@
-//! The list `pdta`: nine lists of records (SoundFont 2.04, section 7).
+//! The list `pdta`: the nine lists of records (SoundFont 2.04, section 7).
 ghost use Rattle.std.specs.Prelude.{◌≡◌};
 ghost use Rattle.outputs.specs.Output.{Puts};
 ghost use Rattle.riff_chunks.specs.Spelling.{spell};
@@ -18,7 +18,7 @@ use outputs::Output;
 use riff_chunks::LIST_ID;
 use std::io::Write;
 
-// Puts the list.
+// Puts the list `pdta`.
 pub(crate) fn put_pdta<W: Write>(output: &mut Output<'_, W>, bank: &Bank<'_>, sizes: Sizes)
     requires { AreSizes bank.now sizes }
     ensures { Puts W.contents output.old output.new (list_bytes PDTA (pdta (tables_of bank.now))) }
@@ -27,7 +27,7 @@ pub(crate) fn put_pdta<W: Write>(output: &mut Output<'_, W>, bank: &Bank<'_>, si
     put_lists(output, bank, sizes);
 }
 
-// Puts the nine lists in it.
+// Puts the nine lists.
 fn put_lists<W: Write>(output: &mut Output<'_, W>, bank: &Bank<'_>, sizes: Sizes)
     requires { AreSizes bank.now sizes }
     ensures { Puts W.contents output.old output.new (spell (pdta (tables_of bank.now))) }

@@ -1,4 +1,4 @@
-//! The list `shdr`: the heads of the samples (SoundFont 2.04, section 7.10).
+//! The list `shdr`: the headers of the samples (SoundFont 2.04, section 7.10).
 ghost use Rattle.std.specs.Prelude.{◌≡◌, ◌+◌, ◌*◌, ◌<◌, ◌≤◌, ◌%◌, ◌^◌, length, flat_map};
 ghost use Rattle.outputs.specs.Output.{Puts};
 ghost use Rattle.hydra_records.specs.Spelling.{sample_head_bytes};
@@ -15,7 +15,7 @@ use riff_chunks::ChunkWriter;
 use sf_base::limits::ZERO_POINTS;
 use std::io::Write;
 
-// Puts the list.
+// Puts the list `shdr`.
 pub(crate) fn put_shdr<W: Write>(output: &mut Output<'_, W>, bank: &Bank<'_>, size: u32)
     requires { size ≡ length (flat_map sample_head_bytes (tables_of bank.now).shdr) }
     ensures { Puts W.contents output.old output.new
@@ -25,7 +25,7 @@ pub(crate) fn put_shdr<W: Write>(output: &mut Output<'_, W>, bank: &Bank<'_>, si
     put_heads(output, bank);
 }
 
-// The points of each sample follow those of the samples before it.
+// Puts the headers: each sample starts after the points and zero points of the one before it.
 fn put_heads<W: Write>(output: &mut Output<'_, W>, bank: &Bank<'_>)
     ensures puts { Puts W.contents output.old output.new
         (flat_map sample_head_bytes (tables_of bank.now).shdr) }
@@ -41,7 +41,7 @@ fn put_heads<W: Write>(output: &mut Output<'_, W>, bank: &Bank<'_>)
     output.put(&sample_end().put());
 }
 
-// The head of a sample whose first point is `start`.
+// The header of a sample whose first point has index `start`.
 fn sample_head(start: u32, sample: &Sample<'_>) -> SampleHead
     requires points { start + length sample.now.points < 2 ^ 32 }
     requires looped { IsLoop (length sample.now.points) sample.now.looped }
@@ -74,7 +74,7 @@ fn kind_word(kind: Kind) -> u16
     }
 }
 
-// `wSampleLink`, 0 for a mono sample.
+// `wSampleLink`: 0 for a mono sample.
 fn link_word(kind: Kind) -> u16
     ensures { result ≡ link_word kind }
 {

@@ -1,5 +1,4 @@
-//! What the heads of chunks say. Sizes stand before bodies in a file; they follow from the totals that
-//! a bank keeps, and from its texts.
+//! The sizes of chunks, computed from the bank's totals and texts.
 ghost use Rattle.std.specs.Prelude.{◌≡◌, ◌+◌, ◌*◌, ◌<◌, ◌≤◌, ◌^◌};
 ghost use Rattle.bank_validity.specs.Limits.{totals_of};
 ghost use Rattle.bank_parts.specs.Valid.{IsValid};
@@ -13,7 +12,7 @@ use bank_validity::Totals;
 use hydra_records::{Bag, Generator, InstrumentHead, PresetHead, Record, SampleHead};
 use modulators::Modulator;
 
-/// The sizes of the chunks of a bank's file, each that of the body, with the form of a list.
+/// The sizes of the chunks of a bank's file: the lengths of their bodies, including the form of a list.
 #[derive(Clone, Copy)]
 pub(crate) struct Sizes {
     pub(crate) file: u32,
@@ -28,7 +27,7 @@ pub(crate) struct Sizes {
     pub(crate) shdr: u32,
 }
 
-/// The sizes of the three lists of the zones of a level.
+/// The sizes of the bag, modulator and generator lists of a level.
 #[derive(Clone, Copy)]
 pub(crate) struct ZoneSizes {
     pub(crate) bags: u32,
@@ -37,7 +36,7 @@ pub(crate) struct ZoneSizes {
 }
 
 impl Sizes {
-    /// The sizes of a bank's file.
+    /// Computes the sizes from the bank.
     pub(crate) fn of(bank: &Bank<'_>) -> Sizes
         ensures { AreSizes bank.now result }
     {
@@ -68,7 +67,7 @@ impl Sizes {
 }
 
 impl ZoneSizes {
-    // The sizes of the lists of so many records.
+    // The sizes of lists with these numbers of records.
     fn of(records: Records) -> ZoneSizes
         requires few { AreFew records }
         ensures bags { result.bags ≡ 4 * (records.zones + 1) }
@@ -82,7 +81,7 @@ impl ZoneSizes {
         }
     }
 
-    // The sizes of the three lists together.
+    // The sum of the three sizes.
     fn total(self) -> u32
         requires { (self.bags < 2 ^ 20) × (self.mods < 2 ^ 20) × (self.gens < 2 ^ 20) }
         ensures { result ≡ self.bags + self.mods + self.gens }
@@ -91,7 +90,7 @@ impl ZoneSizes {
     }
 }
 
-// How long the lists are: each index in them is of 16 bits.
+// The bank's totals, with bounds: all indexes have 16 bits.
 fn file_totals(bank: &Bank<'_>) -> Totals
     ensures value { result ≡ totals_of bank.now }
     ensures valid { IsValid bank.now }
@@ -103,7 +102,7 @@ fn file_totals(bank: &Bank<'_>) -> Totals
     bank.totals()
 }
 
-// The size of a list of so many records, and of the last record, which ends it.
+// The size of a list of `count` records and a terminal.
 fn list_size(count: usize, size: usize) -> u32
     requires count { count ≤ 65535 }
     requires size { size < 2 ^ 16 }

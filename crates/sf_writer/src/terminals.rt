@@ -1,10 +1,10 @@
-//! The record that ends the list of samples (SoundFont 2.04, section 7.10).
+//! The terminal of the list of samples (SoundFont 2.04, section 7.10).
 ghost use Rattle.std.specs.Prelude.{◌≡◌};
 ghost use Rattle.bank_format.specs.Tables.{sample_end};
 
 use hydra_records::SampleHead;
 
-// The last record of `shdr`.
+// The terminal record of `shdr`.
 #[tactic(auto, unfolding(bank_format::specs::Ids::EOS))]
 pub(crate) fn sample_end() -> SampleHead
     ensures { result ≡ sample_end }

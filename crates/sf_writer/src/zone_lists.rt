@@ -1,5 +1,5 @@
-//! The three lists of the zones of a level: bags, modulators and generators (SoundFont 2.04,
-//! sections 7.3 to 7.5 for presets, and 7.7 to 7.9 for instruments).
+//! The bag, modulator and generator lists of a level (SoundFont 2.04, sections 7.3 to 7.5 for presets,
+//! 7.7 to 7.9 for instruments).
 ghost use Rattle.std.specs.Prelude.{◌≡◌, length, map, flat_map};
 ghost use Rattle.outputs.specs.Output.{Puts};
 ghost use Rattle.riff_chunks.specs.Spelling.{spell};
@@ -36,7 +36,7 @@ pub(crate) fn put_zone_lists<H: OwnerHead, W: Write>(
     put_gen_records(output, owners.gen_records());
 }
 
-// Each bag says how many generators and modulators stand before its own.
+// Each bag counts the generators and modulators of the bags before it.
 #[tactic(auto, using(outputs::proofs::OutputLaws::putting_start, outputs::proofs::OutputLaws::putting_end))]
 fn put_bag_records<W: Write>(output: &mut Output<'_, W>, bags: &[(u16, u16)])
     ensures { Puts W.contents output.old output.new (flat_map bag_bytes (map bag_of bags.now)) }
@@ -55,7 +55,7 @@ fn put_mod_records<W: Write>(output: &mut Output<'_, W>, mods: &[Modulator])
     }
 }
 
-// Each zone's target is the last of its generators.
+// The last generator of each zone is its target.
 #[tactic(auto, using(outputs::proofs::OutputLaws::putting_start, outputs::proofs::OutputLaws::putting_end))]
 fn put_gen_records<W: Write>(output: &mut Output<'_, W>, gens: &[(u16, u16)])
     ensures { Puts W.contents output.old output.new (flat_map generator_bytes (map generator_of gens.now)) }

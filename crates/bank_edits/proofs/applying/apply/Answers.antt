@@ -1,7 +1,7 @@
 use Rattle.bank_edits.proofs.applying.apply.Goals.{in-Ok, in-Err}
 use Rattle.bank_edits.proofs.applying.apply.Goals as goal
 
--- a group needs memory
+-- a group always allocates
 pub returns-in_default-clause-no_memory : goal.returns-in_default-clause-no_memory
 returns-in_default-clause-no_memory c = λ needs none. elim c.match-into_steps.branch [
   | in-Ok w ↦

@@ -5,7 +5,7 @@ use Rattle.sf_reader.specs.Entries.{EndsInMap, map_from}
 use Rattle.sf_reader.specs.Gens.{entries_in}
 use Rattle.sf_reader.proofs.bag.set_gens.Given as goal
 
--- the records that are left decide the target, and set what is still to be set
+-- the remaining records determine the target, and the entries still to be set
 abbrev pub invariant-loop-record : goal.invariant-loop-record
 invariant-loop-record l =
     (goal.iterator-loop-record).can_next l.record-iterator

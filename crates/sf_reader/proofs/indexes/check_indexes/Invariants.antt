@@ -3,7 +3,7 @@ use Rattle.std.specs.List.{list_all}
 use Rattle.bank_format.specs.ReadSteps.{is_rising, is_rising_from}
 use Rattle.sf_reader.proofs.indexes.check_indexes.Given as goal
 
--- the indexes rise where those that are left do from the last on, and they lie below where it and those do
+-- the indexes pass their checks if the remaining ones do, starting from `last`
 abbrev pub invariant-loop-row : goal.invariant-loop-row
 invariant-loop-row g l =
     (goal.iterator-loop-row g).can_next l.row-iterator

@@ -47,7 +47,7 @@ pub read_owners-requires-2-clause-generators : goal.read_owners-requires-2-claus
 read_owners-requires-2-clause-generators c =
     rw c.instruments-2.ensures.generators_are (few_records c.args.tables.now c.requires.counts).igen
 
--- the levels, once the presets are read
+-- the two levels, after the presets are read
 levels : (c : After-read_owners-2)
     → Levels c.args.tables.now c.presets.result.now c.instruments-2.result.now c.row_count.result
     c.row_count-2.result

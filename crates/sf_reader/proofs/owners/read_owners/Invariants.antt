@@ -2,7 +2,7 @@ use Rattle.bank_format.specs.Reading.{bags_in}
 use Rattle.sf_reader.proofs.OwnerLaws.{Left}
 use Rattle.sf_reader.proofs.owners.read_owners.Given as goal
 
--- those so far and those of the heads that are left are all
+-- the owners so far and those of the remaining headers are all
 abbrev pub invariant-loop-next : goal.invariant-loop-next
 invariant-loop-next g l =
     (goal.iterator-loop-next g).can_next l.next-iterator

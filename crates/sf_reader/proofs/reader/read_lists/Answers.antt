@@ -19,7 +19,7 @@ use Rattle.sf_reader.proofs.reader.read_lists.Goals.{In_ok-bodies}
 abbrev chunks : Inside → ListChunks
 chunks l = record { info = l.info; sdta = l.sdta; pdta = l.pdta }
 
--- a fault of the chunks v, which are those of the lists
+-- a fault of the chunks v, which equal those of the lists
 stops : (r : Result (Flat × Counts) (Failure ReadFault)) (e : Failure ReadFault) (v w : ListChunks) → v ≡ w
     → IsErrAnd r (λ d. d ≡ e) → Fails e (first_broken (list_content_steps v))
     → PassesGivenMemory content_seen r (list_content_steps w) (list_content w)
@@ -27,7 +27,7 @@ stops r e v w same is h =
     given_by content_seen (list_content w) r e (list_content_steps w) is
     (subst (λ (u : ListChunks). Fails e (first_broken (list_content_steps u))) same h)
 
--- what is found before the version is read
+-- what has been found before the version is read
 opened : (c : In_ok-bodies) → Opened (chunks c.lists.inside) c.in_ok-version.version.now c.in_ok-bodies.bodies
 unfolding IFIL
 opened c = record {

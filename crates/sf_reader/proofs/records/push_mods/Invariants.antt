@@ -1,7 +1,7 @@
 use Rattle.std.proofs.Common.{◌≡◌, ◌++◌}
 use Rattle.sf_reader.proofs.records.push_mods.Given as goal
 
--- the modulators so far and those that are left are all
+-- the modulators so far and the remaining ones are all
 abbrev pub invariant-loop-modulator : goal.invariant-loop-modulator
 invariant-loop-modulator l =
     (goal.iterator-loop-modulator).can_next l.modulator-iterator

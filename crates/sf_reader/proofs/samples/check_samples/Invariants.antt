@@ -5,7 +5,7 @@ use Rattle.bank_format.specs.Windows.{rows}
 use Rattle.bank_format.specs.ReadSteps.{sample_step}
 use Rattle.sf_reader.proofs.samples.check_samples.Given as goal
 
--- the steps of the heads that are left decide
+-- the checks of the remaining headers determine the result
 abbrev pub invariant-loop-head : goal.invariant-loop-head
 invariant-loop-head l =
     (goal.iterator-loop-head).can_next l.head-iterator

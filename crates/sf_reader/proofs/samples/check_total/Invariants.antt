@@ -3,7 +3,7 @@ use Rattle.std.specs.Prelude.{sum_by}
 use Rattle.bank_format.specs.Windows.{rows}
 use Rattle.sf_reader.proofs.samples.check_total.Given as goal
 
--- the points so far and those of the heads that are left are all
+-- the points so far and those of the remaining headers are all
 abbrev pub invariant-loop-head : goal.invariant-loop-head
 invariant-loop-head l =
     (goal.iterator-loop-head).can_next l.head-iterator

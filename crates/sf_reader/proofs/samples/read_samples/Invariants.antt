@@ -4,7 +4,7 @@ use Rattle.bank_format.specs.Windows.{rows}
 use Rattle.bank_format.specs.Samples.{sample_read}
 use Rattle.sf_reader.proofs.samples.read_samples.Given as goal
 
--- the samples so far and those of the heads that are left are all
+-- the samples so far and those of the remaining headers are all
 abbrev pub invariant-loop-head : goal.invariant-loop-head
 invariant-loop-head l =
     (goal.iterator-loop-head).can_next l.head-iterator

@@ -3,7 +3,7 @@ use Rattle.bank_format.specs.Reading.{bags_in}
 use Rattle.sf_reader.proofs.Later.{Left}
 use Rattle.sf_reader.proofs.zones.read_bags.Given as goal
 
--- what was read, gone on with by the bags that are left, is what all say
+-- the bags read so far, continued by the remaining bags, are all
 abbrev pub invariant-loop-end : goal.invariant-loop-end
 invariant-loop-end l =
     (goal.iterator-loop-end).can_next l.end-iterator

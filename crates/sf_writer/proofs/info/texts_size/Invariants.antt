@@ -4,7 +4,7 @@ use Rattle.riff_chunks.specs.Spelling.{spell}
 use Rattle.sf_writer.specs.Info.{optional_chunk}
 use Rattle.sf_writer.proofs.info.texts_size.Given as goal
 
--- the texts that are ahead fill up the size
+-- the size so far and that of the remaining texts are the whole size
 abbrev pub invariant-loop-which : goal.invariant-loop-which
 invariant-loop-which l = record {
   counted : l.size + length (spell (flat_map (optional_chunk l.bank) (drop l.which-index l.texts)))
