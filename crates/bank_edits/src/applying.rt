@@ -14,9 +14,9 @@ use std::alloc::Global;
 
 /// Applies an edit to the bank and returns its inverse. What a step removes is moved into the inverse.
 ///
-/// A refused edit is returned with the reason, and the bank is unchanged. One step is refused for the
-/// first cause that applies, a group for its first refused step. `OutOfMemory` is returned for one step
-/// only if no cause applies and the step allocates; for a group it may be returned in any case.
+/// A refused edit is returned with the reason, and the bank is unchanged. One step is refused for the first cause
+/// that applies, a group for its first refused step. `OutOfMemory` is returned for one step only if no cause applies
+/// and the step allocates; for a group it may be returned in any case.
 pub fn apply<'a>(
     alloc: Global,
     bank: &mut Bank<'a>,

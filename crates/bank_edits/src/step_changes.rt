@@ -23,8 +23,8 @@ use std::alloc::Global;
 /// The inverse of a step; or the step itself, if an allocation failed.
 pub(crate) type Back<'a> = Result<Step<'a>, Step<'a>>;
 
-/// Applies the step and returns its inverse. A step that is refused, or for which an allocation fails, is
-/// returned with the reason, and the bank is unchanged.
+/// Applies the step and returns its inverse. A step that is refused, or for which an allocation fails, is returned
+/// with the reason, and the bank is unchanged.
 pub(crate) fn apply_step<'a>(
     alloc: Global,
     bank: &mut Bank<'a>,

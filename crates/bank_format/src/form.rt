@@ -12,8 +12,8 @@ const HEAD_LENGTH: usize = 8;
 /// The length of a form in bytes.
 const FORM_LENGTH: usize = 4;
 
-/// Returns the body of a file's RIFF chunk after its form, or the fault given for a file that is not
-/// RIFF, is truncated, or has another form.
+/// Returns the body of a file's RIFF chunk after its form, or the fault given for a file that is not RIFF, is
+/// truncated, or has another form.
 ///
 /// The pad byte of the chunk may be missing, and bytes after the chunk are ignored.
 #[tactic(auto, unfolding(crate::specs::ReadSteps::form_steps, crate::specs::Chunks::window, crate::specs::Ids::RIFF))]

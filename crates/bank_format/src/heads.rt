@@ -7,8 +7,8 @@ use bank_parts::{Head, OwnerHead};
 use hydra_records::{InstrumentHead, PresetHead, Record};
 use sf_base::Name20;
 
-/// The head of a preset or an instrument, as stored in a record of `phdr` or `inst` (SoundFont 2.04,
-/// sections 7.2 and 7.6).
+/// The head of a preset or an instrument, as stored in a record of `phdr` or `inst` (SoundFont 2.04, sections 7.2 and
+/// 7.6).
 pub trait RecordedHead: OwnerHead + Drop {
     /// The record type of the file.
     type Record: Record + Copy;

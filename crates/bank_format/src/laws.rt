@@ -16,15 +16,14 @@ pub fn canonical_files_read_back()
     ensures { (b : Parts) → IsValid b → Fits b → ReadsAs (canon b) b no_counts }
 {}
 
-/// The bank read from a file is valid, and its numbers, names and texts are in the ranges of their
-/// fields.
+/// The bank read from a file is valid, and its numbers, names and texts are in the ranges of their fields.
 pub fn read_banks_are_valid()
     ensures valid { (file : List ℕ) → AreBytes file → fault_of file ≡ None → IsValid (content_in (window file)).bank }
     ensures fits { (file : List ℕ) → AreBytes file → Fits (content_in (window file)).bank }
 {}
 
-/// Each index in the tables of a bank is a sum over the bank's own lists: a header counts the bags of the
-/// headers before it, a bag the generators and modulators of the zones before it.
+/// Each index in the tables of a bank is a sum over the bank's own lists: a header counts the bags of the headers
+/// before it, a bag the generators and modulators of the zones before it.
 pub fn indexes_are_sums()
     ensures { (b : Parts) → IndexesAreSums b }
 {}

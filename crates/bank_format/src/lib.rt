@@ -1,8 +1,8 @@
-//! The SoundFont 2 file format: what a file means, its canonical form, the checks of reading with their
-//! faults, and the theorem that a canonical file reads back as its bank.
+//! The SoundFont 2 file format: what a file means, its canonical form, the checks of reading with their faults, and
+//! the theorem that a canonical file reads back as its bank.
 //!
-//! It has definitions, the faults and counts of reading, the RIFF chunk of a file, the heads of presets
-//! and instruments as records, and theorems.
+//! It has definitions, the faults and counts of reading, the RIFF chunk of a file, the heads of presets and
+//! instruments as records, and theorems.
 #![tactic(auto)]
 
 mod fault;

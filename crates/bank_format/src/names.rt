@@ -15,8 +15,8 @@ pub fn before_zero(bytes: &[u8]) -> &[u8]
     front_of(bytes, end)
 }
 
-/// Reads the name in a field of a record: the bytes before the first zero (SoundFont 2.04, sections 7.2,
-/// 7.6 and 7.10).
+/// Reads the name in a field of a record: the bytes before the first zero (SoundFont 2.04, sections 7.2, 7.6 and
+/// 7.10).
 pub fn name_of(field: &[u8; 20]) -> Name20
     ensures { result ≡ before_zero field.now }
 {

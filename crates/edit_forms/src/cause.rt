@@ -24,8 +24,7 @@ pub enum Cause {
     /// A zone targets the member, or another sample links to it.
     #[error("the member is in use")]
     InUse,
-    /// An operator that the level does not allow; target operators are not allowed (SoundFont 2.04,
-    /// section 8.1.2).
+    /// An operator that the level does not allow; target operators are not allowed (SoundFont 2.04, section 8.1.2).
     #[error("the generator is not allowed there")]
     BadGenerator,
     #[error("the generator is not set there")]
@@ -36,8 +35,8 @@ pub enum Cause {
     /// The zone's effective range does not contain the position of the split, or begins there.
     #[error("the split is not inside the range of the zone")]
     SplitOutside,
-    /// The zones differ in more than their ranges on the axis, their ranges are not adjacent, or without
-    /// a range of its own the joined zone would have another effective range.
+    /// The zones differ in more than their ranges on the axis, their ranges are not adjacent, or without a range of
+    /// its own the joined zone would have another effective range.
     #[error("the zones can't be joined")]
     NotJoinable,
     /// A modulator of the place is linked to others by their numbers, or the new modulator is.

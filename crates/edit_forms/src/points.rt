@@ -9,19 +9,17 @@ use std::alloc::Global;
 
 /// A step that edits one sample: its points, loop, kind or pitch. It borrows its points.
 pub enum PointStep<'a> {
-    /// `trim S F B`: removes the first `front` and the last `back` points. The loop stays on the same
-    /// points.
+    /// `trim S F B`: removes the first `front` and the last `back` points. The loop stays on the same points.
     Trim { front: u32, back: u32 },
-    /// `extend S POINTS POINTS`: adds points before and after those of the sample. The loop stays on the
-    /// same points.
+    /// `extend S POINTS POINTS`: adds points before and after those of the sample. The loop stays on the same points.
     Extend { front: Points<'a>, back: Points<'a> },
-    /// `set-loop S LOOP`: sets the loop (its first point and the point after its last, relative to the
-    /// start of the sample), or removes it.
+    /// `set-loop S LOOP`: sets the loop (its first point and the point after its last, relative to the start of the
+    /// sample), or removes it.
     SetLoop { looped: Option<(u32, u32)> },
     /// `set-kind S KIND`: sets the kind and its link.
     SetKind { kind: Kind },
-    /// `set-tune S RATE KEY CORR`: sets the rate in frames per second, the root key (above 127 for none),
-    /// and the correction in cents.
+    /// `set-tune S RATE KEY CORR`: sets the rate in frames per second, the root key (above 127 for none), and the
+    /// correction in cents.
     SetTune { rate: u32, key: u8, correction: i8 },
 }
 

@@ -8,8 +8,8 @@ use std::alloc::Global;
 
 /// A step that edits presets. Numbers count from 0.
 pub enum PresetStep {
-    /// `add-preset P NAME NUMBER BANK LIBRARY GENRE MORPHOLOGY GLOBAL? ZONE*`: inserts the preset with
-    /// its zones as number `at`.
+    /// `add-preset P NAME NUMBER BANK LIBRARY GENRE MORPHOLOGY GLOBAL? ZONE*`: inserts the preset with its zones as
+    /// number `at`.
     AddPreset {
         at: u32,
         preset: Preset,

@@ -3,8 +3,8 @@ ghost use Rattle.edit_forms.specs.Settings.{Fits};
 
 use modulators::Modulator;
 
-/// A step that edits the generators and modulators of a place: of a global zone or of a zone. Modulators
-/// count from 0.
+/// A step that edits the generators and modulators of a place: of a global zone or of a zone. Modulators count from
+/// 0.
 #[derive(Clone, Copy)]
 pub enum SettingStep {
     /// `set-gen OWNER PLACE OPERATOR AMOUNT`: sets the generator.

@@ -14,8 +14,8 @@ use bank_changes::{Owner, Place};
 use sf_base::OutOfMemory;
 use std::alloc::Global;
 
-/// A step that changes a bank. Each form of the edit script is a variant in one of these groups. Numbers
-/// count from 0. A step borrows its points and texts.
+/// A step that changes a bank. Each form of the edit script is a variant in one of these groups. Numbers count from
+/// 0. A step borrows its points and texts.
 #[derive(Drop)]
 pub enum Step<'a> {
     Preset(PresetStep),
@@ -54,9 +54,9 @@ impl<'a> Step<'a> {
         }
     }
 
-    /// Whether the step is of a form that changes no sound, for any bank and any values: adding, removing
-    /// or moving an instrument or a sample, moving, splitting or joining zones, renaming an instrument or
-    /// a sample, or setting a kind or a text.
+    /// Whether the step is of a form that changes no sound, for any bank and any values: adding, removing or moving
+    /// an instrument or a sample, moving, splitting or joining zones, renaming an instrument or a sample, or setting
+    /// a kind or a text.
     pub fn is_neutral(&self) -> bool
         ensures { result ≡ is_neutral_step self.now }
     {

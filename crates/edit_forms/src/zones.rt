@@ -7,8 +7,7 @@ use sf_base::OutOfMemory;
 use std::alloc::Global;
 use zone_ranges::{Axis, Keep};
 
-/// A step that edits the zones of a preset or an instrument. Numbers count from 0, without the global
-/// zone.
+/// A step that edits the zones of a preset or an instrument. Numbers count from 0, without the global zone.
 pub enum ZoneStep {
     /// `add-zone OWNER K ZONE`: inserts the zone as number `at`.
     AddZone { at: u32, zone: Zone },
@@ -16,11 +15,10 @@ pub enum ZoneStep {
     RemoveZone { zone: u32 },
     /// `move-zone OWNER I J`: moves zone `from` to number `to`.
     MoveZone { from: u32, to: u32 },
-    /// `split-zone OWNER K key|vel M`: splits the zone: it keeps the range below `at`, and a copy after
-    /// it has the rest.
+    /// `split-zone OWNER K key|vel M`: splits the zone: it keeps the range below `at`, and a copy after it has the
+    /// rest.
     SplitZone { zone: u32, axis: Axis, at: u8 },
-    /// `join-zone OWNER K key|vel keep|bare`: joins the zone and the next into one with the range of
-    /// both.
+    /// `join-zone OWNER K key|vel keep|bare`: joins the zone and the next into one with the range of both.
     JoinZone { zone: u32, axis: Axis, keep: Keep },
     /// `set-target OWNER K TARGET`: sets the target of the zone.
     SetTarget { zone: u32, target: u16 },

@@ -6,8 +6,8 @@ pub fn numbers_never_fall()
     ensures { NumbersNeverFall }
 {}
 
-/// The cause that `refuse` returns applies to the step, and has the lowest number of all that apply;
-/// among limits it is the first that would be broken. It returns none only if none applies.
+/// The cause that `refuse` returns applies to the step, and has the lowest number of all that apply; among limits it
+/// is the first that would be broken. It returns none only if none applies.
 pub fn lowest_is_told()
     ensures { LowestIsTold }
 {}

@@ -11,8 +11,8 @@ pub enum Refusal {
     /// One step is refused for this cause, the first that applies in the order of their numbers.
     #[error("{0}")]
     Of(Cause),
-    /// An allocation failed. For one step it is returned only if no cause applies; for a group and in a
-    /// session it may be returned in any case.
+    /// An allocation failed. For one step it is returned only if no cause applies; for a group and in a session it
+    /// may be returned in any case.
     #[error("out of memory")]
     OutOfMemory,
     /// The session is at its first bank.

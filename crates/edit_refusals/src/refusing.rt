@@ -13,8 +13,8 @@ use crate::zones::refuse_zone_step;
 use bank_core::Bank;
 use edit_forms::{Cause, Step};
 
-/// Checks whether a step is accepted, and returns the first cause that applies, in the order of their
-/// numbers, if it is not. It allocates nothing.
+/// Checks whether a step is accepted, and returns the first cause that applies, in the order of their numbers, if it
+/// is not. It allocates nothing.
 pub fn refuse(bank: &Bank<'_>, step: &Step<'_>) -> Result<(), Cause>
     ensures refusal { Judges (refusal bank.now step.now) result }
     ensures sound { IsSound bank.now }

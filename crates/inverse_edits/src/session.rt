@@ -11,8 +11,8 @@ use std::marker::Model;
 
 /// An editing session: a list of banks, each made from the one before by an edit, and a current bank.
 ///
-/// Only the current bank is stored. The others follow from two lists of edits: those that undo, the
-/// oldest edit's first, and those that redo, the next one last.
+/// Only the current bank is stored. The others follow from two lists of edits: those that undo, the oldest edit's
+/// first, and those that redo, the next one last.
 pub struct Session<'a> {
     bank: Bank<'a>,
     undo: Vec<Edit<'a>>,
@@ -70,8 +70,8 @@ impl<'a> Session<'a> {
 
     /// Applies an edit to the current bank, and clears the redo list.
     ///
-    /// A refused edit is returned with the reason, and nothing changes: one step is refused for its first
-    /// cause, a group for its first refused step. `OutOfMemory` may be returned in any case.
+    /// A refused edit is returned with the reason, and nothing changes: one step is refused for its first cause, a
+    /// group for its first refused step. `OutOfMemory` may be returned in any case.
     pub fn edit(&mut self, alloc: Global, edit: Edit<'a>) -> Result<(), (Refusal, Edit<'a>)>
         ensures done { OnOk result (IsEdited self.old self.new edit.entry) }
         ensures unchanged { OnErr result (self.new ≡ self.old) }
@@ -87,8 +87,8 @@ impl<'a> Session<'a> {
         }
     }
 
-    /// Undoes the last edit. Returns `NothingToUndo` at the first bank, and otherwise fails only with
-    /// `OutOfMemory`; nothing changes then.
+    /// Undoes the last edit. Returns `NothingToUndo` at the first bank, and otherwise fails only with `OutOfMemory`;
+    /// nothing changes then.
     pub fn undo(&mut self, alloc: Global) -> Result<(), Refusal>
         ensures done { OnOk result (IsForth self.new self.old) }
         ensures unchanged { OnErr result (self.new ≡ self.old) }
@@ -103,8 +103,8 @@ impl<'a> Session<'a> {
         )
     }
 
-    /// Redoes the next edit. Returns `NothingToRedo` at the last bank, and otherwise fails only with
-    /// `OutOfMemory`; nothing changes then.
+    /// Redoes the next edit. Returns `NothingToRedo` at the last bank, and otherwise fails only with `OutOfMemory`;
+    /// nothing changes then.
     pub fn redo(&mut self, alloc: Global) -> Result<(), Refusal>
         ensures done { OnOk result (IsForth self.old self.new) }
         ensures unchanged { OnErr result (self.new ≡ self.old) }
@@ -119,8 +119,8 @@ impl<'a> Session<'a> {
         )
     }
 
-    /// Returns the inverses of all edits up to the current bank, the oldest edit's first. Applied from
-    /// the last to the first, they restore the first bank.
+    /// Returns the inverses of all edits up to the current bank, the oldest edit's first. Applied from the last to
+    /// the first, they restore the first bank.
     pub fn undo_list(&self) -> &[Edit<'a>]
         ensures { result.now ≡ way_back self.now }
     {

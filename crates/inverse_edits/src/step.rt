@@ -8,8 +8,8 @@ use edit_forms::Edit;
 use edit_refusals::Refusal;
 use std::alloc::Global;
 
-/// Applies the last edit of a list, which the bank accepts, and appends its inverse to the other list.
-/// Returns `at_end` if the list is empty.
+/// Applies the last edit of a list, which the bank accepts, and appends its inverse to the other list. Returns
+/// `at_end` if the list is empty.
 pub(crate) fn do_last<'a>(
     alloc: Global,
     bank: &mut Bank<'a>,

@@ -46,8 +46,7 @@ pub(crate) fn read_gens(
     })
 }
 
-// Sets the allowed generators before the target in the map of the entries from `start` on, and returns
-// the target.
+// Sets the allowed generators before the target in the map of the entries from `start` on, and returns the target.
 fn set_gens(
     gens: &mut Vec<(u16, u16)>,
     start: usize,

@@ -50,8 +50,7 @@ impl Index<Bag> for FirstModulator {
     }
 }
 
-/// Checks that the indexes into a list of `count` records are non-decreasing, and at most that of its
-/// last record.
+/// Checks that the indexes into a list of `count` records are non-decreasing, and at most that of its last record.
 #[tactic(auto, unfolding(bank_format::specs::ReadSteps::index_steps))]
 pub(crate) fn check_indexes<R: Record + Copy, I: Index<R>>(
     records: &Table<R>,

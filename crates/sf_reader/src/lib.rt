@@ -1,5 +1,5 @@
-//! Reads SoundFont 2 files (SoundFont 2.04). The reader makes its checks in a fixed order, and the first
-//! that fails determines the fault. `bank_format` defines the checks and the content of a file.
+//! Reads SoundFont 2 files (SoundFont 2.04). The reader makes its checks in a fixed order, and the first that fails
+//! determines the fault. `bank_format` defines the checks and the content of a file.
 #![tactic(auto)]
 
 mod bag;

@@ -63,8 +63,7 @@ impl<H: Drop> OwnersSoFar<H> {
     }
 }
 
-/// The presets or the instruments of a file in flat lists, and what was dropped or repaired in their
-/// zones.
+/// The presets or the instruments of a file in flat lists, and what was dropped or repaired in their zones.
 pub(crate) struct OwnersRead<H> {
     pub(crate) heads: FlatHeads<H>,
     pub(crate) records: Recs,

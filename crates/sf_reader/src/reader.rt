@@ -28,8 +28,8 @@ use std::alloc::Global;
 
 /// Reads the bank of a file, and counts what was dropped or repaired.
 ///
-/// It returns the fault of the first check that the file fails. `OutOfMemory` may be returned for any
-/// file, if an allocation for presets, instruments or samples fails.
+/// It returns the fault of the first check that the file fails. `OutOfMemory` may be returned for any file, if an
+/// allocation for presets, instruments or samples fails.
 ///
 /// The bank borrows its texts and the points of its samples from `file`. It is always valid.
 pub fn read<'a>(alloc: Global, file: &'a [u8]) -> Result<(Bank<'a>, Counts), Failure<ReadFault>>

@@ -22,8 +22,7 @@ const LAST_MODULATOR: Modulator = Modulator {
     transform: 0,
 };
 
-/// The bags, generators and modulators of a level read so far. Generators and modulators have no
-/// terminals yet.
+/// The bags, generators and modulators of a level read so far. Generators and modulators have no terminals yet.
 #[derive(Drop)]
 pub(crate) struct RecordsSoFar {
     pub(crate) bags: Vec<(u16, u16)>,
@@ -63,8 +62,8 @@ pub(crate) fn no_records(
     Ok(RecordsSoFar { bags, gens, mods })
 }
 
-/// Completes the bag of a zone, whose generators are already in the list, with its target (an operator
-/// and its amount) and its modulators.
+/// Completes the bag of a zone, whose generators are already in the list, with its target (an operator and its
+/// amount) and its modulators.
 pub(crate) fn end_zone(
     records: &mut RecordsSoFar,
     target: (u16, u16),
@@ -76,8 +75,8 @@ pub(crate) fn end_zone(
     end_bag(records, modulators)
 }
 
-/// Completes the bag of a global zone, whose generators are the entries from `start` on. An empty global
-/// zone has no bag.
+/// Completes the bag of a global zone, whose generators are the entries from `start` on. An empty global zone has no
+/// bag.
 pub(crate) fn end_global(
     records: &mut RecordsSoFar,
     start: usize,

@@ -171,8 +171,7 @@ fn kind_of(head: &SampleHead, count: usize) -> Kind
     }
 }
 
-/// Returns how many loops are dropped: those that are not inside their sample, unless their ends are
-/// equal.
+/// Returns how many loops are dropped: those that are not inside their sample, unless their ends are equal.
 pub(crate) fn count_lost_loops(heads: &Table<SampleHead>) -> u64
     ensures { result ≡ count_by is_loop_lost (rows heads.now) }
 {

@@ -43,13 +43,12 @@ pub(crate) const NO_COUNTS: ZoneCounts = ZoneCounts {
     ranges: 0,
 };
 
-/// Reads the zones of a preset or an instrument, and appends their records. The last of `bags` only marks
-/// the end of the bag before it.
+/// Reads the zones of a preset or an instrument, and appends their records. The last of `bags` only marks the end of
+/// the bag before it.
 ///
-/// Of the records before the first target, the last of each operator is kept if the level allows the
-/// operator. Ends of ranges above 127 become 127, and ends in the wrong order are exchanged. The first
-/// bag is the global zone if it has no target; a later bag without a target is dropped. Each target must
-/// exist.
+/// Of the records before the first target, the last of each operator is kept if the level allows the operator. Ends
+/// of ranges above 127 become 127, and ends in the wrong order are exchanged. The first bag is the global zone if it
+/// has no target; a later bag without a target is dropped. Each target must exist.
 pub(crate) fn read_bags(
     level: Level,
     bags: &Table<'_, Bag>,

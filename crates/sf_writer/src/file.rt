@@ -17,9 +17,8 @@ use std::io::Write;
 
 /// Puts the bank's canonical file into an output. It allocates nothing.
 ///
-/// The file has the lists `INFO`, `sdta` and `pdta`: the version, the engine, the name, and each other
-/// text that is not empty; the points of each sample, followed by 46 zero points; and the nine lists of
-/// records.
+/// The file has the lists `INFO`, `sdta` and `pdta`: the version, the engine, the name, and each other text that is
+/// not empty; the points of each sample, followed by 46 zero points; and the nine lists of records.
 pub fn put_bank<W: Write>(bank: &Bank<'_>, output: &mut Output<'_, W>)
     ensures { Puts W.contents output.old output.new (canon bank.now) }
 {
@@ -30,8 +29,8 @@ pub fn put_bank<W: Write>(bank: &Bank<'_>, output: &mut Output<'_, W>)
 
 /// Writes the bank's canonical file to a writer. It does not flush.
 ///
-/// It fails if the writer returns an error or accepts no bytes; the fault has the number of bytes written
-/// before, which is less than the length of the file. There is no retry.
+/// It fails if the writer returns an error or accepts no bytes; the fault has the number of bytes written before,
+/// which is less than the length of the file. There is no retry.
 pub fn write<W: Write>(bank: &Bank<'_>, out: &mut W) -> Result<(), WriteFault>
     ensures { Writes (W.contents out.old) (W.contents out.new) (canon bank.now) result }
 {

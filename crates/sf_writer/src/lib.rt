@@ -1,8 +1,8 @@
 //! Writes a bank as its canonical file (SoundFont 2.04, section 4).
 //!
-//! Chunk sizes come before chunk bodies, so they are computed first, from the bank's totals and texts.
-//! Writing allocates nothing: long runs of points are written as slices of the file that they were read
-//! from, while records and short runs of points are buffered.
+//! Chunk sizes come before chunk bodies, so they are computed first, from the bank's totals and texts. Writing
+//! allocates nothing: long runs of points are written as slices of the file that they were read from, while records
+//! and short runs of points are buffered.
 #![tactic(auto)]
 
 mod chunks;

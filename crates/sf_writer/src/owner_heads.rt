@@ -1,5 +1,4 @@
-//! The lists `phdr` and `inst`: the headers of presets and of instruments (SoundFont 2.04, sections 7.2
-//! and 7.6).
+//! The lists `phdr` and `inst`: the headers of presets and of instruments (SoundFont 2.04, sections 7.2 and 7.6).
 ghost use Rattle.std.specs.Prelude.{◌≡◌, ◌<◌, ◌^◌, length, flat_map, slice_index_or};
 ghost use Rattle.outputs.specs.Output.{Puts};
 ghost use Rattle.hydra_records.specs.Spelling.{preset_head_bytes, instrument_head_bytes};

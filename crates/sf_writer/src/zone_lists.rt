@@ -1,5 +1,5 @@
-//! The bag, modulator and generator lists of a level (SoundFont 2.04, sections 7.3 to 7.5 for presets,
-//! 7.7 to 7.9 for instruments).
+//! The bag, modulator and generator lists of a level (SoundFont 2.04, sections 7.3 to 7.5 for presets, 7.7 to 7.9 for
+//! instruments).
 ghost use Rattle.std.specs.Prelude.{◌≡◌, length, map, flat_map};
 ghost use Rattle.outputs.specs.Output.{Puts};
 ghost use Rattle.riff_chunks.specs.Spelling.{spell};
