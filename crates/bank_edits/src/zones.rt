@@ -148,7 +148,6 @@ fn join_zone<'a>(
 // ---- a zone's own range
 
 // Whether the zone has a range of its own, which the join that undoes its split must keep.
-
 fn keep_for(bank: &Bank<'_>, owner: Owner, zone: u32, axis: Axis) -> Keep
     ensures { IfSome (zone_of bank.now owner zone) (λ z. result ≡ keep_for axis z) }
 {
@@ -159,7 +158,6 @@ fn keep_for(bank: &Bank<'_>, owner: Owner, zone: u32, axis: Axis) -> Keep
 }
 
 // The low end of the zone's own range, or 0 if it has none.
-
 fn own_low(bank: &Bank<'_>, owner: Owner, zone: u32, axis: Axis) -> u8
     ensures { IfSome (zone_of bank.now owner zone) (λ z. result ≡ own_low axis z) }
 {
