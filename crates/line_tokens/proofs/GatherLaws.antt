@@ -1,4 +1,4 @@
--- Lists that grow line by line, and their first fault.
+-- Lists built line by line, and their first fault.
 use Rattle.std.proofs.Common.{◌≡◌, ◌≤◌, ℕ, suc, Bool, true, false, cond, List, [], ◌∷◌, length, Result, Ok, Err}
 use Rattle.std.proofs.Common.{refl, sym, ◌∙◌, arith}
 use Rattle.sf_base.specs.declared.memory.Failure.{Failure}
@@ -28,7 +28,7 @@ pub literals_on : (n : ℕ) (s : Said) (line : List Said) (pool : List ℕ)
 unfolding literals_of
 literals_on n s line pool = refl
 
--- ---- steps of a loop over lines: what is left makes of the list so far what the whole makes
+-- ---- in a loop over lines, the remaining lines add to the list so far what completes the whole
 
 pub lines_on : {X F : Type 0} (f : ℕ → List Said → List X → Result (List X) F) (n m : ℕ) (xs ys : List X)
     (l : List Said) (ls all : List (List Said)) (whole : Result (List X) F)
@@ -87,7 +87,7 @@ length-lines_of (b ∷ text) = from (is_feed b) (length-lines_of text)
     from true h = omega (arith, h)
     from false h = omega (arith, h, length-onto b (lines_of text))
 
--- ---- where a step fails, so does the whole
+-- ---- a fault of one line is the fault of the whole
 
 pub step_fails : {X Y F : Type 0} (failure : Failure F) (step : Result X F) (whole : Result Y F)
     → Fails failure step → ((fault : F) → step ≡ Err fault → whole ≡ Err fault) → Fails failure whole

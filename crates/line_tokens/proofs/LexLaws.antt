@@ -1,4 +1,4 @@
--- How lines and tokens go on.
+-- Lines and tokens, one at a time.
 use Rattle.std.proofs.Common.{◌≡◌, ◌≤◌, ◌<◌, ◌+◌, ℕ, zero, suc, Bool, true, false, cond, eqb, ltb, ◌&&◌, List, []}
 use Rattle.std.proofs.Common.{◌∷◌, length, get_or, take, drop, Option, Some, None, refl, sym, ap, subst, ◌∙◌, arith}
 use Rattle.std.specs.List.{before_first, after_first, position_or_len, prefix_len}
@@ -114,7 +114,7 @@ unfolding tokens_for token_at after_blanks
 none_of_nothing zero = refl
 none_of_nothing (suc n) = refl
 
--- more steps than there are bytes give no more
+-- a bound above the number of bytes gives no more tokens
 tokens_for_enough : (n m : ℕ) (line : List ℕ) → length line ≤ n → length line ≤ m
     → tokens_for n line ≡ tokens_for m line
 unfolding tokens_for

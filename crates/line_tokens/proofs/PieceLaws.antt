@@ -1,4 +1,4 @@
--- The pieces of printed lines say what they were made of.
+-- The pieces of printed lines have the values that they are made of.
 use Rattle.std.proofs.Common.{◌≤◌, ◌≡◌, ◌<◌, ◌^◌, ◌+◌, ◌*◌, ◌-◌, ℕ, ℤ, pos, negsuc, zero, suc, Bool, true, false}
 use Rattle.std.proofs.Common.{List, [], ◌∷◌, ◌++◌, length, map, decimal, refl, ap, subst, ◌∙◌, append_assoc, rules}
 use Rattle.std.proofs.Common.{arith, inl, inr}
@@ -31,7 +31,7 @@ use Rattle.line_tokens.proofs.PrintLaws.{line_spaced}
 
 -- ---- words
 
--- bytes that all pass a test, which blanks and the signs of comments and literals don't
+-- bytes that all pass a test that rejects blanks and the first bytes of comments and literals
 pub word_of : (p : ℕ → Bool) → p 32 ≡ false → p 9 ≡ false → p 13 ≡ false → p 35 ≡ false → p 34 ≡ false
     → p 120 ≡ false → (w : List ℕ) → 0 < length w → list_all p w ≡ true → is_word w ≡ true
 word_of p x y z c q h [] l e = absurd (omega arith)
@@ -138,7 +138,7 @@ quotes_feed bytes h =
 
 -- ---- pieces
 
--- what a piece says
+-- the value of a piece
 abbrev pub meant : Piece → Said
 meant (Number n) = says.Word (decimal n)
 meant (Name bytes) = says.Literal bytes
@@ -147,7 +147,7 @@ meant (Signed z) = says.Word (signed_decimal z)
 meant (Range low high) = says.Word (range_text low high)
 meant (Hex bytes) = says.Literal bytes
 
--- a piece shows what it says, and keeps to its line
+-- a piece has its value as a token, and contains no line feed
 pub record Spoken (p : Piece) : Type 0 where
   pub shows : Shows (spelled p) (meant p)
   pub no_feed : list_all not_feed (spelled p) ≡ true

@@ -1,4 +1,4 @@
--- Over the pool of a text, its lines say what they say by themselves.
+-- The values of lines over the pool of their text are the values of the lines by themselves.
 use Rattle.std.proofs.Common.{◌≡◌, ◌-◌, ◌/◌, ℕ, suc, Bool, true, false, List, [], ◌∷◌, ◌++◌, length, drop, map}
 use Rattle.std.proofs.Common.{Result, Ok, Err, refl, sym, ap, ◌∙◌, append_assoc, arith}
 use Rattle.std.specs.List.{list_all}
@@ -30,7 +30,7 @@ lines_said_on pool behind l ls all b e = rw (e, b) refl
 pub lines_said_end : (pool : List ℕ) (all : List (List ℕ)) → all ≡ [] → lines_said_over pool all ≡ []
 lines_said_end pool all e = rw e refl
 
--- ---- both steps went well
+-- ---- both results are values
 
 pub record Through {X : Type 0} (r : Grown X) (f : List X → Grown X) (ys : List X) : Type 0 where
   pub between : List X
@@ -41,7 +41,7 @@ pub through : {X : Type 0} (r : Grown X) (f : List X → Grown X) (ys : List X) 
 through (Ok xs) f ys e = record { between = xs; first = refl; second = e }
 through (Err d) f ys e = cc
 
--- ---- a token takes the bytes of its literal
+-- ---- a token's literal is at the front of the pool
 
 pub record Lends (t : Token) (pool more : List ℕ) : Type 0 where
   pub bytes : List ℕ
@@ -126,7 +126,7 @@ lends n (Plain w) pool more e = lends_plain n w pool more (is_hex w) refl e
 lends n (Quoted i) pool more e = lends_quoted n i pool more (list_all is_plain i) refl e
 lends n Broken pool more e = absurd (never n pool more (rw said_broken at e))
 
--- ---- a line's tokens take the bytes of its literals
+-- ---- the literals of a line are at the front of the pool
 
 pub record Serves (ts : List Token) (pool more : List ℕ) : Type 0 where
   pub bytes : List ℕ
@@ -167,7 +167,7 @@ serves n (t ∷ ts) pool more e =
       behind = λ rest. ap (λ (x : List ℕ). pool_after x ts) (left rest) ∙ s.behind rest;
     }
 
--- ---- so do all lines
+-- ---- the literals of all lines are in the pool
 
 pub record LinesServe (ls : List (List ℕ)) (pool more : List ℕ) : Type 0 where
   pub bytes : List ℕ

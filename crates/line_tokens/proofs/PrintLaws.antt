@@ -57,7 +57,7 @@ slices_at slices d i h =
 slices_over : (slices : List (Bor (List ℕ))) (i : ℕ) → length slices ≤ i → all_digits (drop i slices) ≡ []
 slices_over slices i h = ap all_digits (drop_all i slices h) ∙ encode_nothing
 
--- one space between each two is one space before each but the first
+-- one space between each two tokens is one space before each token but the first
 joined_spaced : (w : List ℕ) (ps : List Piece) → join_with_byte 32 (w ∷ map spelled ps) ≡ w ++ flat_map spaced ps
 joined_spaced w [] = sym (append-nil w)
 joined_spaced w (p ∷ ps) = ap (λ (x : List ℕ). w ++ (32 ∷ x)) (joined_spaced (spelled p) ps)

@@ -1,4 +1,4 @@
--- What is read from a text, the text spells.
+-- Soundness of reading: the values read from a text satisfy its grammar.
 use Rattle.std.proofs.Common.{◌≡◌, ◌≤◌, ◌<◌, ◌+◌, ℕ, zero, suc, Bool, true, false, cond, eqb, eqb-true, not, List}
 use Rattle.std.proofs.Common.{[], ◌∷◌, ◌++◌, length, get_or, take, drop, map, Option, Some, None, Result, Ok, Err}
 use Rattle.std.proofs.Common.{refl, sym, ap, subst, ◌∙◌, take-append-drop, append_assoc, arith, inl, inr, ℤ, pos}
@@ -30,7 +30,7 @@ use Rattle.line_tokens.proofs.TestLaws.{front_passes, split_at_dots}
 use Rattle.line_tokens.proofs.LexLaws.{tokens_once}
 use Rattle.line_tokens.proofs.PoolLaws.{literals_through, lines_through}
 
--- ---- the first byte behind blanks is no blank
+-- ---- the first byte after blanks is no blank
 
 first_stays : (line : List ℕ) (b : ℕ) (rest : List ℕ) → after_blanks line ≡ b ∷ rest → is_blank b ≡ false
 unfolding after_blanks
@@ -43,7 +43,7 @@ first_stays (a ∷ line) b rest e = from (first_stays line b rest) (is_blank a) 
         let n : 1 + prefix_len is_blank line ≡ suc (prefix_len is_blank line) = omega arith in h (rw n at k)
     from h false x k = let same : a ≡ b = cc in ap is_blank (sym same) ∙ x
 
--- the blanks, and what is behind them
+-- the blanks, and the bytes after them
 pub record Split (line : List ℕ) : Type 0 where
   pub blanks : List ℕ
   pub parts : line ≡ blanks ++ after_blanks line
@@ -57,7 +57,7 @@ split line = record {
   blank = front_passes is_blank line;
 }
 
--- ---- what is no token says nothing
+-- ---- a line without tokens has no values
 
 silent : (rest : List ℕ) → token_at rest ≡ None → is_silent rest ≡ true
 unfolding token_at
@@ -82,14 +82,14 @@ no_token line e =
       silent = silent (after_blanks line) e;
     }
 
--- ---- a token that is well spelled shows what it says
+-- ---- a well-formed token has the value that is read
 
 abbrev pub Good : Said → Type 0
 Good (Word w) = Unit {0}
 Good (Literal bytes) = Unit {0}
 Good Bad = ⊥
 
--- a token, and what shows it
+-- a token and its value
 pub record Shown (rest : List ℕ) (s : Said) (after : List ℕ) : Type 0 where
   pub token : List ℕ
   pub parts : rest ≡ token ++ after
@@ -255,7 +255,7 @@ line_says (t ∷ ts) line e g =
 pub line_shown : (line : List ℕ) → AllGood (said_in line) → LineSays line (said_in line)
 line_shown line g = line_says (tokens_of line) line refl g
 
--- ---- the literals of a text that has a pool are well spelled
+-- ---- the literals of a text that has a pool are well formed
 
 literal_good : (n : ℕ) (s : Said) (pool more : List ℕ) → literal_of n s pool ≡ Ok more → Good s
 unfolding literal_of
@@ -276,7 +276,7 @@ lines_good n (l ∷ ls) pool more e =
     let t = lines_through n l ls pool more e in
     (literals_good n l pool t.between t.first, lines_good (suc n) ls t.between more t.second)
 
--- ---- the literals of a text hold bytes
+-- ---- the literals of a text are bytes
 
 abbrev pub HoldsBytes : Said → Type 0
 HoldsBytes (Word w) = Unit {0}
@@ -317,7 +317,7 @@ tokens_bytes (t ∷ ts) = (said_bytes t, tokens_bytes ts)
 
 -- ---- parts
 
--- a part went well, and then the next
+-- one parser succeeds, and then the next
 pub record Both {X Y : Type 0} (r : Result (Took X) LineFault) (f : X → Part Y) (t : Took Y) : Type 0 where
   pub first : Took X
   pub is : r ≡ Ok first
@@ -434,7 +434,7 @@ range_writes w r e = from (number_of 255 (take (dots_at w) w)) (number_of 255 (d
           writes_high = behind;
         })
 
--- a line that begins with a word, and the value that the word writes
+-- a line that begins with a word, and the value of that word
 pub record Numbered {X : Type 0} (W : List ℕ → X → Type 0) (line : List Said) (t : Took X) : Type 0 where
   pub digits : List ℕ
   pub parts : line ≡ Word digits ∷ t.rest

@@ -1,4 +1,4 @@
--- What a text spells is read from it.
+-- Completeness of reading: values that satisfy the grammar of a text are read from it.
 use Rattle.std.proofs.Common.{◌≡◌, ◌<◌, ◌+◌, ℕ, suc, true, false, eqb, eqb-true, ltb, not, List, [], ◌∷◌, ◌++◌}
 use Rattle.std.proofs.Common.{length, take, drop, map, Option, Some, None, Ok, refl, sym, ap, ◌∙◌, append_assoc}
 use Rattle.std.proofs.Common.{arith, inl, inr, ℤ}
@@ -214,7 +214,7 @@ pub signed_read : (limit : ℕ) (z : ℤ) (w : List ℕ) (line : List Said) → 
 unfolding signed
 signed_read limit z w line h = numeral_read (signed_of limit) z w line (signed_again limit z w h)
 
--- no `..` stands in digits, so that the first is behind them
+-- digits contain no `..`, so the first `..` is after them
 dots_behind : (w rest : List ℕ) → list_all is_digit w ≡ true → dots_at (w ++ 46 ∷ 46 ∷ rest) ≡ length w
 dots_behind [] rest h = refl
 dots_behind (b ∷ w) rest h =
@@ -264,7 +264,7 @@ name_read n line h = let k = name_passes n h in rw k refl
 
 -- ---- lines
 
--- some list comes of it
+-- the lines have a list of values
 abbrev pub Grows : {X : Type 0} → Grown X → Type 0
 Grows {X} r = (xs : List X) × (r ≡ Ok xs)
 
@@ -281,7 +281,7 @@ literals_grow n (s ∷ said) line pool h =
     let b = literals_grow n said h.0 a.0 h.2 in
     (b.0, literals_on n s said pool ∙ ap (λ (r : Grown ℕ). and_then r (λ more. literals_of n said more)) a.1 ∙ b.1)
 
--- the line says something, or nothing
+-- a line has values, or none
 abbrev pub Says : List ℕ → Type 0
 Says line = (said : List Said) × LineSays line said
 

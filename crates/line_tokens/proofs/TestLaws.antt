@@ -1,4 +1,4 @@
--- Tests of bytes, and of lists of them.
+-- Tests of bytes and of lists of bytes.
 use Rattle.std.proofs.Common.{◌≡◌, ◌≤◌, ◌<◌, ℕ, suc, Bool, true, false, cond, ◌+◌, eqb, eqb-true, not, List, [], ◌∷◌}
 use Rattle.std.proofs.Common.{◌++◌, length, get_or, take, drop, drop-cons, refl, ap, ◌∙◌, arith}
 use Rattle.std.specs.List.{list_all, position_or_len, prefix_len}
@@ -19,7 +19,7 @@ list_all_weaker p q f (x ∷ xs) e =
     let h = and_parts (p x) (list_all p xs) e in
     and_from (q x) (list_all q xs) (f x h.0) (list_all_weaker p q f xs h.1)
 
--- where a test tells two bytes apart they differ
+-- bytes that a test distinguishes differ
 pub differs : (p : ℕ → Bool) (k b : ℕ) → p k ≡ false → p b ≡ true → eqb b k ≡ false
 differs p k b x y = ne_eqb b k (λ h. let e = ap p h in cc)
 
@@ -40,7 +40,7 @@ not_blank_of p x y z b h = ap not (no_blank_of p x y z b h)
 pub not_feed_of : (p : ℕ → Bool) → p 10 ≡ false → (b : ℕ) → p b ≡ true → not_feed b ≡ true
 not_feed_of p x b h = let e = differs p 10 b x h in ap not e
 
--- ---- the first byte that passes
+-- ---- the first byte that passes a test
 
 pub first_yes : {X : Type 0} (p : X → Bool) (x : X) (xs : List X) → p x ≡ true → position_or_len p (x ∷ xs) ≡ 0
 first_yes p x xs e = rw e refl
@@ -68,7 +68,7 @@ pub blank_behind : (w rest : List ℕ) → list_all not_blank w ≡ true → end
 blank_behind w [] h e = first_nowhere is_blank w h
 blank_behind w (k ∷ rest) h e = first_behind is_blank w k rest h e
 
--- what stands before the first that fails passes
+-- the bytes before the first that fails a test all pass it
 pub front_passes : (p : ℕ → Bool) (xs : List ℕ) → list_all p (take (prefix_len p xs) xs) ≡ true
 front_passes p [] = refl
 front_passes p (x ∷ xs) = from (front_passes p xs) (p x) refl
@@ -80,7 +80,7 @@ front_passes p (x ∷ xs) = from (front_passes p xs) (p x) refl
 
 -- ---- the first `..`
 
--- `..`, and what stands behind it
+-- `..`, and the bytes after it
 are_dots : (w : List ℕ) → is_dots w ≡ true → w ≡ 46 ∷ 46 ∷ drop 2 w
 are_dots [] e = cc
 are_dots (b ∷ []) e = cc
@@ -88,7 +88,7 @@ are_dots (b ∷ c ∷ w) e =
     let h = and_parts (eqb b 46) (eqb c 46) e in
     rw (eqb-true b 46 h.0, eqb-true c 46 h.1) refl
 
--- a place where no `..` stands is passed
+-- a position without `..` is skipped
 passed : (b : ℕ) (w : List ℕ) → is_dots (b ∷ w) ≡ false → dots_at (b ∷ w) ≡ suc (dots_at w)
 passed b w e = rw e refl
 
@@ -105,7 +105,7 @@ pub no_dots : (b : ℕ) (w : List ℕ) → eqb b 46 ≡ false → dots_at (b ∷
 no_dots b [] e = refl
 no_dots b (c ∷ w) e = rw e refl
 
--- what stands before it, `..`, and what stands behind it
+-- the bytes before it, `..`, and the bytes after it
 pub split_at_dots : (w : List ℕ) → dots_at w + 2 ≤ length w → w ≡ take (dots_at w) w ++ 46 ∷ 46 ∷ drop (dots_at w + 2) w
 split_at_dots [] h = absurd (omega arith)
 split_at_dots (b ∷ w) h = from (split_at_dots w) (is_dots (b ∷ w)) refl h

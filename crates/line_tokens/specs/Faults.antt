@@ -1,4 +1,4 @@
--- What a fault of a script is called, and where it is.
+-- The number, the name and the line of a script's fault.
 use Rattle.std.specs.Prelude.{ℕ, List, codes}
 use Rattle.line_tokens.specs.declared.fault.ScriptFault.{ScriptFault}
 use Rattle.line_tokens.specs.declared.fault.ScriptFault.TheVariants.{Syntax, Number, Literal}
@@ -15,7 +15,7 @@ name_of (Syntax line) = codes "Syntax"
 name_of (Number line) = codes "Number"
 name_of (Literal line) = codes "Literal"
 
--- the line at fault
+-- the faulty line
 abbrev pub line_of : ScriptFault → ℕ
 line_of (Syntax line) = line
 line_of (Number line) = line

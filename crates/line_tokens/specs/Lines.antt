@@ -5,7 +5,7 @@ use Rattle.std.specs.Prelude.{ℕ, Bool, List, [], ◌∷◌, ◌==◌, if◌the
 abbrev pub is_feed : ℕ → Bool
 is_feed b = b == 10
 
--- a byte at the front of the first line
+-- puts a byte in front of the first line
 abbrev pub onto : ℕ → List (List ℕ) → List (List ℕ)
 onto b [] = (b ∷ []) ∷ []
 onto b (l ∷ ls) = (b ∷ l) ∷ ls

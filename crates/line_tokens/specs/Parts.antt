@@ -1,4 +1,4 @@
--- The parts of a line, which are read from left to right, up to the first fault.
+-- Parsers of the parts of a line, from left to right, up to the first fault.
 use Rattle.std.specs.Prelude.{◌≡◌, ℕ, suc, ℤ, pos, neg_ℤ, ◌+◌, ◌*◌, ◌-◌, List, [], ◌∷◌, length, take, drop, bytes_eq}
 use Rattle.std.specs.Prelude.{fold, Option, Some, None, option_map, Result, Ok, Err, Bool, false, ◌==◌, ◌&&◌, nat_le}
 use Rattle.std.specs.Prelude.{nat_lt, if◌then◌else◌}
@@ -9,7 +9,7 @@ use Rattle.line_tokens.specs.declared.fault.LineFault.{LineFault}
 use Rattle.line_tokens.specs.declared.fault.LineFault.TheVariants as faults
 use Rattle.line_tokens.specs.Said as saying
 
--- ---- a part of a line: a value and what is left of the line, or the first fault
+-- ---- a parser: a value and the rest of the line, or the first fault
 
 pub record Took (X : Type 0) : Type 0 where
   pub value : X
@@ -22,30 +22,30 @@ abbrev pub and_then : {X Y : Type 0} → Result (Took X) LineFault → (X → Pa
 and_then (Ok t) f = f t.value t.rest
 and_then (Err e) f = Err e
 
--- one part, and then another
+-- one parser after another
 infixl 10 ◌>>=◌
 abbrev pub ◌>>=◌ : {X Y : Type 0} → Part X → (X → Part Y) → Part Y
 (p >>= f) line = and_then (p line) f
 
--- a value that takes no token
+-- the parser that consumes no token and returns this value
 abbrev pub pure : {X : Type 0} → X → Part X
 pure x line = Ok (record { value = x; rest = line })
 
--- the value that there is, or this fault
+-- the value, or this fault where there is none
 abbrev pub or_fault : {X : Type 0} → LineFault → Option X → Part X
 or_fault e None line = Err e
 or_fault e (Some x) line = Ok (record { value = x; rest = line })
 
--- ---- the smallest parts
+-- ---- the smallest parsers
 
--- a word, and neither a literal nor the line's end
+-- a word; anything else is a fault of syntax
 unfoldable pub word : Part (List ℕ)
 word [] = Err faults.Syntax
 word (Word w ∷ line) = Ok (record { value = w; rest = line })
 word (Literal bytes ∷ line) = Err faults.Syntax
 word (Bad ∷ line) = Err faults.Syntax
 
--- a literal, and neither a word nor the line's end
+-- a literal; anything else is a fault of syntax
 unfoldable pub literal : Part (List ℕ)
 literal [] = Err faults.Syntax
 literal (Word w ∷ line) = Err faults.Syntax
@@ -59,7 +59,7 @@ is_next w (Word v ∷ line) = bytes_eq v w
 is_next w (Literal bytes ∷ line) = false
 is_next w (Bad ∷ line) = false
 
--- the line's end
+-- the line's end; a remaining token is a fault of syntax
 unfoldable pub ended : {X : Type 0} → X → Part X
 ended x [] = Ok (record { value = x; rest = [] })
 ended x (s ∷ line) = Err faults.Syntax
@@ -72,13 +72,13 @@ is_digit b = nat_le 48 b && nat_le b 57
 abbrev pub digits_value : List ℕ → ℕ
 digits_value w = fold (λ n b. n * 10 + (b - 48)) 0 w
 
--- the number of 1 to 10 decimal digits, if it is within the limit
+-- the value of 1 to 10 decimal digits, if it is within the limit
 unfoldable pub number_of : ℕ → List ℕ → Option ℕ
 number_of limit w =
     if nat_lt 0 (length w) && nat_le (length w) 10 && list_all is_digit w
     && nat_le (digits_value w) limit then Some (digits_value w) else None
 
--- a word where a number is due: any other token is a fault of number, and the line's end one of syntax
+-- a word where a number is expected: any other token is a fault of number, the line's end one of syntax
 unfoldable pub number_word : Part (List ℕ)
 number_word [] = Err faults.Syntax
 number_word (Word w ∷ line) = Ok (record { value = w; rest = line })
@@ -103,7 +103,7 @@ most_double_word = 4294967295
 unfoldable pub number : ℕ → Part ℕ
 number limit = numeral (number_of limit)
 
--- the number of digits that may have `-` before them, from one below minus the limit up to the limit
+-- the value of digits with an optional `-`, from minus the limit minus 1 up to the limit
 unfoldable pub signed_of : ℕ → List ℕ → Option ℤ
 signed_of limit [] = None
 signed_of limit (b ∷ w) =
@@ -114,18 +114,18 @@ signed_of limit (b ∷ w) =
 unfoldable pub signed : ℕ → Part ℤ
 signed limit = numeral (signed_of limit)
 
--- whether `..` stands at the front
+-- whether a word begins with `..`
 abbrev pub is_dots : List ℕ → Bool
 is_dots [] = false
 is_dots (b ∷ []) = false
 is_dots (b ∷ c ∷ w) = b == 46 && c == 46
 
--- where the first `..` stands, or the length where there is none
+-- the position of the first `..`, or the length where there is none
 abbrev pub dots_at : List ℕ → ℕ
 dots_at [] = 0
 dots_at (b ∷ w) = if is_dots (b ∷ w) then 0 else suc (dots_at w)
 
--- two numbers, where both are there
+-- the pair of two numbers, if both exist
 abbrev pub both_of : Option ℕ → Option ℕ → Option (ℕ × ℕ)
 both_of None high = None
 both_of (Some low) None = None
@@ -145,17 +145,17 @@ range = numeral range_of
 abbrev pub is_name : List ℕ → Bool
 is_name bytes = nat_le (length bytes) 20 && list_all (λ b. nat_lt 0 b) bytes
 
--- the name with these bytes, if they are one
+-- the name with these bytes, if they are a valid name
 unfoldable pub name_of : List ℕ → Option (List ℕ)
 name_of bytes = if is_name bytes then Some bytes else None
 
--- a literal whose bytes are a name
+-- a literal whose bytes are a valid name
 unfoldable pub name : Part (List ℕ)
 name = do
   bytes ← literal
   or_fault faults.Literal (name_of bytes)
 
--- ---- what the code of a part does to what is left of a line
+-- ---- the contract of a function that implements a parser
 
 abbrev pub Reads : {X Y : Type 0} → (X → Y) → Part Y → saying.Left → saying.Left → Result X LineFault → Type 0
 Reads view part old new (Ok x) =

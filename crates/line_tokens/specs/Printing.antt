@@ -8,19 +8,19 @@ use Rattle.line_tokens.specs.declared.printing.Piece.TheVariants.{Number, Signed
 use Rattle.line_tokens.specs.Tokens.{is_quote}
 use Rattle.line_tokens.specs.Said.{is_plain}
 
--- a byte that stands for itself between quotes
+-- a byte that is itself between quotes
 abbrev pub is_open : ℕ → Bool
 is_open b = is_plain b && not (is_quote b)
 
--- `x`, and two digits for each byte
+-- `x`, and two hex digits for each byte
 abbrev pub hex_literal : List ℕ → List ℕ
 hex_literal bytes = 120 ∷ encode_lower bytes
 
--- the bytes between quotes, where they all stand for themselves, and else in hex digits
+-- the bytes between quotes where all may be quoted, else in hex digits
 unfoldable pub name_text : List ℕ → List ℕ
 name_text bytes = if list_all is_open bytes then 34 ∷ bytes ++ 34 ∷ [] else hex_literal bytes
 
--- a number has no leading zeros, `..` stands between the ends of a range, and a word stands as it is
+-- the text form of a piece: a number has no leading zeros, `..` is between the ends of a range, a word is unchanged
 unfoldable pub spelled : Piece → List ℕ
 spelled (Number n) = decimal n
 spelled (Signed z) = signed_decimal z
@@ -29,7 +29,7 @@ spelled (Word bytes) = bytes
 spelled (Name bytes) = name_text bytes
 spelled (Hex bytes) = hex_literal bytes
 
--- a piece behind a space
+-- a piece after a space
 abbrev pub spaced : Piece → List ℕ
 spaced p = 32 ∷ spelled p
 

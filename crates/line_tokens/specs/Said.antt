@@ -1,4 +1,4 @@
--- What a token says: a word, the bytes of a literal, or a literal that is badly spelled.
+-- The value of a token: a word, the bytes of a literal, or a malformed literal.
 use Rattle.std.specs.Prelude.{ℕ, List, [], ◌∷◌, length, take, drop, map, Option, Some, None, Result, Ok, Err, Bool}
 use Rattle.std.specs.Prelude.{false, ◌==◌, ◌&&◌, ◌-◌, ◌/◌, nat_le, if◌then◌else◌}
 use Rattle.std.specs.List.{list_all}
@@ -10,7 +10,7 @@ use Rattle.line_tokens.specs.declared.cursor.Said.TheVariants.{Word, Literal, Ba
 use Rattle.line_tokens.specs.Lines.{lines_of}
 use Rattle.line_tokens.specs.Tokens.{tokens_of}
 
--- a byte that may stand between quotes, from 0x20 to 0x7e
+-- a byte that may be between quotes, from 0x20 to 0x7e
 abbrev pub is_plain : ℕ → Bool
 is_plain b = nat_le 32 b && nat_le b 126
 
@@ -19,64 +19,64 @@ abbrev pub is_hex : List ℕ → Bool
 is_hex [] = false
 is_hex (b ∷ word) = b == 120
 
--- the bytes that hex digits spell, if they spell any
+-- the bytes that hex digits encode, if they are well formed
 abbrev pub decoded : {E : Type 0} → Result (List ℕ) E → Said
 decoded (Ok bytes) = Literal bytes
 decoded (Err e) = Bad
 
--- what a token says
+-- the value of a token
 unfoldable pub said : Token → Said
 said (Plain word) = if is_hex word then decoded (decode_of (drop 1 word)) else Word word
 said (Quoted inside) = if list_all is_plain inside then Literal inside else Bad
 said Broken = Bad
 
--- what a line says
+-- the values of a line's tokens
 abbrev pub said_in : List ℕ → List Said
 said_in line = map said (tokens_of line)
 
--- what each line of a text says
+-- the values of each line of a text
 abbrev pub said_lines : List ℕ → List (List Said)
 said_lines text = map said_in (lines_of text)
 
--- ---- the same, where the bytes of the literals stand in a pool, one after the other
+-- ---- the same, where the bytes of the literals are in a pool, one literal after another
 
--- how many bytes of the pool a token takes
+-- how many bytes of the pool belong to a token
 unfoldable pub size_of : Token → ℕ
 size_of (Plain word) = if is_hex word then (length word - 1) / 2 else 0
 size_of (Quoted inside) = length inside
 size_of Broken = 0
 
--- what a token says, if the bytes of its literal stand at the front of the pool
+-- the value of a token whose literal is at the front of the pool
 unfoldable pub said_over : List ℕ → Token → Said
 said_over pool (Plain word) = if is_hex word then Literal (take (size_of (Plain word)) pool) else Word word
 said_over pool (Quoted inside) = Literal (take (size_of (Quoted inside)) pool)
 said_over pool Broken = Bad
 
--- what tokens say over a pool, each over what the earlier ones leave
+-- the values of tokens over a pool, each over the rest of the pool that the earlier tokens leave
 abbrev pub all_said_over : List ℕ → List Token → List Said
 all_said_over pool [] = []
 all_said_over pool (t ∷ ts) = said_over pool t ∷ all_said_over (drop (size_of t) pool) ts
 
--- the pool behind the bytes of these tokens
+-- the pool after the bytes of these tokens
 abbrev pub pool_after : List ℕ → List Token → List ℕ
 pool_after pool [] = pool
 pool_after pool (t ∷ ts) = pool_after (drop (size_of t) pool) ts
 
--- what each line says over a pool
+-- the values of each line over a pool
 abbrev pub lines_said_over : List ℕ → List (List ℕ) → List (List Said)
 lines_said_over pool [] = []
 lines_said_over pool (l ∷ ls) = all_said_over pool (tokens_of l) ∷ lines_said_over (pool_after pool (tokens_of l)) ls
 
--- what is left of a line, and the pool behind the line
+-- the remaining values of a line, and the pool after the line
 pub record Left : Type 0 where
   pub said : List Said
   pub pool : List ℕ
 
--- what is left of a line where these tokens are left
+-- the state of a cursor with these remaining tokens
 abbrev pub left_over : List ℕ → List Token → Left
 left_over pool ts = record { said = all_said_over pool ts; pool = pool_after pool ts }
 
--- the first token, if there is one, and those behind it
+-- the first token, if there is one, and the tokens after it
 abbrev pub all_tokens : Option Token → List Token → List Token
 all_tokens None ts = []
 all_tokens (Some t) ts = t ∷ ts

@@ -1,4 +1,4 @@
--- Bytes that lie in several slices.
+-- Bytes split over several slices.
 use Rattle.std.specs.Prelude.{ℕ, List}
 use Rattle.std.specs.Borrow.{Bor}
 use Rattle.std.specs.List.{flat_map}

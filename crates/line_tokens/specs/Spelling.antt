@@ -1,4 +1,4 @@
--- Which bytes say what: a relation of lines, tokens, blanks and comments, without a reader.
+-- The grammar of lines, tokens, blanks and comments, as a relation of bytes and values that no reader defines.
 use Rattle.std.specs.Prelude.{◌≡◌, ◌≤◌, ◌<◌, ◌⊎◌, ℕ, ℤ, pos, negsuc, neg_ℤ, ◌+◌, List, [], ◌∷◌, ◌++◌, length, Ok}
 use Rattle.std.specs.Prelude.{Bool, true, false, not, IsTrue, ◌==◌, ◌&&◌}
 use Rattle.std.specs.List.{list_all}
@@ -19,7 +19,7 @@ abbrev pub is_word : List ℕ → Bool
 is_word [] = false
 is_word (b ∷ w) = not (b == 35) && not (is_quote b) && not (b == 120) && not_blank b && list_all not_blank w
 
--- bytes between quotes, each of which stands for itself
+-- bytes between quotes, none of which needs hex digits
 abbrev pub IsQuoted : List ℕ → List ℕ → Type 0
 IsQuoted token bytes = (token ≡ 34 ∷ bytes ++ 34 ∷ []) × IsTrue (list_all is_open bytes)
 
@@ -29,7 +29,7 @@ pub record IsDigits (token bytes : List ℕ) : Type 0 where
   pub parts : token ≡ 120 ∷ digits
   pub value : decode_of digits ≡ Ok bytes
 
--- the bytes of a token that says this
+-- a token has this value
 abbrev pub Shows : List ℕ → Said → Type 0
 Shows token (Word w) = (token ≡ w) × IsTrue (is_word w)
 Shows token (Literal bytes) = IsQuoted token bytes ⊎ IsDigits token bytes
@@ -42,7 +42,7 @@ abbrev pub is_silent : List ℕ → Bool
 is_silent [] = true
 is_silent (b ∷ line) = b == 35
 
--- blanks, and then nothing that says anything
+-- blanks, and then the line's end or a comment
 pub record SaysNothing (line : List ℕ) : Type 0 where
   pub blanks : List ℕ
   pub rest : List ℕ
@@ -50,7 +50,7 @@ pub record SaysNothing (line : List ℕ) : Type 0 where
   pub blank : IsTrue (list_all is_blank blanks)
   pub silent : IsTrue (is_silent rest)
 
--- blanks, a token that says this, and then a blank or the line's end
+-- blanks, a token of this value, and then a blank or the line's end
 pub record Begins (line : List ℕ) (said : Said) (after : List ℕ) : Type 0 where
   pub blanks : List ℕ
   pub token : List ℕ
@@ -59,7 +59,7 @@ pub record Begins (line : List ℕ) (said : Said) (after : List ℕ) : Type 0 wh
   pub shows : Shows token said
   pub apart : IsTrue (ends_well after)
 
--- the line says this, token by token
+-- a line has these values, token by token
 abbrev pub LineSays : List ℕ → List Said → Type 0
 LineSays line [] = SaysNothing line
 LineSays line (s ∷ said) = (after : List ℕ) × Begins line s after × LineSays after said
@@ -74,7 +74,7 @@ pub record Writes (limit : ℕ) (word : List ℕ) (n : ℕ) : Type 0 where
   pub value : digits_value word ≡ n
   pub within : n ≤ limit
 
--- `-`, and the digits of a number within the limit and one
+-- `-`, and the digits of a number up to the limit plus 1
 pub record WritesMinus (limit : ℕ) (word : List ℕ) (z : ℤ) : Type 0 where
   pub digits : List ℕ
   pub number : ℕ
@@ -82,13 +82,13 @@ pub record WritesMinus (limit : ℕ) (word : List ℕ) (z : ℤ) : Type 0 where
   pub writes : Writes (limit + 1) digits number
   pub value : z ≡ neg_ℤ (pos number)
 
--- digits alone
+-- digits without a sign
 pub record WritesPlus (limit : ℕ) (word : List ℕ) (z : ℤ) : Type 0 where
   pub number : ℕ
   pub writes : Writes limit word number
   pub value : z ≡ pos number
 
--- a signed number, with digits alone or with `-` before them
+-- a signed number, with or without `-`
 abbrev pub WritesSigned : ℕ → List ℕ → ℤ → Type 0
 WritesSigned limit word z = WritesMinus limit word z ⊎ WritesPlus limit word z
 
@@ -100,7 +100,7 @@ pub record WritesRange (word : List ℕ) (low high : ℕ) : Type 0 where
   pub writes_low : Writes 255 before low
   pub writes_high : Writes 255 behind high
 
--- from one below minus the limit up to the limit
+-- from minus the limit minus 1 up to the limit
 abbrev pub IsWithin : ℕ → ℤ → Type 0
 IsWithin limit (pos n) = n ≤ limit
 IsWithin limit (negsuc n) = n ≤ limit

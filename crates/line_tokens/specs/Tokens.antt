@@ -13,21 +13,21 @@ is_blank b = b == 32 || b == 9 || b == 13
 abbrev pub is_quote : ℕ → Bool
 is_quote b = b == 34
 
--- the line behind its first blanks
+-- the line after its leading blanks
 unfoldable pub after_blanks : List ℕ → List ℕ
 after_blanks line = drop (prefix_len is_blank line) line
 
--- a token, and the bytes of the line behind it
+-- a token, and the bytes of the line after it
 pub record Front : Type 0 where
   pub token : Token
   pub after : List ℕ
 
--- behind a token that a quote closes stands a blank, or nothing
+-- a closing quote is followed by a blank, or by nothing
 abbrev pub ends_well : List ℕ → Bool
 ends_well [] = true
 ends_well (b ∷ line) = is_blank b
 
--- the token behind an opening quote: it runs to the next quote
+-- the token after an opening quote: it runs to the next quote
 unfoldable pub quoted_at : List ℕ → Front
 quoted_at line =
     if nat_lt (position_or_len is_quote line) (length line)
@@ -40,12 +40,12 @@ unfoldable pub plain_at : ℕ → List ℕ → Front
 plain_at b line =
     record { token = Plain (b ∷ before_first is_blank line); after = drop (position_or_len is_blank line) line }
 
--- the token at the front, where no blank stands: none where the line ends, or `#` begins a comment
+-- the first token of a line without leading blanks: none at the line's end or at a comment, which `#` begins
 unfoldable pub token_at : List ℕ → Option Front
 token_at [] = None
 token_at (b ∷ line) = if b == 35 then None else if is_quote b then Some (quoted_at line) else Some (plain_at b line)
 
--- the token at the front, and those of the bytes behind it
+-- a token, and the tokens of the bytes after it
 abbrev pub and_behind : Option Front → (List ℕ → List Token) → List Token
 and_behind None tokens = []
 and_behind (Some f) tokens = f.token ∷ tokens f.after

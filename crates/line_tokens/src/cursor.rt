@@ -1,4 +1,4 @@
-//! A line, read from left to right.
+//! Reads a line from left to right, one token after another.
 ghost use Rattle.std.specs.Prelude.{◌≡◌, ◌≤◌, ◌≤ℤ◌, ◌+ℤ◌, pos, neg_ℤ, ◌↔◌, List, [], ◌∷◌, MatchOption, take, ℕ, IfOk, OnOk, IsTrue};
 ghost use Rattle.line_tokens.specs.Said.{left_over, size_of, said_over, is_hex};
 ghost use Rattle.line_tokens.specs.Tokens.{tokens_of};
@@ -10,19 +10,19 @@ use crate::tokens::{Token, Tokens};
 use sf_base::{Lent, Name20, front_of, rest_from};
 use std::marker::Model;
 
-/// What a token says.
+/// The value of a token.
 #[derive(Debug, Drop)]
 pub enum Said<'t, 'p> {
-    /// A word of the text.
+    /// A word.
     Word(Lent<'t>),
-    /// The bytes of a literal, in the pool.
+    /// The bytes of a literal, borrowed from the pool.
     Literal(Lent<'p>),
-    /// A literal that is badly spelled.
+    /// A malformed literal.
     Bad,
 }
 
-/// What is left of a line, seen as what its tokens say, and the pool behind the line. Each byte of
-/// the line is passed once: the cursor keeps the next token and what lies behind it.
+/// The remaining tokens of a line as values, and the pool that follows the line's own literals. Each byte of
+/// the line is scanned once: the cursor keeps the next token and the unscanned rest.
 #[derive(Drop)]
 pub struct Cursor<'t, 'p> {
     first: Option<Token<'t>>,
@@ -39,7 +39,7 @@ impl<'t, 'p> Model for Cursor<'t, 'p> {
 }
 
 impl<'t, 'p> Cursor<'t, 'p> {
-    /// The cursor at the start of a line, over a pool that begins with the bytes of its literals.
+    /// The cursor at the start of a line. `pool` begins with the bytes of the line's literals.
     pub fn of(line: &'t [u8], pool: &'p [u8]) -> Cursor<'t, 'p>
         ensures { result ≡ left_over pool.now (tokens_of line.now) }
     {
@@ -52,7 +52,7 @@ impl<'t, 'p> Cursor<'t, 'p> {
         }
     }
 
-    // What the next token says, if there is one.
+    // The value of the next token, which is removed.
     fn next(&mut self) -> Option<Said<'t, 'p>>
         ensures left { MatchOption result ((self.old.said ≡ []) × (self.new.said ≡ [])) (λ s. self.old.said ≡ s ∷ self.new.said) }
         ensures pool { self.new.pool ≡ self.old.pool }
@@ -65,14 +65,14 @@ impl<'t, 'p> Cursor<'t, 'p> {
         Some(said_over(token, bytes))
     }
 
-    /// Whether no token is left.
+    /// Whether no token remains.
     pub fn is_empty(&self) -> bool
         ensures { IsTrue result ↔ (self.now.said ≡ []) }
     {
         self.first.is_none()
     }
 
-    /// Whether the next token is this word. Neither a literal nor the line's end is one.
+    /// Whether the next token is this word. It is not if the next token is a literal, or no token remains.
     #[tactic(auto, unfolding(crate::specs::Said::said_over))]
     pub fn is_next(&self, word: &[u8]) -> bool
         ensures { result ≡ is_next word.now self.now.said }
@@ -83,7 +83,7 @@ impl<'t, 'p> Cursor<'t, 'p> {
         }
     }
 
-    /// The pool behind the line, at the line's end.
+    /// The pool after the line's literals, once every token has been read.
     pub fn pool(&self) -> &'p [u8]
         requires { self.now.said ≡ [] }
         ensures { result.now ≡ self.now.pool }
@@ -91,7 +91,7 @@ impl<'t, 'p> Cursor<'t, 'p> {
         self.pool
     }
 
-    /// A word: a token that is no literal. Any other token, and the line's end, is a fault of syntax.
+    /// Reads a word, that is a token that is no literal; else `Syntax`.
     #[tactic(auto, unfolding(crate::specs::Parts::word))]
     pub fn word(&mut self) -> Result<&'t [u8], LineFault>
         ensures { Reads (λ w. w.now) word self.old self.new result }
@@ -102,7 +102,7 @@ impl<'t, 'p> Cursor<'t, 'p> {
         }
     }
 
-    /// The bytes of a literal. Any other token, and the line's end, is a fault of syntax.
+    /// Reads the bytes of a literal; `Syntax` for any other token and at the line's end.
     #[tactic(auto, unfolding(crate::specs::Parts::literal))]
     pub fn literal(&mut self) -> Result<&'p [u8], LineFault>
         ensures { Reads (λ bytes. bytes.now) literal self.old self.new result }
@@ -113,7 +113,7 @@ impl<'t, 'p> Cursor<'t, 'p> {
         }
     }
 
-    // A word where a number is due.
+    // Reads a word where a number is expected: `Number` for any other token, `Syntax` at the line's end.
     #[tactic(auto, unfolding(crate::specs::Parts::number_word))]
     fn number_word(&mut self) -> Result<&'t [u8], LineFault>
         ensures { Reads (λ w. w.now) number_word self.old self.new result }
@@ -125,8 +125,7 @@ impl<'t, 'p> Cursor<'t, 'p> {
         }
     }
 
-    /// A number from 0 up to the limit. Any other token is a fault of number, and the line's end one
-    /// of syntax.
+    /// Reads a number from 0 to `limit`; `Number` for any other token, `Syntax` at the line's end.
     #[tactic(auto, unfolding(crate::specs::Parts::number))]
     pub fn number(&mut self, limit: u32) -> Result<u32, LineFault>
         ensures reads { Reads (λ n. n) (number limit) self.old self.new result }
@@ -136,8 +135,8 @@ impl<'t, 'p> Cursor<'t, 'p> {
         number_of(word, limit).ok_or(LineFault::Number)
     }
 
-    /// A number from `-limit - 1` up to the limit, with `-` before its digits where it is below zero.
-    /// Any other token is a fault of number, and the line's end one of syntax.
+    /// Reads a number from `-limit - 1` to `limit`, with `-` before its digits where it is negative; `Number`
+    /// for any other token, `Syntax` at the line's end.
     #[tactic(auto, unfolding(crate::specs::Parts::signed))]
     pub fn signed(&mut self, limit: u16) -> Result<i32, LineFault>
         ensures reads { Reads (λ z. z) (signed limit) self.old self.new result }
@@ -148,8 +147,8 @@ impl<'t, 'p> Cursor<'t, 'p> {
         signed_of(word, limit).ok_or(LineFault::Number)
     }
 
-    /// A range `LO..HI` in one token, both ends from 0 to 255 and in any order. Any other token is a
-    /// fault of number, and the line's end one of syntax.
+    /// Reads a range `LO..HI` in one token, both ends from 0 to 255 and in any order; `Number` for any other
+    /// token, `Syntax` at the line's end.
     #[tactic(auto, unfolding(crate::specs::Parts::range))]
     pub fn range(&mut self) -> Result<(u8, u8), LineFault>
         ensures { Reads (λ r. r) range self.old self.new result }
@@ -158,8 +157,8 @@ impl<'t, 'p> Cursor<'t, 'p> {
         range_of(word).ok_or(LineFault::Number)
     }
 
-    /// A literal of at most 20 bytes, none of them zero: else a fault of literal. Any other token,
-    /// and the line's end, is a fault of syntax.
+    /// Reads a literal of at most 20 bytes, none of them zero; `Literal` for other bytes, `Syntax` for any
+    /// other token and at the line's end.
     #[tactic(auto, unfolding(crate::specs::Parts::name))]
     pub fn name(&mut self) -> Result<Name20, LineFault>
         ensures { Reads (λ bytes. bytes) name self.old self.new result }
@@ -168,7 +167,7 @@ impl<'t, 'p> Cursor<'t, 'p> {
         name_of(bytes).ok_or(LineFault::Literal)
     }
 
-    /// The line's end. A token that is left over is a fault of syntax.
+    /// Checks that no token remains; else `Syntax`.
     #[tactic(auto, unfolding(crate::specs::Parts::ended))]
     pub fn end(&mut self) -> Result<(), LineFault>
         ensures reads { Reads (λ u. u) (ended tt) self.old self.new result }
@@ -181,7 +180,7 @@ impl<'t, 'p> Cursor<'t, 'p> {
     }
 }
 
-// How many bytes of the pool a token takes.
+// How many bytes of the pool belong to a token.
 #[tactic(auto, unfolding(crate::specs::Said::size_of))]
 fn size_of(token: &Token<'_>) -> usize
     ensures { result ≡ size_of token.now }
@@ -200,7 +199,7 @@ fn size_of(token: &Token<'_>) -> usize
     }
 }
 
-// What a token says, with the bytes that it takes.
+// The value of a token, given the bytes of its literal.
 #[tactic(auto, unfolding(crate::specs::Said::said_over))]
 fn said_over<'t, 'p>(token: Token<'t>, bytes: &'p [u8]) -> Said<'t, 'p>
     ensures { (pool : List ℕ) → bytes.now ≡ take (size_of token.entry) pool → result ≡ said_over pool token.entry }
@@ -218,14 +217,14 @@ fn said_over<'t, 'p>(token: Token<'t>, bytes: &'p [u8]) -> Said<'t, 'p>
     }
 }
 
-// Whether a token that runs to a blank is a literal.
+// Whether an unquoted token is a literal in hex digits.
 pub(crate) fn is_hex(word: &[u8]) -> bool
     ensures { result ≡ is_hex word.now }
 {
     !word.is_empty() && word[0] == b'x'
 }
 
-// The name with these bytes, if they are one.
+// The name with these bytes, if they are a valid name.
 #[tactic(auto, using(crate::proofs::NameLaws::name_of_bytes))]
 fn name_of(bytes: &[u8]) -> Option<Name20>
     ensures { result ≡ name_of bytes.now }

@@ -1,4 +1,4 @@
-//! What is wrong with a text of lines.
+//! Faults of a text of lines.
 ghost use Rattle.std.specs.Prelude.{◌≡◌};
 ghost use Rattle.sf_base.specs.declared.memory.Failure.TheVariants.{Fault};
 ghost use Rattle.line_tokens.specs.Faults.{number_of, name_of, line_of};
@@ -7,19 +7,19 @@ ghost use Rattle.line_tokens.specs.Pool.{on_line};
 use sf_base::Failure;
 use thiserror::Error;
 
-/// What is wrong with a line.
+/// The fault of a line.
 #[derive(Debug, Drop, Clone, Copy, PartialEq, Eq)]
 pub enum LineFault {
-    /// A token is missing or left over, a word is wrong, or no literal stands where one is needed.
+    /// A token is missing or superfluous, a word is wrong, or a word is found where a literal is required.
     Syntax,
-    /// A number is none, or out of its range.
+    /// A token is no number, or the number is out of range.
     Number,
-    /// A literal is badly spelled, or its bytes are not what is needed.
+    /// A literal is malformed, or its bytes are not valid here.
     Literal,
 }
 
 impl LineFault {
-    /// The fault, on the line of this number.
+    /// The fault with its line number.
     pub fn on_line(self, number: u64) -> ScriptFault
         ensures { result ≡ on_line number self }
     {
@@ -31,16 +31,16 @@ impl LineFault {
     }
 }
 
-/// The first fault of a text of lines, as of a script, with the number of its line, counted from 1.
+/// The first fault of a text, such as a script, with its line number, counted from 1.
 #[derive(Debug, Drop, Clone, Copy, PartialEq, Eq, Error)]
 pub enum ScriptFault {
-    /// 41: a token is missing or left over, a word is wrong, or no literal stands where one is needed.
+    /// 41: a token is missing or superfluous, a word is wrong, or a word is found where a literal is required.
     #[error("line {0}: a token is wrong, missing or left over")]
     Syntax(u64),
-    /// 42: a number is none, or out of its range.
+    /// 42: a token is no number, or the number is out of range.
     #[error("line {0}: a number is wrong or out of range")]
     Number(u64),
-    /// 43: a literal is badly spelled, or its bytes are not what is needed.
+    /// 43: a literal is malformed, or its bytes are not valid here.
     #[error("line {0}: a literal is badly spelled, or its bytes do not serve")]
     Literal(u64),
 }
@@ -57,7 +57,7 @@ impl ScriptFault {
         }
     }
 
-    /// The fault's name, as it is printed behind its number.
+    /// The fault's name, as it is printed after its number.
     pub fn name(self) -> &'static str
         ensures { result.now ≡ name_of self }
     {
@@ -68,7 +68,7 @@ impl ScriptFault {
         }
     }
 
-    /// The number of the line at fault, counted from 1.
+    /// The number of the faulty line, counted from 1.
     pub fn line(self) -> u64
         ensures { result ≡ line_of self }
     {

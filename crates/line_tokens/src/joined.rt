@@ -1,10 +1,10 @@
-//! Bytes in several slices.
+//! Bytes split over several slices.
 ghost use Rattle.std.specs.Prelude.{◌≡◌};
 ghost use Rattle.line_tokens.specs.Slices.{all_bytes};
 
 use std::marker::Model;
 
-/// Bytes that lie in several slices, seen as the one list of them.
+/// The concatenation of several slices, without a copy.
 #[derive(Drop)]
 pub struct Joined<'a> {
     slices: &'a [&'a [u8]],
@@ -27,7 +27,6 @@ impl<'a> Joined<'a> {
         Joined { slices }
     }
 
-    // The slices.
     pub(crate) fn slices(&self) -> &'a [&'a [u8]]
         ensures { all_bytes result.now ≡ self.now }
     {

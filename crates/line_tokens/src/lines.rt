@@ -7,7 +7,7 @@ use crate::scanning::{behind, feed_at};
 use sf_base::front_of;
 use std::marker::Model;
 
-/// The lines of a text without their line feeds, seen as the list of those that are left.
+/// Iterates over the lines of a text, without their line feeds.
 #[derive(Drop)]
 pub struct Lines<'a> {
     rest: &'a [u8],

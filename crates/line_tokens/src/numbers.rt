@@ -5,7 +5,7 @@ ghost use Rattle.line_tokens.specs.Parts.{is_digit, digits_value, number_of, sig
 
 use sf_base::{front_of, rest_from};
 
-// The number of 1 to 10 digits, if it is within the limit.
+// The value of 1 to 10 decimal digits, if it is at most `limit`.
 #[tactic(auto, unfolding(crate::specs::Parts::number_of))]
 pub(crate) fn number_of(word: &[u8], limit: u32) -> Option<u32>
     ensures value { result ≡ number_of limit word.now }
@@ -21,7 +21,7 @@ pub(crate) fn number_of(word: &[u8], limit: u32) -> Option<u32>
     Some(value as u32)
 }
 
-// The number of digits that may have `-` before them, if it is within the limit.
+// The value of digits with an optional `-`, if it is from `-limit - 1` to `limit`.
 #[tactic(auto, unfolding(crate::specs::Parts::signed_of))]
 pub(crate) fn signed_of(word: &[u8], limit: u16) -> Option<i32>
     ensures value { result ≡ signed_of limit word.now }
@@ -39,7 +39,7 @@ pub(crate) fn signed_of(word: &[u8], limit: u16) -> Option<i32>
     Some(value as i32)
 }
 
-// The two ends of a range: the numbers before and behind the first `..`.
+// The two ends of a range: the numbers before and after the first `..`.
 #[tactic(auto, unfolding(crate::specs::Parts::range_of))]
 pub(crate) fn range_of(word: &[u8]) -> Option<(u8, u8)>
     ensures { result ≡ range_of word.now }
@@ -50,7 +50,7 @@ pub(crate) fn range_of(word: &[u8]) -> Option<(u8, u8)>
     Some((low as u8, high as u8))
 }
 
-// Where the first `..` stands, or the length where there is none.
+// The position of the first `..`, or the length where there is none.
 #[tactic(auto, using(crate::proofs::TestLaws::dots_on))]
 fn dots_at(word: &[u8]) -> usize
     ensures at { result ≡ dots_at word.now }
@@ -63,7 +63,7 @@ fn dots_at(word: &[u8]) -> usize
     at
 }
 
-// Whether `..` stands at the front.
+// Whether the bytes begin with `..`.
 fn is_dots(bytes: &[u8]) -> bool
     ensures { result ≡ is_dots bytes.now }
 {
@@ -76,7 +76,7 @@ fn all_digits(word: &[u8]) -> bool
     word.iter().all(|digit| *digit >= b'0' && *digit <= b'9')
 }
 
-// The number that digits write.
+// The value of decimal digits.
 fn digits_value(word: &[u8]) -> u64
     requires short { length word.now ≤ 10 }
     requires digits { list_all is_digit word.now ≡ true }

@@ -13,10 +13,10 @@ use hex::FromHexError;
 use sf_base::{Failure, rest_from};
 use std::alloc::Global;
 
-/// The bytes of all literals of a text, in their order; or the first that is badly spelled, anywhere
-/// in the text, as `Literal` with its line. Out of memory may come in place of either.
+/// The bytes of all literals of a text, in order. The error is `Literal` with the line of the first malformed
+/// literal, or `OutOfMemory`.
 ///
-/// Only the spelling counts here: a literal may stand where none is due, or have too many bytes.
+/// Only the form of literals is checked: a literal may still be where none is expected, or have too many bytes.
 pub fn pool_of(alloc: Global, text: &[u8]) -> Result<Vec<u8>, Failure<ScriptFault>>
     ensures { Answers (λ pool. pool.items) result (pool_bytes text.now) }
 {
@@ -29,7 +29,7 @@ pub fn pool_of(alloc: Global, text: &[u8]) -> Result<Vec<u8>, Failure<ScriptFaul
     Ok(pool)
 }
 
-// Adds the bytes of the literals of a line.
+// Appends the bytes of the literals of a line.
 fn add_literals(
     alloc: Global,
     pool: &mut Vec<u8>,
@@ -44,7 +44,7 @@ fn add_literals(
     Ok(())
 }
 
-// Adds the bytes of a token that is a literal.
+// Appends the bytes of a token that is a literal.
 #[tactic(auto, unfolding(crate::specs::Pool::literal_of, crate::specs::Said::said))]
 fn add_literal(
     alloc: Global,

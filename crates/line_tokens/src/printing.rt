@@ -1,4 +1,4 @@
-//! Lines that are printed.
+//! Writes lines.
 ghost use Rattle.std.specs.Prelude.{◌≡◌, ◌++◌, ◌∷◌, [], decimal};
 ghost use Rattle.std.specs.List.{list_all, flat_map};
 ghost use Rattle.hex.specs.Hex.{encode_lower};
@@ -12,25 +12,25 @@ use outputs::Output;
 use sf_base::Lent;
 use std::io::Write;
 
-/// A token of a printed line, behind the first.
+/// A token of a printed line, after its first word.
 #[derive(Drop)]
 pub enum Piece<'a> {
     /// A number, in decimal digits.
     Number(u64),
-    /// A number, in decimal digits with `-` before them where it is below zero.
+    /// A number, in decimal digits, with `-` before them where it is negative.
     Signed(i64),
     /// The ends of a range, in decimal digits with `..` between them.
     Range(u8, u8),
-    /// A word that stands as it is.
+    /// A word, unchanged.
     Word(Lent<'a>),
-    /// Bytes as a literal: between quotes where they all are from 0x20 to 0x7e and no quote, and else
-    /// in hex digits behind `x`.
+    /// Bytes as a literal: between quotes where all are from 0x20 to 0x7e and none is a quote, else in hex
+    /// digits after `x`.
     Name(Lent<'a>),
-    /// Bytes as a literal in hex digits behind `x`, always.
+    /// Bytes as a literal, always in hex digits after `x`.
     Hex(Joined<'a>),
 }
 
-/// Puts a line: a word, a space and a piece for each piece behind it, and a line feed.
+/// Writes a line: a word, then each piece after a space, and a line feed.
 pub fn put_line<W: Write>(word: &[u8], pieces: &[Piece<'_>], output: &mut Output<'_, W>)
     ensures { Puts W.contents output.old output.new (line_text word.now pieces.now) }
 {
@@ -39,7 +39,7 @@ pub fn put_line<W: Write>(word: &[u8], pieces: &[Piece<'_>], output: &mut Output
     output.put(b"\n");
 }
 
-/// Puts a space and a piece, for each piece.
+/// Writes each piece after a space.
 pub fn put_pieces<W: Write>(pieces: &[Piece<'_>], output: &mut Output<'_, W>)
     ensures { Puts W.contents output.old output.new (flat_map spaced pieces.now) }
 {
@@ -48,7 +48,6 @@ pub fn put_pieces<W: Write>(pieces: &[Piece<'_>], output: &mut Output<'_, W>)
     }
 }
 
-// A space, and a piece.
 #[tactic(auto, using(outputs::proofs::OutputLaws::puts_then))]
 fn put_spaced<W: Write>(piece: &Piece<'_>, output: &mut Output<'_, W>)
     ensures { Puts W.contents output.old output.new (spaced piece.now) }
@@ -77,7 +76,6 @@ fn put_piece<W: Write>(piece: &Piece<'_>, output: &mut Output<'_, W>)
     }
 }
 
-// The two ends, with `..` between them.
 #[tactic(auto, using(outputs::proofs::OutputLaws::puts_then))]
 fn put_range<W: Write>(low: u8, high: u8, output: &mut Output<'_, W>)
     ensures { Puts W.contents output.old output.new (decimal low ++ 46 ∷ 46 ∷ decimal high) }
@@ -88,7 +86,6 @@ fn put_range<W: Write>(low: u8, high: u8, output: &mut Output<'_, W>)
     output.put(digits.format(high).as_bytes());
 }
 
-// Bytes between quotes, where they all stand for themselves, and else in hex digits.
 #[tactic(auto, unfolding(crate::specs::Printing::name_text), using(outputs::proofs::OutputLaws::puts_then))]
 fn put_name<W: Write>(name: &[u8], output: &mut Output<'_, W>)
     ensures { Puts W.contents output.old output.new (name_text name.now) }
@@ -103,7 +100,6 @@ fn put_name<W: Write>(name: &[u8], output: &mut Output<'_, W>)
     }
 }
 
-// `x`, and the bytes of slices in hex digits.
 #[tactic(auto, using(outputs::proofs::OutputLaws::puts_then))]
 fn put_hex<W: Write>(slices: &[&[u8]], output: &mut Output<'_, W>)
     ensures { Puts W.contents output.old output.new (hex_literal (all_bytes slices.now)) }

@@ -1,4 +1,4 @@
-//! Where a byte stands.
+//! Positions of bytes.
 ghost use Rattle.std.specs.Prelude.{◌≡◌, ◌≤◌, ◌+◌, length, drop};
 ghost use Rattle.std.specs.List.{position_or_len, prefix_len};
 ghost use Rattle.line_tokens.specs.Lines.{is_feed};
@@ -6,7 +6,7 @@ ghost use Rattle.line_tokens.specs.Tokens.{is_blank, is_quote};
 
 use sf_base::rest_from;
 
-// The bytes behind a place, or none where they end there or before it.
+// The bytes after the position `at`, or none where there are no more.
 pub(crate) fn behind(bytes: &[u8], at: usize) -> &[u8]
     ensures { result.now ≡ drop (at + 1) bytes.now }
 {
@@ -23,21 +23,21 @@ pub(crate) fn is_blank(byte: u8) -> bool
     byte == b' ' || byte == b'\t' || byte == b'\r'
 }
 
-// The place of the first line feed, or the length where there is none.
+// The position of the first line feed, or the length where there is none.
 pub(crate) fn feed_at(bytes: &[u8]) -> usize
     ensures { result ≡ position_or_len is_feed bytes.now }
 {
     bytes.iter().take_while(|byte| **byte != b'\n').count()
 }
 
-// The place of the first quote, or the length where there is none.
+// The position of the first quote, or the length where there is none.
 pub(crate) fn quote_at(bytes: &[u8]) -> usize
     ensures { result ≡ position_or_len is_quote bytes.now }
 {
     bytes.iter().take_while(|byte| **byte != b'"').count()
 }
 
-// The place of the first blank, or the length where there is none.
+// The position of the first blank, or the length where there is none.
 pub(crate) fn blank_at(bytes: &[u8]) -> usize
     ensures at { result ≡ position_or_len is_blank bytes.now }
     ensures within { result ≤ length bytes.now }
@@ -45,7 +45,7 @@ pub(crate) fn blank_at(bytes: &[u8]) -> usize
     bytes.iter().take_while(|byte| !is_blank(**byte)).count()
 }
 
-// How many blanks stand at the front.
+// The number of leading blanks.
 pub(crate) fn blanks_before(bytes: &[u8]) -> usize
     ensures { result ≡ prefix_len is_blank bytes.now }
 {

@@ -10,15 +10,15 @@ use std::marker::Model;
 /// A token of a line.
 #[derive(Debug, Drop)]
 pub enum Token<'a> {
-    /// One that runs to the next blank.
+    /// A token that runs to the next blank.
     Plain(Lent<'a>),
-    /// What stands between two quotes.
+    /// The bytes between two quotes.
     Quoted(Lent<'a>),
-    /// One whose closing quote is missing, or has no blank behind it. It takes the rest of the line.
+    /// A token whose closing quote is missing or is not followed by a blank. It includes the rest of the line.
     Broken,
 }
 
-/// The tokens of a line, seen as the list of those that are left.
+/// Iterates over the tokens of a line.
 #[derive(Drop)]
 pub(crate) struct Tokens<'a> {
     rest: &'a [u8],
@@ -65,8 +65,7 @@ impl<'a> Iterator for Tokens<'a> {
     }
 }
 
-// The token at the front, where no blank stands, and what follows it. None where the line ends or a
-// comment begins.
+// The first token of a line without leading blanks, and the bytes after it. None at the line's end or a comment.
 #[tactic(auto, using(crate::proofs::LexLaws::token_empty, crate::proofs::LexLaws::token_comment, crate::proofs::LexLaws::token_quote, crate::proofs::LexLaws::token_plain))]
 fn first_token(line: &[u8]) -> Option<(Token<'_>, &[u8])>
     ensures { MatchOption result (token_at line.now ≡ None) (λ r. token_at line.now ≡ Some (record { token = r.0; after = r.1.now })) }
@@ -81,7 +80,7 @@ fn first_token(line: &[u8]) -> Option<(Token<'_>, &[u8])>
     }
 }
 
-// A token that runs to the next blank, and what follows it.
+// A token that runs to the next blank, and the bytes after it.
 #[tactic(auto, using(crate::proofs::LexLaws::front_of_plain), unfolding(crate::specs::Tokens::plain_at))]
 fn plain(line: &[u8]) -> (Token<'_>, &[u8])
     requires { 0 < length line.now }
@@ -95,7 +94,7 @@ fn plain(line: &[u8]) -> (Token<'_>, &[u8])
     )
 }
 
-// The token behind an opening quote, and what follows it.
+// The token after an opening quote, and the bytes after it.
 #[tactic(auto, unfolding(crate::specs::Tokens::quoted_at))]
 fn quoted(line: &[u8]) -> (Token<'_>, &[u8])
     ensures { quoted_at line.now ≡ record { token = result.0; after = result.1.now } }
@@ -110,7 +109,7 @@ fn quoted(line: &[u8]) -> (Token<'_>, &[u8])
     (Token::Broken, &[])
 }
 
-// Whether a token may end here.
+// Whether a closing quote may be followed by these bytes.
 fn ends_well(line: &[u8]) -> bool
     ensures { result ≡ ends_well line.now }
 {

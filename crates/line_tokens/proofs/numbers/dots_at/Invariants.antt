@@ -2,7 +2,7 @@ use Rattle.std.proofs.Common.{◌≡◌, ◌≤◌, ◌+◌, ◌-◌, length, dr
 use Rattle.line_tokens.specs.Parts.{dots_at}
 use Rattle.line_tokens.proofs.numbers.dots_at.Given as goal
 
--- no `..` stands before the place that is reached
+-- no `..` is before the current position
 abbrev pub invariant-loop-at : goal.invariant-loop-at
 invariant-loop-at l =
     record { within : l.at ≤ length l.word; left : l.at + dots_at (drop l.at l.word) ≡ dots_at l.word }

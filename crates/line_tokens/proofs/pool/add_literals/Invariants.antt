@@ -4,7 +4,7 @@ use Rattle.line_tokens.specs.Said.{said}
 use Rattle.line_tokens.specs.Pool.{literals_of}
 use Rattle.line_tokens.proofs.pool.add_literals.Given as goal
 
--- what is left makes of the pool so far what the whole line does
+-- the pool so far and the remaining tokens give the pool of the whole line
 abbrev pub invariant-loop-token : goal.invariant-loop-token
 invariant-loop-token l = record {
   can_next : (goal.iterator-loop-token).can_next l.token-iterator;

@@ -3,7 +3,7 @@ use Rattle.line_tokens.specs.Said.{said_in}
 use Rattle.line_tokens.specs.Pool.{gather, literals_of, pool_bytes}
 use Rattle.line_tokens.proofs.pool.pool_of.Given as goal
 
--- what is left makes of the pool so far that of the whole text
+-- the pool so far and the remaining lines give the pool of the whole text
 abbrev pub invariant-loop-line : goal.invariant-loop-line
 invariant-loop-line l = record {
   can_next : (goal.iterator-loop-line).can_next l.line-iterator;

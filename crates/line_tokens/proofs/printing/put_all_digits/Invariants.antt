@@ -3,7 +3,7 @@ use Rattle.outputs.proofs.OutputLaws.{Putting}
 use Rattle.line_tokens.proofs.PrintLaws.{all_digits}
 use Rattle.line_tokens.proofs.printing.put_all_digits.Given as goal
 
--- the digits of the slices that are left are still to be put
+-- the digits of the remaining slices are still to be written
 abbrev pub invariant-loop-bytes : goal.invariant-loop-bytes
 invariant-loop-bytes g l =
     Putting g.W.Write.contents l.initial.output l.output (all_digits l.slices)

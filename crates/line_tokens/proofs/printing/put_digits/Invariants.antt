@@ -3,7 +3,7 @@ use Rattle.hex.specs.Hex.{encode_lower}
 use Rattle.outputs.proofs.OutputLaws.{Putting}
 use Rattle.line_tokens.proofs.printing.put_digits.Given as goal
 
--- the digits of the bytes that are left are still to be put
+-- the digits of the remaining bytes are still to be written
 abbrev pub invariant-loop-byte : goal.invariant-loop-byte
 invariant-loop-byte g l =
     Putting g.W.Write.contents l.initial.output l.output (encode_lower l.bytes)

@@ -4,7 +4,7 @@ use Rattle.outputs.proofs.OutputLaws.{Putting}
 use Rattle.line_tokens.specs.Printing.{spaced}
 use Rattle.line_tokens.proofs.printing.put_pieces.Given as goal
 
--- the pieces that are left are still to be put
+-- the remaining pieces are still to be written
 abbrev pub invariant-loop-piece : goal.invariant-loop-piece
 invariant-loop-piece g l =
     Putting g.W.Write.contents l.initial.output l.output (flat_map spaced l.pieces)
