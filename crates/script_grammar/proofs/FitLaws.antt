@@ -1,4 +1,4 @@
--- What is said fits, and what fits can be said.
+-- Operands on a line are in their ranges, and operands in their ranges can be encoded.
 use Rattle.std.proofs.Common.{◌≤◌, ◌<◌, ◌^◌, ◌+◌, ℕ, ℤ, pos, negsuc, neg_ℤ, zero, suc, List, [], ◌∷◌, ◌++◌, Option}
 use Rattle.std.proofs.Common.{Some, None, refl, sym, subst, arith, lit<, inl, inr, FitsSigned}
 use Rattle.std.specs.Int.{w8, w16, cast_unsigned}
@@ -25,7 +25,7 @@ use Rattle.script_grammar.specs.Texts.{id_word}
 use Rattle.script_grammar.specs.Ranges.{axis_word, keep_word}
 use Rattle.script_grammar.proofs.OperandLaws.{IsFixed, AllFit, both_fit}
 
--- ---- what is said is in its range
+-- ---- an operand on a line is in its range
 
 abbrev pub Ranged : Operand → Type 0
 Ranged (Fixed w) = Unit {0}
@@ -79,7 +79,7 @@ pub behind : (os more : List Operand) → AllRanged (os ++ more) → AllRanged o
 behind [] more h = (tt, h)
 behind (o ∷ os) more h = let k = behind os more h.1 in ((h.0, k.0), k.1)
 
--- ---- so it fits
+-- ---- its value fits
 
 pub kind_fits : (k : Kind) → AllRanged (kind_operands k) → FitsKind k
 kind_fits Mono h = tt
@@ -115,7 +115,7 @@ sample_fits s h =
       kind = kind_fits s.kind k.0;
     }
 
--- ---- what fits can be said
+-- ---- an operand that fits can be encoded
 
 pub word32 : (n : ℕ) → n < 2 ^ 32 → (n ≤ most_double_word) × (most_double_word < 2 ^ 32)
 word32 n h = (omega (arith, h), lit< tt)

@@ -1,4 +1,4 @@
--- Items and zones take tokens, and how lists of them go on.
+-- Items and zones consume tokens, and lists of them are read one by one.
 use Rattle.std.proofs.Common.{◌≡◌, ℕ, true, false, List, [], codes, None, Ok, Err, refl}
 use Rattle.std.specs.Str.{bytes_eq}
 use Rattle.generators.specs.Ranges.{is_range_operator}
@@ -19,7 +19,7 @@ use Rattle.script_grammar.proofs.RepeatedLaws.{then_shortens, either_keeps, word
 use Rattle.script_grammar.proofs.RepeatedLaws.{signed_shortens, range_shortens, repeated_ends, repeated_goes_on}
 use Rattle.script_grammar.proofs.RepeatedLaws.{repeated_fails, repeated_keeps}
 
--- ---- tokens taken
+-- ---- consumed tokens
 
 pub number_keeps : (limit : ℕ) → Keeps (number limit)
 number_keeps limit = shortens_keeps (number limit) (number_shortens limit)
@@ -122,7 +122,7 @@ pub zones_fail : (zs : List Zone) (line : List Said) (d : LineFault) → is_end 
 unfolding zones_left
 zones_fail zs line d e i = repeated_fails is_end pure zone with_zone zs line d e i
 
--- ---- behind the first brace
+-- ---- after the first brace
 
 pub global_first : (line : List Said) → is_next (codes "global") line ≡ true → zones_behind line ≡ global_behind line
 unfolding zones_behind

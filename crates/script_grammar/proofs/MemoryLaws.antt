@@ -1,4 +1,4 @@
--- One part behind another, where out of memory can come in place of any answer.
+-- One parser after another, where an allocation may fail.
 use Rattle.std.proofs.Common.{◌≡◌, Result, Ok, Err, ap, ◌∙◌}
 use Rattle.sf_base.specs.declared.memory.Failure.{Failure}
 use Rattle.sf_base.specs.declared.memory.Failure.TheVariants.{Fault, OutOfMemory}
@@ -8,7 +8,7 @@ use Rattle.line_tokens.specs.Parts.{Took, Part, and_then, ◌>>=◌}
 use Rattle.script_grammar.specs.Memory.{ReadsOrWants}
 
 module _ {X Y : Type 0} (p : Part X) (f : X → Part Y) where
-  -- the first part fails
+  -- the first parser fails
   pub first_fails : (old : Left) (d : LineFault) → p old.said ≡ Err d → (p >>= f) old.said ≡ Err d
   first_fails old d e = ap (λ (r : Result (Took X) LineFault). and_then r f) e
 
@@ -17,7 +17,7 @@ module _ {X Y : Type 0} (p : Part X) (f : X → Part Y) where
   first_wants view other old mid new (Fault d) h = first_fails old d h
   first_wants view other old mid new OutOfMemory h = tt
 
-  -- the first part is read
+  -- the first parser succeeds
   pub first_read : (old mid : Left) (x : X) → p old.said ≡ Ok (record { value = x; rest = mid.said })
       → (p >>= f) old.said ≡ f x mid.said
   first_read old mid x e = ap (λ (r : Result (Took X) LineFault). and_then r f) e
@@ -30,7 +30,7 @@ module _ {X Y : Type 0} (p : Part X) (f : X → Part Y) where
   then_reads view old mid new x (Err (Fault d)) e h = first_read old mid x e.0 ∙ h
   then_reads view old mid new x (Err OutOfMemory) e h = tt
 
--- what fails as another part fails, or when out of memory
+-- the failure of another parser, or a failed allocation
 pub wants_too : {X Y V W : Type 0} (p : Part X) (q : Part Y) (view : V → X) (other : W → Y) (at old new : Left)
     (failure : Failure LineFault)
     → ((d : LineFault) → p at.said ≡ Err d → q old.said ≡ Err d) → ReadsOrWants view p at new (Err failure)
@@ -38,7 +38,7 @@ pub wants_too : {X Y V W : Type 0} (p : Part X) (q : Part Y) (view : V → X) (o
 wants_too p q view other at old new (Fault d) f h = f d h
 wants_too p q view other at old new OutOfMemory f h = tt
 
--- what reads as another part does
+-- the result of another parser
 pub reads_as : {X V : Type 0} (p q : Part X) (view : V → X) (old new : Left) (r : Result V (Failure LineFault))
     → q old.said ≡ p old.said → ReadsOrWants view p old new r → ReadsOrWants view q old new r
 reads_as p q view old new (Ok v) e h = (e ∙ h.0, h.1)

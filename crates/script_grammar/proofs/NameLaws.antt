@@ -1,4 +1,4 @@
--- What a word names has that word.
+-- A value that a word names has that word.
 use Rattle.std.proofs.Common.{◌≡◌, ◌≤◌, ◌<◌, ◌+◌, ℕ, suc, length, get_or, drop, drop-cons, arith, Bool, true, false}
 use Rattle.std.proofs.Common.{cond, List, [], ◌∷◌, Option, Some, None, refl, sym, ap, ◌∙◌}
 use Rattle.std.specs.Str.{bytes_eq}
@@ -55,7 +55,7 @@ pub named_nowhere : {X : Type 0} (word_of : X → List ℕ) (xs : List X) (i : �
     → named word_of (drop i xs) w ≡ whole → length xs ≤ i → whole ≡ None
 named_nowhere {X} word_of xs i w whole s h = sym s ∙ ap (λ (ys : List X). named word_of ys w) (drop_all i xs h)
 
--- ---- each of them
+-- ---- each of the values
 
 pub id_named : (id : InfoId) → named id_word ids (id_word id) ≡ Some id
 id_named Engine = refl

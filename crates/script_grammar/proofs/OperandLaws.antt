@@ -1,4 +1,4 @@
--- Operands that fit are printed as pieces that say them.
+-- The pieces that are printed for operands that fit encode those operands.
 use Rattle.std.proofs.Common.{◌≡◌, ◌≤◌, ◌<◌, ◌^◌, ◌%◌, ℕ, ℤ, pos, negsuc, lit<, FitsSigned, true, List, [], ◌∷◌}
 use Rattle.std.proofs.Common.{◌++◌, length, map, decimal, refl, sym, arith}
 use Rattle.std.specs.List.{list_all, flat_map, AllByRecursion}
@@ -18,11 +18,11 @@ use Rattle.line_tokens.proofs.PieceLaws.{spoken_bytes, spoken_hex, are_bytes}
 use Rattle.script_grammar.specs.Operands.{Operand, Fixed, Number, Signed, Amount, Range, Name, Text, Points, Says}
 use Rattle.script_grammar.specs.Operands.{AllSay, piece_of, pieces_of}
 
--- a word that a line can hold
+-- a word that can be on a line
 abbrev pub IsFixed : List ℕ → Type 0
 IsFixed w = (is_word w ≡ true) × (list_all not_feed w ≡ true)
 
--- what can be said
+-- an operand that can be encoded
 abbrev pub FitsOperand : Operand → Type 0
 FitsOperand (Fixed w) = IsFixed w
 FitsOperand (Number limit n) = (n ≤ limit) × (limit < 2 ^ 32)

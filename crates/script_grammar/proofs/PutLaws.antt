@@ -1,4 +1,4 @@
--- What is put part by part stands on the line.
+-- A line that is written part by part has all its operands.
 use Rattle.std.proofs.Common.{◌≡◌, ℕ, List, [], ◌∷◌, ◌++◌, Option, refl, sym, ap, ◌∙◌, append_assoc}
 use Rattle.std.specs.List.{flat_map}
 use Rattle.outputs.specs.declared.output.Output.{Output}
@@ -9,7 +9,7 @@ use Rattle.line_tokens.specs.Printing.{spaced}
 use Rattle.script_grammar.specs.Operands.{Operand, Name, Points, piece_of, pieces_of}
 use Rattle.script_grammar.specs.Samples.{kind_operands, loop_operands, tune_operands, head_operands, body_operands}
 
--- operands, each behind a space
+-- operands, each after a space
 abbrev pub spaced_out : List Operand → List ℕ
 spaced_out os = flat_map spaced (pieces_of os)
 
@@ -26,7 +26,7 @@ module _ {W : Type 0} {c : W → Option (List ℕ)} where
       puts_as (spaced_out os ++ spaced_out more) (spaced_out (os ++ more)) (sym (spaced_both os more))
       (puts_then (spaced_out os) (spaced_out more) h k)
 
-  -- the name of a sample, its numbers, its kind and its loop
+  -- the name of a sample, its rate, key and correction, its kind and its loop
   pub puts_head : {o n p q r : Output W} (s : Sample) → Puts c o n (spaced_out (Name s.name ∷ []))
       → Puts c n p (spaced_out (tune_operands s.rate s.key s.correction))
       → Puts c p q (spaced_out (kind_operands s.kind)) → Puts c q r (spaced_out (loop_operands s.looped))

@@ -1,4 +1,4 @@
--- What is read from the front of a line, the line says.
+-- Soundness of reading: a value read from the front of a line has operands there.
 use Rattle.std.proofs.Common.{◌≡◌, ◌%◌, ℕ, ℤ, Bool, true, false, cond, eqb, eqb-true, List, [], ◌∷◌, ◌++◌, length}
 use Rattle.std.proofs.Common.{codes, Option, Some, None, Ok, refl, sym, ap, subst, ◌∙◌, append_assoc}
 use Rattle.std.specs.Str.{bytes_eq}
@@ -25,7 +25,7 @@ use Rattle.script_grammar.specs.Samples.{kind, loop_behind, looped, points_of, p
 
 -- ---- parts
 
--- a front of the line says this, whatever is said behind it
+-- the front of the line encodes these operands, whatever follows
 pub record Fronts (line rest : List Said) (os : List Operand) : Type 0 where
   pub says : (more : List Operand) → AllSay rest more → AllSay line (os ++ more)
   pub holds : AllHoldBytes rest
@@ -121,7 +121,7 @@ next_named_front word_of xs line t h e =
     (subst (λ (v : List ℕ). Fronts line w.first.rest (Fixed v ∷ []))
     (named_is word_of xs w.first.value t.value o.0) g)
 
--- what takes no token
+-- a parser that consumes no token
 pub made : {X : Type 0} (x : X) (line : List Said) (t : Took X) → pure x line ≡ Ok t
     → record { value = x; rest = line } ≡ t
 made x line t e = cc

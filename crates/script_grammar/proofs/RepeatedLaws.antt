@@ -1,4 +1,4 @@
--- A part that stands several times: how many tokens it takes, how it goes on, and how it ends.
+-- A repeated part: how many tokens it consumes, how it continues, and how it ends.
 use Rattle.std.proofs.Common.{◌≡◌, ◌≤◌, ◌<◌, ℕ, zero, suc, Bool, true, false, cond, List, ◌∷◌, length, Option}
 use Rattle.std.proofs.Common.{Result, Ok, Err, refl, sym, ap, ◌∙◌, arith}
 use Rattle.line_tokens.specs.declared.cursor.Said.{Said}
@@ -8,13 +8,13 @@ use Rattle.line_tokens.specs.Parts.{Took, Part, and_then, ◌>>=◌, pure, or_fa
 use Rattle.line_tokens.proofs.ReadLaws.{AllHoldBytes, both, or_fault_is, word_is, number_is, signed_is, range_is}
 use Rattle.script_grammar.specs.Repeated.{repeated_within, repeated}
 
--- ---- tokens taken
+-- ---- consumed tokens
 
--- it leaves no more than there was
+-- the parser leaves no more tokens than there were
 abbrev pub Keeps : {X : Type 0} → Part X → Type 0
 Keeps {X} p = (line : List Said) (t : Took X) → p line ≡ Ok t → length t.rest ≤ length line
 
--- it leaves less than there was
+-- the parser leaves fewer tokens than there were
 abbrev pub Shortens : {X : Type 0} → Part X → Type 0
 Shortens {X} p = (line : List Said) (t : Took X) → p line ≡ Ok t → length t.rest < length line
 
@@ -61,7 +61,7 @@ signed_shortens limit line t e = let k = signed_is limit line t e in first_taken
 pub range_shortens : Shortens range
 range_shortens line t e = let k = range_is line t e in first_taken (Word k.digits) line t.rest k.parts
 
--- ---- a part that stands several times
+-- ---- a repeated part
 
 then_alike : {X Y : Type 0} (r : Result (Took X) LineFault) (f g : X → Part Y)
     → ((t : Took X) → r ≡ Ok t → f t.value t.rest ≡ g t.value t.rest) → and_then r f ≡ and_then r g
@@ -80,7 +80,7 @@ module _ {X Y : Type 0} (ends : List Said → Bool) (last : Y → Part Y) (part 
   unfolding repeated_within
   within_goes_on n y line e = rw e refl
 
-  -- more tests than tokens change nothing
+  -- a bound above the number of tokens changes nothing
   enough : Shortens part → (n m : ℕ) (y : Y) (line : List Said) → length line < n → length line < m
       → repeated_within ends last part with n y line ≡ repeated_within ends last part with m y line
   enough h zero m y line l k = absurd (omega (arith, l))
@@ -143,7 +143,7 @@ module _ {X Y : Type 0} (ends : List Said → Bool) (last : Y → Part Y) (part 
   pub repeated_keeps : ((y : Y) → Keeps (last y)) → Keeps part → (y : Y) → Keeps (repeated ends last part with y)
   repeated_keeps h k y line t e = within_keeps h k (suc (length line)) y line t e
 
-  -- what holds where nothing more comes, and holds with each that comes before, holds of all that is read
+  -- induction over the parts that are read: the base holds at the end, and the step for each part
   module _ (Reads : Y → List Said → Took Y → Type 0)
       (over : (y : Y) (line : List Said) (t : Took Y) → AllHoldBytes line → ends line ≡ true → last y line ≡ Ok t
       → Reads y line t)

@@ -1,4 +1,4 @@
--- What the parts of a line say is read as such.
+-- Completeness of reading: the operands of a part on a line are read as its value.
 use Rattle.std.proofs.Common.{◌≡◌, ◌%◌, ℕ, ℤ, Bool, true, cond, List, [], ◌∷◌, ◌++◌, length, codes, Option, Some}
 use Rattle.std.proofs.Common.{None, Ok, refl, sym, ap, subst, append_assoc, ◌∙◌}
 use Rattle.std.specs.Str.{bytes_eq}
@@ -23,7 +23,7 @@ use Rattle.script_grammar.specs.Samples.{kind, loop_behind, looped, points_of, p
 
 -- ---- parts
 
--- the part reads this, and what is left says the rest
+-- the parser reads this value, and the remaining tokens encode the rest
 pub record Gives {X : Type 0} (p : Part X) (x : X) (line : List Said) (more : List Operand) : Type 0 where
   pub rest : List Said
   pub is : p line ≡ Ok (record { value = x; rest = rest })

@@ -1,4 +1,4 @@
--- What zones on a line stand for fits, and zones that fit can be said so that the line stands for them.
+-- Zones on a line have a value that fits, and zones that fit have operands with that value.
 use Rattle.std.proofs.Common.{◌≡◌, ◌≤◌, ◌<◌, ◌^◌, ◌+◌, ◌/◌, ◌%◌, ℕ, ℤ, pos, negsuc, Bool, true, false, cond, eqb}
 use Rattle.std.proofs.Common.{eqb-true, ◌==◌, List, [], ◌∷◌, ◌++◌, length, map, Option, Some, None, refl, sym, ap}
 use Rattle.std.proofs.Common.{◌∙◌, append_assoc, arith, inl, inr, FitsSigned}
@@ -36,9 +36,9 @@ use Rattle.script_grammar.specs.Zones.{written_of}
 use Rattle.script_grammar.proofs.OperandLaws.{FitsOperand, AllFit, both_fit}
 use Rattle.script_grammar.proofs.FitLaws.{Ranged, AllRanged, behind, word16}
 
--- ---- what is printed of zones stands for them
+-- ---- the operands that are printed for zones have the zones' value
 
--- no operator stands twice in a map
+-- no operator occurs twice in a map
 other_operator : (op x : ℕ) → IsTrue (is_lt (operator_cmp op x)) → eqb x op ≡ false
 other_operator op x h = elim (cases_eq x op) [
   | inl e ↦ absurd (grind (arith, nat_tests))
@@ -123,7 +123,7 @@ zones_stand g zs =
     ap (λ (x : GlobalZone). (x, map zone_in (map written_zone zs))) (global_stands g)
     ∙ ap (λ (ys : List Zone). (g, ys)) (all_stand zs)
 
--- ---- what is said fits
+-- ---- the value of zones on a line fits
 
 word_low : (n : ℕ) → n ≤ most_word → n < 2 ^ 16
 word_low n h = omega (arith, h)
@@ -195,7 +195,7 @@ zones_ranged w h =
     let b = behind (global_operands w.global) (flat_map zone_operands w.zones) h in
     (global_fits w.global b.0, all_fit w.zones b.1)
 
--- ---- what fits can be said
+-- ---- zones that fit can be encoded
 
 amount_said : (operator a : ℕ) → a < 2 ^ 16 → FitsOperand (amount_operand operator a)
 amount_said operator a h = from (is_range_operator operator)

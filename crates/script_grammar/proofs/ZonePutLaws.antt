@@ -1,4 +1,4 @@
--- What is put zone by zone, and item by item, stands on the line.
+-- A line that is written zone by zone and item by item has all their operands.
 use Rattle.std.proofs.Common.{◌≡◌, ◌<◌, ◌+◌, drop, get_or, ℕ, false, List, [], ◌∷◌, ◌++◌, map, codes, length, Option}
 use Rattle.std.proofs.Common.{refl, sym, ap, subst, ◌∙◌, append_assoc}
 use Rattle.std.specs.Prelude.{◌==◌}
@@ -28,7 +28,7 @@ generator_text e = spaced_out (item_operands (item.Generator e.0 e.1))
 abbrev pub modulator_text : Modulator → List ℕ
 modulator_text m = spaced_out (item_operands (item.Modulator m))
 
--- what is put member by member is put of all of them
+-- writing each member writes the whole list
 spaced_all : {X Y : Type 0} (says : Y → List Operand) (of : X → Y) (xs : List X)
     → flat_map (λ (x : X). spaced_out (says (of x))) xs ≡ spaced_out (flat_map says (map of xs))
 spaced_all says of [] = refl

@@ -1,4 +1,4 @@
--- What is read as zones, the line says.
+-- Soundness of reading zones: zones that are read have operands on the line.
 use Rattle.std.proofs.Common.{◌≡◌, ◌≤◌, ◌+◌, ◌*◌, ◌/◌, ◌%◌, ℕ, Bool, true, false, cond, List, [], ◌∷◌, ◌++◌, map}
 use Rattle.std.proofs.Common.{codes, Some, None, Ok, refl, sym, ap, subst, append_assoc, ◌∙◌, arith}
 use Rattle.std.specs.Int.{w16, cast_unsigned}
@@ -176,13 +176,13 @@ item_front line t h e =
     from v rest g false true p q k = added rest (at v (codes "m") rest g q) k
     from v rest g false false p q k = cc
 
--- items that a line says, and what they make of what there is
+-- items on a line, and the content to which they are added
 pub record SaidItems (content : GlobalZone) (line : List Said) (t : Took GlobalZone) : Type 0 where
   pub said : List Item
   pub fronts : Fronts line t.rest (items_operands said)
   pub stands : with_items content said ≡ t.value
 
--- the word that comes next
+-- the next word
 pub next_is : (c : List ℕ) (line : List Said) (t : Took (List ℕ)) → word line ≡ Ok t → is_next c line ≡ true
     → t.value ≡ c
 next_is c line t e k = (bytes_eq-Decides t.value c).0 (sym (ap (is_next c) (word_is line t e)) ∙ k)
@@ -226,13 +226,13 @@ items_front line t h e =
 
 -- ---- zones
 
--- a zone that a line says, behind its brace
+-- the operands of a zone after its brace
 record SaidBehind (line : List Said) (t : Took Zone) : Type 0 where
   pub said : WrittenZone
   pub fronts : Fronts line t.rest (Number most_word said.target ∷ items_operands said.items)
   pub stands : zone_in said ≡ t.value
 
--- a zone that a line says
+-- the operands of a zone
 pub record SaidZone (line : List Said) (t : Took Zone) : Type 0 where
   pub said : WrittenZone
   pub fronts : Fronts line t.rest (zone_operands said)
@@ -269,7 +269,7 @@ zone_front line t h e =
           s.stands;
     }
 
--- the zones that are left
+-- the remaining zones
 record SaidLeft (zs : List Zone) (line : List Said) (t : Took (List Zone)) : Type 0 where
   pub said : List WrittenZone
   pub fronts : Fronts line t.rest (flat_map zone_operands said)
@@ -301,13 +301,13 @@ left_front zs line t h e =
 
 -- ---- all of them
 
--- what a line says of zones
+-- the operands of zones on a line
 pub record SaidZones (line : List Said) (t : Took (GlobalZone × List Zone)) : Type 0 where
   pub written : Written
   pub fronts : Fronts line t.rest (written_operands written)
   pub stands : zones_in written ≡ t.value
 
--- the same behind the first brace
+-- the same after the first brace
 record SaidAfter (line : List Said) (t : Took (GlobalZone × List Zone)) : Type 0 where
   pub written : Written
   pub after : List Operand

@@ -1,4 +1,4 @@
--- What zones on a line say is read as such.
+-- Completeness of reading zones: the operands of zones on a line are read as those zones.
 use Rattle.std.proofs.Common.{◌≡◌, ◌+◌, ◌*◌, ◌/◌, ◌%◌, ℕ, Bool, true, false, cond, List, [], ◌∷◌, ◌++◌, map, codes}
 use Rattle.std.proofs.Common.{Option, Some, None, Ok, refl, sym, ap, subst, append_assoc, ◌∙◌, arith}
 use Rattle.std.specs.Int.{w16, cast_unsigned}
@@ -42,7 +42,7 @@ gives_range low high (s ∷ line) more h =
       says = h.1;
     }
 
--- the signed number whose word it is
+-- a signed number that this word encodes
 gives_word_of : (a : ℕ) (line : List Said) (more : List Operand) → AllSay line (Amount a ∷ more)
     → Gives (signed 32767 >>= λ z. pure (cast_unsigned w16 z)) a line more
 gives_word_of a [] more h = absurd h
@@ -179,7 +179,7 @@ not_end : (line : List Said) (more : List Operand) → AllSay line (Fixed (codes
 not_end [] more h = absurd h
 not_end (s ∷ line) more h = next_word (codes "{") (codes "}") (s ∷ line) more h
 
--- what is said next ends the zones before it
+-- the next token ends the zones before it
 abbrev pub EndsZones : List Operand → Type 0
 EndsZones more = (line : List Said) → AllSay line more → is_end line ≡ true
 
@@ -261,12 +261,12 @@ gives_first_behind w ws line more end h =
     then _ (gives_zones_left ws (zone_in w ∷ []) rest more end k)
     (λ rest k. gives_pure (no_content, map zone_in (w ∷ ws)) rest more k))
 
--- a part that reads as another
+-- a parser with the result of another
 pub as_other : {X : Type 0} (p q : Part X) (x : X) (line : List Said) (more : List Operand) → q line ≡ p line
     → Gives p x line more → Gives q x line more
 as_other p q x line more e g = record { rest = g.rest; is = e ∙ g.is; says = g.says }
 
--- GLOBAL? ZONE*, where what is said behind them ends them
+-- `GLOBAL? ZONE*`, where the tokens after them end them
 module _ (more : List Operand) (end : EndsZones more) where
   gives_parts : (g : Option (List Item)) (ws : List WrittenZone) (line : List Said)
       → AllSay line (global_operands g ++ (flat_map zone_operands ws ++ more))

@@ -1,4 +1,4 @@
--- What a zone sets: the parts of a line that say a generator or a modulator, and lists of them in braces.
+-- The items of a zone: generators and modulators on a line, and lists of them in braces.
 use Rattle.std.specs.Prelude.{ℕ, ℤ, ◌+◌, ◌*◌, ◌/◌, ◌%◌, List, [], ◌∷◌, ◌++◌, codes, None, if◌then◌else◌}
 use Rattle.std.specs.Int.{w16, cast_unsigned}
 use Rattle.std.specs.List.{flat_map}
@@ -15,9 +15,9 @@ use Rattle.script_grammar.specs.declared.items.Item.TheVariants as item
 use Rattle.script_grammar.specs.Repeated.{repeated}
 use Rattle.script_grammar.specs.Operands.{Operand, Fixed, Number, Signed, Amount, Range}
 
--- ---- what stands on the line
+-- ---- the operands on a line
 
--- `LO..HI` for the ranges of keys and of velocities, and else a signed number
+-- `LO..HI` for key and velocity ranges, else a signed number
 abbrev pub amount_operand : ℕ → ℕ → Operand
 amount_operand operator amount =
     if is_range_operator operator then Range (amount % 256) (amount / 256) else Amount amount
@@ -41,18 +41,18 @@ item_operands (item.Modulator m) = Fixed (codes "m") ∷ modulator_operands m
 abbrev pub items_operands : List Item → List Operand
 items_operands items = flat_map item_operands items ++ Fixed (codes "}") ∷ []
 
--- ---- what it stands for
+-- ---- the value of items
 
 -- neither generators nor modulators
 abbrev pub no_content : GlobalZone
 no_content = record { gens = no_gens; mods = [] }
 
--- a generator is set, and a modulator comes behind the others
+-- a generator is set, a modulator is appended
 abbrev pub with_item : GlobalZone → Item → GlobalZone
 with_item content (item.Generator operator amount) = record content { gens = insert content.gens operator amount }
 with_item content (item.Modulator m) = record content { mods = content.mods ++ m ∷ [] }
 
--- so that of a repeated operator the last counts
+-- items in order, so that the last amount of a repeated operator counts
 abbrev pub with_items : GlobalZone → List Item → GlobalZone
 with_items content [] = content
 with_items content (i ∷ items) = with_items (with_item content i) items
@@ -60,9 +60,9 @@ with_items content (i ∷ items) = with_items (with_item content i) items
 abbrev pub content_of : List Item → GlobalZone
 content_of items = with_items no_content items
 
--- ---- how it is read
+-- ---- parsers
 
--- the amount of an operator, as a word of 16 bits
+-- the amount of an operator, as a WORD of 16 bits
 unfoldable pub amount : ℕ → Part ℕ
 amount operator =
     if is_range_operator operator then (range >>= λ ends. pure (ends.0 + 256 * ends.1))
@@ -105,7 +105,7 @@ closed x = do
   w ← word
   pure x
 
--- items, each put into what there is, up to the brace that closes them
+-- items up to the closing brace, added to a content
 unfoldable pub items_on : GlobalZone → Part GlobalZone
 items_on content line = repeated (is_next (codes "}")) closed an_item with_item content line
 

@@ -1,4 +1,4 @@
--- Parts of a line whose values take memory.
+-- Parsers whose values are allocated.
 use Rattle.std.specs.Prelude.{◌≡◌, Result, Ok, Err}
 use Rattle.sf_base.specs.declared.memory.Failure.{Failure}
 use Rattle.sf_base.specs.declared.memory.Failure.TheVariants.{Fault, OutOfMemory}
@@ -6,7 +6,7 @@ use Rattle.line_tokens.specs.declared.fault.LineFault.{LineFault}
 use Rattle.line_tokens.specs.Said as saying
 use Rattle.line_tokens.specs.Parts.{Part}
 
--- what the code of such a part does to what is left of a line: out of memory can come in place of any answer
+-- the contract of a function that implements such a parser; a failed allocation may replace any result
 abbrev pub ReadsOrWants : {X Y : Type 0} → (X → Y) → Part Y → saying.Left → saying.Left
     → Result X (Failure LineFault) → Type 0
 ReadsOrWants view part old new (Ok x) =

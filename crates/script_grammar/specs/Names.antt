@@ -1,21 +1,21 @@
--- What is named by a word.
+-- Values that a word of the script names.
 use Rattle.std.specs.Prelude.{ℕ, List, [], ◌∷◌, Option, Some, None, if◌then◌else◌}
 use Rattle.std.specs.Str.{bytes_eq}
 use Rattle.line_tokens.specs.declared.fault.LineFault.TheVariants as faults
 use Rattle.line_tokens.specs.Parts.{Part, ◌>>=◌, pure, or_fault, word}
 
--- the first of these that has this word
+-- the first of these values that has this word
 abbrev pub named : {X : Type 0} → (X → List ℕ) → List X → List ℕ → Option X
 named word_of [] w = None
 named word_of (x ∷ xs) w = if bytes_eq w (word_of x) then Some x else named word_of xs w
 
--- the one of these whose word is next
+-- the value whose word is next
 unfoldable pub next_named : {X : Type 0} → (X → List ℕ) → List X → Part X
 next_named word_of xs = do
   w ← word
   or_fault faults.Syntax (named word_of xs w)
 
--- ---- a word that is always the same
+-- ---- a fixed word
 
 unfoldable pub fixed_by : List ℕ → List ℕ → Part (Unit {0})
 fixed_by text w = if bytes_eq w text then pure tt else or_fault faults.Syntax None

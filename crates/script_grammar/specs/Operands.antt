@@ -1,4 +1,4 @@
--- What stands on a line, token by token: the tokens that say it, and the pieces that it is printed as.
+-- Operands, each one token of a line: the values that a token of it may have, and the piece that is printed for it.
 use Rattle.std.specs.Prelude.{◌≡◌, ◌%◌, ℕ, ℤ, List, [], ◌∷◌, length, map}
 use Rattle.std.specs.Int.{w16, cast_signed, cast_unsigned}
 use Rattle.std.specs.List.{flat_map}
@@ -11,9 +11,9 @@ use Rattle.line_tokens.specs.declared.printing.Piece.{Piece}
 use Rattle.line_tokens.specs.declared.printing.Piece.TheVariants as piece
 use Rattle.line_tokens.specs.Spelling.{Writes, WritesSigned, WritesRange}
 
--- one token: a word that is always the same, a number up to a limit, a signed number from one below
--- minus the limit up to the limit, one of 16 bits as the word that holds it, the ends of a range, a name,
--- a text, points as words of 16 bits
+-- an operand: a fixed word, a number up to a limit, a signed number from minus the limit minus 1 up to the
+-- limit, a signed number of 16 bits as its WORD, the ends of a range, a name, a text, points as WORDs of 16
+-- bits
 pub data Operand : Type 0 where
   Fixed : List ℕ → Operand
   Number : ℕ → ℕ → Operand
@@ -24,7 +24,7 @@ pub data Operand : Type 0 where
   Text : List ℕ → Operand
   Points : List ℕ → Operand
 
--- the token says it
+-- a token's value encodes this operand
 abbrev pub Says : Said → Operand → Type 0
 Says s (Fixed w) = s ≡ Word w
 Says s (Number limit n) = (w : List ℕ) × (s ≡ Word w) × Writes limit w n
@@ -36,14 +36,14 @@ Says s (Text bytes) = (s ≡ Literal bytes) × FitsText bytes
 Says s (Points ps) =
     (bytes : List ℕ) × (s ≡ Literal bytes) × FitsText bytes × (length bytes % 2 ≡ 0) × (ps ≡ words bytes)
 
--- the tokens say it, one by one
+-- the values of tokens encode these operands, one by one
 abbrev pub AllSay : List Said → List Operand → Type 0
 AllSay [] [] = Unit {0}
 AllSay [] (o ∷ os) = ⊥
 AllSay (s ∷ said) [] = ⊥
 AllSay (s ∷ said) (o ∷ os) = Says s o × AllSay said os
 
--- what it is printed as
+-- the piece that is printed for an operand
 abbrev pub piece_of : Operand → Piece
 piece_of (Fixed w) = piece.Word w
 piece_of (Number limit n) = piece.Number n

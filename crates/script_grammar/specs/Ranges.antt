@@ -1,11 +1,11 @@
--- The words that are said of a zone's range.
+-- The words for a zone's axis, and for whether it keeps its own range.
 use Rattle.std.specs.Prelude.{ℕ, List, [], ◌∷◌, codes}
 use Rattle.zone_ranges.specs.declared.axes.Axis.{Axis}
 use Rattle.zone_ranges.specs.declared.axes.Axis.TheVariants as axis
 use Rattle.zone_ranges.specs.declared.axes.Keep.{Keep}
 use Rattle.zone_ranges.specs.declared.axes.Keep.TheVariants as keep
 
--- of what it is the range
+-- the axis of a range: key or velocity
 abbrev pub axis_word : Axis → List ℕ
 axis_word axis.Key = codes "key"
 axis_word axis.Vel = codes "vel"
@@ -13,7 +13,7 @@ axis_word axis.Vel = codes "vel"
 abbrev pub axes : List Axis
 axes = axis.Key ∷ axis.Vel ∷ []
 
--- whether it is the zone's own
+-- whether the range is the zone's own
 abbrev pub keep_word : Keep → List ℕ
 keep_word keep.Keep = codes "keep"
 keep_word keep.Bare = codes "bare"

@@ -1,4 +1,4 @@
--- The parts of a line that say a sample: what stands there, and how it is read.
+-- The parts of a sample: their operands on a line, and their parsers.
 use Rattle.std.specs.Prelude.{ℕ, ℤ, ◌%◌, List, [], ◌∷◌, ◌++◌, length, codes, Option, Some, None, ◌==◌, if◌then◌else◌}
 use Rattle.std.specs.Str.{bytes_eq}
 use Rattle.sample_view.specs.Words.{words}
@@ -10,7 +10,7 @@ use Rattle.line_tokens.specs.Parts.{Part, ◌>>=◌, pure, or_fault, word, liter
 use Rattle.line_tokens.specs.Parts.{most_word, most_double_word}
 use Rattle.script_grammar.specs.Operands.{Operand, Fixed, Number, Signed, Name, Points}
 
--- ---- what stands on the line
+-- ---- the operands on a line
 
 -- `mono`, `right N`, `left N` or `linked N`
 abbrev pub kind_operands : Kind → List Operand
@@ -29,7 +29,7 @@ loop_operands (Some looped) =
 abbrev pub tune_operands : ℕ → ℕ → ℤ → List Operand
 tune_operands rate key correction = Number most_double_word rate ∷ Number 255 key ∷ Signed 127 correction ∷ []
 
--- all that a sample has but its points: `NAME RATE KEY CORR KIND LOOP`
+-- a sample without its points: `NAME RATE KEY CORR KIND LOOP`
 abbrev pub head_operands : Sample → List Operand
 head_operands s =
     (Name s.name ∷ tune_operands s.rate s.key s.correction) ++ (kind_operands s.kind ++ loop_operands s.looped)
@@ -37,7 +37,7 @@ head_operands s =
 abbrev pub body_operands : Sample → List Operand
 body_operands s = head_operands s ++ Points s.points ∷ []
 
--- ---- how it is read
+-- ---- parsers
 
 unfoldable pub kind_behind : List ℕ → Part Kind
 kind_behind w =

@@ -1,4 +1,4 @@
--- The parts of a line that say zones: what stands there, what it stands for, and how it is read.
+-- Zones on a line: their operands, their values, and their parsers.
 use Rattle.std.specs.Prelude.{ℕ, ◌+◌, ◌==◌, List, [], ◌∷◌, ◌++◌, length, map, codes, Option, Some, None, Bool, true}
 use Rattle.std.specs.Prelude.{if◌then◌else◌}
 use Rattle.std.specs.FinMap.{len, entries}
@@ -22,7 +22,7 @@ pub record WrittenZone : Type 0 where
   pub target : ℕ
   pub items : List Item
 
--- the global zone, where there is one, and the zones
+-- the global zone, if there is one, and the zones
 pub record Written : Type 0 where
   pub global : Option (List Item)
   pub zones : List WrittenZone
@@ -40,7 +40,7 @@ global_operands (Some items) = Fixed (codes "{") ∷ Fixed (codes "global") ∷ 
 abbrev pub written_operands : Written → List Operand
 written_operands w = global_operands w.global ++ flat_map zone_operands w.zones
 
--- ---- what it stands for
+-- ---- the value of zones on a line
 
 abbrev pub zone_of : ℕ → GlobalZone → Zone
 zone_of target content = record { target = target; gens = content.gens; mods = content.mods }
@@ -48,7 +48,7 @@ zone_of target content = record { target = target; gens = content.gens; mods = c
 abbrev pub zone_in : WrittenZone → Zone
 zone_in z = zone_of z.target (content_of z.items)
 
--- an empty global zone is none
+-- an absent global zone is an empty one
 abbrev pub global_in : Option (List Item) → GlobalZone
 global_in None = no_content
 global_in (Some items) = content_of items
@@ -56,9 +56,9 @@ global_in (Some items) = content_of items
 abbrev pub zones_in : Written → GlobalZone × List Zone
 zones_in w = (global_in w.global, map zone_in w.zones)
 
--- ---- as they are printed
+-- ---- zones as they are printed
 
--- operators with their amounts, and then modulators
+-- generators with their amounts, and then modulators
 abbrev pub listed_items : List (ℕ × ℕ) → List Modulator → List Item
 listed_items entries mods =
     map (λ (e : ℕ × ℕ). item.Generator e.0 e.1) entries ++ map (λ (m : Modulator). item.Modulator m) mods
@@ -76,7 +76,7 @@ written_zone z = record { target = z.target; items = items_of z.gens z.mods }
 abbrev pub written_of : GlobalZone → List Zone → Written
 written_of g zs = record { global = global_of g; zones = map written_zone zs }
 
--- ---- how it is read
+-- ---- parsers
 
 -- the brace that opens a zone
 abbrev pub opened : Part (Unit {0})
@@ -95,7 +95,7 @@ zone = do
   o ← opened
   zone_behind
 
--- whether no token is left, or the next closes what the zones stand in
+-- whether no token remains, or the next token closes the braces around the zones
 abbrev pub is_end : List Said → Bool
 is_end [] = true
 is_end (s ∷ line) = is_next (codes "}") (s ∷ line)
@@ -103,7 +103,7 @@ is_end (s ∷ line) = is_next (codes "}") (s ∷ line)
 abbrev pub with_zone : List Zone → Zone → List Zone
 with_zone zs z = zs ++ z ∷ []
 
--- zones, each behind those that there are, up to their end
+-- zones up to their end, each appended
 unfoldable pub zones_left : List Zone → Part (List Zone)
 zones_left zs line = repeated is_end pure zone with_zone zs line
 
@@ -120,17 +120,17 @@ global_behind = do
   w ← word
   global_zones
 
--- the first zone behind its brace, where no global zone is, and the others
+-- the first zone after its brace, without a global zone, and the other zones
 unfoldable pub first_behind : Part (GlobalZone × List Zone)
 first_behind = do
   z ← zone_behind
   zs ← zones_left (z ∷ [])
   pure (no_content, zs)
 
--- only the first brace can be that of a global zone
+-- only the first brace can be the global zone's
 unfoldable pub zones_behind : Part (GlobalZone × List Zone)
 zones_behind line = if is_next (codes "global") line then global_behind line else first_behind line
 
--- GLOBAL? ZONE*, to their end
+-- `GLOBAL? ZONE*`, up to their end
 unfoldable pub zones : Part (GlobalZone × List Zone)
 zones line = if is_end line then pure (no_content, []) line else (opened >>= λ o. zones_behind) line

@@ -1,4 +1,4 @@
-//! The parts of a line that say what a zone sets.
+//! Reads the items of a zone: generators and modulators.
 ghost use Rattle.std.specs.Prelude.{◌≡◌, OnOk};
 ghost use Rattle.line_tokens.specs.Parts.{Reads};
 ghost use Rattle.script_grammar.specs.Items.{an_item, item_behind, amount, generator, modulator, items, with_item, no_content};
@@ -13,7 +13,7 @@ use numbered_lists::NumberedList;
 use sf_base::{Failure, OutOfMemory};
 use std::alloc::Global;
 
-/// What a zone sets: a generator and its amount, or a modulator.
+/// An item of a zone: a generator and its amount, or a modulator.
 #[derive(Debug, Clone, Copy)]
 pub enum Item {
     Generator(u16, u16),
@@ -22,8 +22,8 @@ pub enum Item {
 
 // ---- read
 
-/// `ITEM* }`: the generators and the modulators up to the closing brace. Of a repeated operator the
-/// last counts.
+/// Reads `ITEM* }`: the generators and modulators up to the closing brace. If an operator is repeated, its
+/// last amount counts.
 pub(crate) fn items(
     alloc: Global,
     line: &mut Cursor<'_, '_>,
@@ -49,7 +49,7 @@ pub(crate) fn no_content(alloc: Global) -> GlobalZone
     }
 }
 
-// Sets a generator, or puts a modulator behind the others.
+// Sets a generator, or appends a modulator.
 fn add_item(content: &mut GlobalZone, item: Item) -> Result<(), OutOfMemory>
     ensures { OnOk result (content.new ≡ with_item content.old item) }
 {
@@ -80,8 +80,8 @@ fn an_item(line: &mut Cursor<'_, '_>) -> Result<Item, LineFault>
     }
 }
 
-/// `OPERATOR AMOUNT`: a generator's operator and its amount, as a word of 16 bits. The amount is
-/// `LO..HI` for the ranges of keys and of velocities, and else a signed number.
+/// Reads `OPERATOR AMOUNT`: a generator's operator, and its amount as a WORD of 16 bits. The amount is
+/// written as `LO..HI` for key and velocity ranges, else as a signed number.
 #[tactic(auto, unfolding(crate::specs::Items::generator))]
 pub fn generator(line: &mut Cursor<'_, '_>) -> Result<(u16, u16), LineFault>
     ensures { Reads (λ e. e) generator line.old line.new result }
@@ -91,7 +91,7 @@ pub fn generator(line: &mut Cursor<'_, '_>) -> Result<(u16, u16), LineFault>
     Ok((operator, amount))
 }
 
-// `LO..HI` for the ranges of keys and of velocities, and else a signed number, as a word.
+// The amount of an operator, as a WORD: `LO..HI` for key and velocity ranges, else a signed number.
 #[tactic(auto, unfolding(crate::specs::Items::amount))]
 fn amount(operator: u16, line: &mut Cursor<'_, '_>) -> Result<u16, LineFault>
     ensures { Reads (λ a. a) (amount operator) line.old line.new result }
@@ -105,7 +105,7 @@ fn amount(operator: u16, line: &mut Cursor<'_, '_>) -> Result<u16, LineFault>
     }
 }
 
-/// A modulator: `SOURCE DEST AMOUNT ASOURCE TRANSFORM`.
+/// Reads a modulator: `SOURCE DEST AMOUNT ASOURCE TRANSFORM`.
 #[tactic(auto, unfolding(crate::specs::Items::modulator))]
 pub fn modulator(line: &mut Cursor<'_, '_>) -> Result<Modulator, LineFault>
     ensures { Reads (λ m. m) modulator line.old line.new result }

@@ -1,16 +1,14 @@
-//! What the lines of a script have in common, whatever form of edit they say: what their tokens say,
-//! and the parts of a line that several forms have.
+//! The parts that several forms of edit have on their lines: samples, zones, generators and modulators.
 //!
-//! A part is read by a function that takes it from a [`Cursor`](line_tokens::Cursor), and put by one
-//! that puts each of its tokens behind a space. The parts are a word that is always the same
-//! ([`fixed`]), a word of a list of words ([`next_named`]), the id of a text ([`info_id`]), a sample,
-//! `NAME RATE KEY CORR KIND LOOP POINTS` ([`sample_body`]), or some of it, `RATE KEY CORR` ([`tune`]),
-//! `KIND` ([`kind`]), `LOOP` ([`looped`]) or `POINTS` ([`points`]), the zones of a preset or an
-//! instrument, `GLOBAL? ZONE*` ([`zones`]), or one of them ([`zone`]), and what a zone sets: a
-//! generator, `OPERATOR AMOUNT` ([`generator`]), or a modulator ([`modulator`]).
+//! A part is read from a [`Cursor`](line_tokens::Cursor) by one function, and written by another, each token
+//! after a space. The parts are a fixed word ([`fixed`]), a word of a list of words ([`next_named`]), the id
+//! of a text ([`info_id`]), a sample, `NAME RATE KEY CORR KIND LOOP POINTS` ([`sample_body`]), or some of it,
+//! `RATE KEY CORR` ([`tune`]), `KIND` ([`kind`]), `LOOP` ([`looped`]) or `POINTS` ([`points`]), the zones of
+//! a preset or an instrument, `GLOBAL? ZONE*` ([`zones`]), or one of them ([`zone`]), and the items of a
+//! zone: a generator, `OPERATOR AMOUNT` ([`generator`]), or a modulator ([`modulator`]).
 //!
-//! `GLOBAL` is `{ global ITEM* }`, `ZONE` is `{ TARGET ITEM* }`, and `ITEM` is `g OPERATOR AMOUNT` or
-//! `m SOURCE DEST AMOUNT ASOURCE TRANSFORM`.
+//! `GLOBAL` is `{ global ITEM* }`, `ZONE` is `{ TARGET ITEM* }`, and `ITEM` is `g OPERATOR AMOUNT` or `m
+//! SOURCE DEST AMOUNT ASOURCE TRANSFORM`.
 #![tactic(auto)]
 
 mod items;

@@ -1,4 +1,4 @@
-//! What is named by a word.
+//! Values that a word of the script names.
 ghost use Rattle.std.specs.Prelude.{◌≡◌};
 ghost use Rattle.std.specs.Str.{bytes_eq};
 ghost use Rattle.line_tokens.specs.Parts.{Reads};
@@ -6,7 +6,7 @@ ghost use Rattle.script_grammar.specs.Names.{named, next_named, fixed};
 
 use line_tokens::{Cursor, LineFault};
 
-/// What has a word of its own.
+/// A type whose values are finitely many and each have a word in scripts.
 pub trait HasWord: Copy + 'static {
     ghost use Rattle.std.specs.Prelude.{ℕ, List};
 
@@ -14,23 +14,23 @@ pub trait HasWord: Copy + 'static {
 
     ghost word_of: { Self → List ℕ };
 
-    /// All that there are.
+    /// All values of the type.
     fn all() -> &'static [Self]
         ensures { result.now ≡ all };
 
-    /// Its word.
+    /// The word of a value.
     fn word(self) -> &'static [u8]
         ensures { result.now ≡ word_of self };
 }
 
-/// The one that a word names, if there is one.
+/// The value that a word names, if there is one.
 pub fn named<T: HasWord>(word: &[u8]) -> Option<T>
     ensures { result ≡ named T.word_of T.all word.now }
 {
     first_named(T::all(), word)
 }
 
-/// The one whose word is next on a line. Another word is a fault of syntax.
+/// Reads a word that names a value; `Syntax` for another word.
 #[tactic(auto, unfolding(crate::specs::Names::next_named))]
 pub fn next_named<T: HasWord>(line: &mut Cursor<'_, '_>) -> Result<T, LineFault>
     ensures { Reads (λ x. x) (next_named T.word_of T.all) line.old line.new result }
@@ -39,7 +39,7 @@ pub fn next_named<T: HasWord>(line: &mut Cursor<'_, '_>) -> Result<T, LineFault>
     named(word).ok_or(LineFault::Syntax)
 }
 
-/// This word, and no other: any other token, and the line's end, is a fault of syntax.
+/// Reads this word; `Syntax` for any other token and at the line's end.
 #[tactic(auto, unfolding(crate::specs::Names::fixed, crate::specs::Names::fixed_by))]
 pub fn fixed(line: &mut Cursor<'_, '_>, text: &[u8]) -> Result<(), LineFault>
     ensures { Reads (λ u. u) (fixed text.now) line.old line.new result }
@@ -52,7 +52,7 @@ pub fn fixed(line: &mut Cursor<'_, '_>, text: &[u8]) -> Result<(), LineFault>
     }
 }
 
-// The first of these that a word names.
+// The first of these values that a word names.
 fn first_named<T: HasWord>(items: &[T], word: &[u8]) -> Option<T>
     ensures { result ≡ named T.word_of items.now word.now }
 {
@@ -64,7 +64,7 @@ fn first_named<T: HasWord>(items: &[T], word: &[u8]) -> Option<T>
     None
 }
 
-/// Whether a word is this one.
+/// Whether a word is this text.
 pub(crate) fn says(word: &[u8], text: &[u8]) -> bool
     ensures { result ≡ bytes_eq word.now text.now }
 {

@@ -1,4 +1,4 @@
-//! The words that are said of a zone's range.
+//! The words for a zone's axis, and for whether it keeps its own range.
 ghost use Rattle.std.specs.Prelude.{◌≡◌};
 ghost use Rattle.script_grammar.specs.Ranges.{axis_word, axes, keep_word, keeps};
 

@@ -1,4 +1,4 @@
-//! The parts of a line that say a sample.
+//! Reads and writes the parts of a sample.
 ghost use Rattle.std.specs.Prelude.{◌≡◌, ◌∷◌, []};
 ghost use Rattle.std.specs.List.{flat_map};
 ghost use Rattle.outputs.specs.Output.{Puts};
@@ -19,7 +19,7 @@ use std::io::Write;
 
 // ---- read
 
-/// A sample: `NAME RATE KEY CORR KIND LOOP POINTS`.
+/// Reads a sample: `NAME RATE KEY CORR KIND LOOP POINTS`.
 #[tactic(auto, unfolding(crate::specs::Samples::body))]
 pub fn sample_body<'p>(alloc: Global, line: &mut Cursor<'_, 'p>) -> Result<Sample<'p>, LineFault>
     ensures { Reads (λ s. s) body line.old line.new result }
@@ -40,8 +40,8 @@ pub fn sample_body<'p>(alloc: Global, line: &mut Cursor<'_, 'p>) -> Result<Sampl
     })
 }
 
-/// `RATE KEY CORR`: the points a second of a sample, its key (0 to 255), and its correction in cents
-/// (-128 to 127), as a sample's header has them (SoundFont 2.04, section 7.10).
+/// Reads `RATE KEY CORR`: a sample's rate in points a second, its key (0 to 255), and its correction in cents
+/// (-128 to 127), as in a sample header (SoundFont 2.04, section 7.10).
 #[tactic(auto, unfolding(crate::specs::Samples::tune))]
 pub fn tune(line: &mut Cursor<'_, '_>) -> Result<(u32, u8, i8), LineFault>
     ensures { Reads (λ t. t) tune line.old line.new result }
@@ -52,8 +52,8 @@ pub fn tune(line: &mut Cursor<'_, '_>) -> Result<(u32, u8, i8), LineFault>
     Ok((rate, key as u8, correction as i8))
 }
 
-/// A sample's kind: `mono`, `right N`, `left N` or `linked N`, where N is the number of the sample that
-/// it links to, up to 65,535. Another word is a fault of syntax.
+/// Reads a sample's kind: `mono`, `right N`, `left N` or `linked N`, where N is the number of the linked
+/// sample, up to 65,535; `Syntax` for another word.
 #[tactic(auto, unfolding(crate::specs::Samples::kind, crate::specs::Samples::kind_behind))]
 pub fn kind(line: &mut Cursor<'_, '_>) -> Result<Kind, LineFault>
     ensures { Reads (λ k. k) kind line.old line.new result }
@@ -72,8 +72,8 @@ pub fn kind(line: &mut Cursor<'_, '_>) -> Result<Kind, LineFault>
     }
 }
 
-/// A sample's loop: `noloop`, or `loop A B`, from point A up to before point B. Another word is a fault
-/// of syntax.
+/// Reads a sample's loop: `noloop`, or `loop A B` with the first point A and the point after the last, B;
+/// `Syntax` for another word.
 #[tactic(auto, unfolding(crate::specs::Samples::looped, crate::specs::Samples::loop_behind))]
 pub fn looped(line: &mut Cursor<'_, '_>) -> Result<Option<(u32, u32)>, LineFault>
     ensures { Reads (λ l. l) looped line.old line.new result }
@@ -90,8 +90,7 @@ pub fn looped(line: &mut Cursor<'_, '_>) -> Result<Option<(u32, u32)>, LineFault
     }
 }
 
-/// Points: a literal of two bytes for each point, the low byte first. A literal of an odd number of
-/// bytes is a fault of its own.
+/// Reads points: a literal of two bytes for each point, the low byte first; `Literal` for an odd number of bytes.
 #[tactic(auto, unfolding(crate::specs::Samples::points))]
 pub fn points<'p>(alloc: Global, line: &mut Cursor<'_, 'p>) -> Result<Points<'p>, LineFault>
     ensures { Reads (λ p. p) points line.old line.new result }
@@ -100,7 +99,7 @@ pub fn points<'p>(alloc: Global, line: &mut Cursor<'_, 'p>) -> Result<Points<'p>
     points_of(alloc, bytes).ok_or(LineFault::Literal)
 }
 
-// The points of these bytes, if they are whole points.
+// The points in these bytes, unless their number is odd.
 #[tactic(auto, unfolding(crate::specs::Samples::points_of))]
 fn points_of(alloc: Global, bytes: &[u8]) -> Option<Points<'_>>
     ensures { result ≡ points_of bytes.now }
@@ -110,8 +109,7 @@ fn points_of(alloc: Global, bytes: &[u8]) -> Option<Points<'_>>
 
 // ---- printed
 
-/// Puts all of a sample but its points, each token behind a space: its name, its rate, its key, its
-/// correction, its kind and its loop, as `add-sample` and the listing have them.
+/// Writes a sample without its points, `NAME RATE KEY CORR KIND LOOP`, each token after a space.
 pub fn put_sample_head<W: Write>(sample: &Sample<'_>, output: &mut Output<'_, W>)
     ensures { Puts W.contents output.old output.new (flat_map spaced (pieces_of (head_operands sample.now))) }
 {
@@ -121,14 +119,14 @@ pub fn put_sample_head<W: Write>(sample: &Sample<'_>, output: &mut Output<'_, W>
     put_loop(sample.looped, output);
 }
 
-/// Puts a name as a literal, behind a space.
+/// Writes a name as a literal, after a space.
 pub fn put_name<W: Write>(name: &Name20, output: &mut Output<'_, W>)
     ensures { Puts W.contents output.old output.new (flat_map spaced (pieces_of (operand.Name name.now ∷ []))) }
 {
     put_pieces(&[Piece::Name(Lent::new(name.bytes()))], output);
 }
 
-/// Puts `RATE KEY CORR`, each token behind a space.
+/// Writes `RATE KEY CORR`, each token after a space.
 pub fn put_tune<W: Write>(rate: u32, key: u8, correction: i8, output: &mut Output<'_, W>)
     ensures { Puts W.contents output.old output.new (flat_map spaced (pieces_of (tune_operands rate key correction))) }
 {
@@ -138,7 +136,7 @@ pub fn put_tune<W: Write>(rate: u32, key: u8, correction: i8, output: &mut Outpu
     put_pieces(&[rate, key, correction], output);
 }
 
-/// Puts a sample's kind, each token behind a space.
+/// Writes a sample's kind, each token after a space.
 pub fn put_kind<W: Write>(kind: Kind, output: &mut Output<'_, W>)
     ensures { Puts W.contents output.old output.new (flat_map spaced (pieces_of (kind_operands kind))) }
 {
@@ -157,7 +155,7 @@ fn put_link<W: Write>(word: &[u8], link: u16, output: &mut Output<'_, W>)
     put_pieces(&[Piece::Word(Lent::new(word)), link], output);
 }
 
-/// Puts a sample's loop, each token behind a space.
+/// Writes a sample's loop, each token after a space.
 pub fn put_loop<W: Write>(looped: Option<(u32, u32)>, output: &mut Output<'_, W>)
     ensures { Puts W.contents output.old output.new (flat_map spaced (pieces_of (loop_operands looped))) }
 {
@@ -172,14 +170,14 @@ pub fn put_loop<W: Write>(looped: Option<(u32, u32)>, output: &mut Output<'_, W>
     }
 }
 
-/// Puts points as the bytes of their words, behind a space.
+/// Writes points as a literal in hex digits, after a space.
 pub fn put_points<W: Write>(points: &Points<'_>, output: &mut Output<'_, W>)
     ensures { Puts W.contents output.old output.new (flat_map spaced (pieces_of (operand.Points points.now ∷ []))) }
 {
     put_pieces(&[Piece::Hex(Joined::new(points.pieces()))], output);
 }
 
-/// Puts all of a sample, each token behind a space.
+/// Writes a sample, `NAME RATE KEY CORR KIND LOOP POINTS`, each token after a space.
 pub fn put_sample_body<W: Write>(sample: &Sample<'_>, output: &mut Output<'_, W>)
     ensures { Puts W.contents output.old output.new (flat_map spaced (pieces_of (body_operands sample.now))) }
 {

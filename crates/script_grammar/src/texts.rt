@@ -1,4 +1,4 @@
-//! The part of a line that names one of a bank's texts.
+//! Reads the id of one of a bank's texts.
 ghost use Rattle.std.specs.Prelude.{◌≡◌};
 ghost use Rattle.line_tokens.specs.Parts.{Reads};
 ghost use Rattle.script_grammar.specs.Texts.{id_word, ids, info_id};
@@ -41,8 +41,7 @@ impl HasWord for InfoId {
     }
 }
 
-/// The id of a text, by the name of its chunk (SoundFont 2.04, section 5). Another word is a fault of
-/// syntax.
+/// Reads the id of a text, which is the id of its chunk (SoundFont 2.04, section 5); `Syntax` for another word.
 #[tactic(auto, unfolding(crate::specs::Texts::info_id))]
 pub fn info_id(line: &mut Cursor<'_, '_>) -> Result<InfoId, LineFault>
     ensures { Reads (λ id. id) info_id line.old line.new result }

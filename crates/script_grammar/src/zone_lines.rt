@@ -1,4 +1,4 @@
-//! Zones, put on a line.
+//! Writes zones.
 ghost use Rattle.std.specs.Prelude.{◌≡◌, ◌∷◌, []};
 ghost use Rattle.std.specs.List.{flat_map};
 ghost use Rattle.outputs.specs.Output.{Puts};
@@ -19,8 +19,8 @@ use outputs::Output;
 use sf_base::Lent;
 use std::io::Write;
 
-/// Puts `GLOBAL? ZONE*`, each token behind a space: no `GLOBAL` where the global zone is empty, and
-/// the generators of each zone in canonical order before its modulators.
+/// Writes `GLOBAL? ZONE*`, each token after a space: no `GLOBAL` where the global zone is empty, and in each
+/// zone its generators, in canonical order, before its modulators.
 pub fn put_zones<W: Write>(global: &GlobalZone, zones: &[Zone], output: &mut Output<'_, W>)
     ensures { Puts W.contents output.old output.new (flat_map spaced (pieces_of (written_operands (written_of global.now zones.now)))) }
 {
@@ -28,7 +28,7 @@ pub fn put_zones<W: Write>(global: &GlobalZone, zones: &[Zone], output: &mut Out
     put_all_zones(zones, output);
 }
 
-// `{ global ITEM* }`, or nothing where it is empty.
+// `{ global ITEM* }`, or nothing where the global zone is empty.
 fn put_global<W: Write>(global: &GlobalZone, output: &mut Output<'_, W>)
     ensures { Puts W.contents output.old output.new (flat_map spaced (pieces_of (global_operands (global_of global.now)))) }
 {
@@ -52,8 +52,8 @@ fn put_all_zones<W: Write>(zones: &[Zone], output: &mut Output<'_, W>)
     }
 }
 
-/// Puts one zone, `{ TARGET ITEM* }`, each token behind a space: its generators in canonical order
-/// before its modulators.
+/// Writes a zone, `{ TARGET ITEM* }`, each token after a space: its generators, in canonical order, before
+/// its modulators.
 pub fn put_zone<W: Write>(zone: &Zone, output: &mut Output<'_, W>)
     ensures { Puts W.contents output.old output.new (flat_map spaced (pieces_of (zone_operands (written_zone zone.now)))) }
 {
@@ -62,8 +62,7 @@ pub fn put_zone<W: Write>(zone: &Zone, output: &mut Output<'_, W>)
     put_items(zone.gens.entries(), zone.mods.as_slice(), output);
 }
 
-/// Puts `ITEM* }`, each token behind a space: operators with their amounts, modulators, and the brace
-/// that closes them.
+/// Writes `ITEM* }`, each token after a space: generators, modulators, and the closing brace.
 pub fn put_items<W: Write>(entries: &[(u16, u16)], mods: &[Modulator], output: &mut Output<'_, W>)
     ensures { Puts W.contents output.old output.new (flat_map spaced (pieces_of (items_operands (listed_items entries.now mods.now)))) }
 {
@@ -88,7 +87,7 @@ fn put_generator_item<W: Write>(operator: u16, amount: u16, output: &mut Output<
     put_generator(operator, amount, output);
 }
 
-/// Puts `OPERATOR AMOUNT`, each token behind a space.
+/// Writes `OPERATOR AMOUNT`, each token after a space.
 pub fn put_generator<W: Write>(operator: u16, amount: u16, output: &mut Output<'_, W>)
     ensures { Puts W.contents output.old output.new (flat_map spaced (pieces_of (generator_operands operator amount))) }
 {
@@ -96,7 +95,7 @@ pub fn put_generator<W: Write>(operator: u16, amount: u16, output: &mut Output<'
     put_pieces(&[Piece::Number(u64::from(operator)), amount], output);
 }
 
-// `LO..HI` for the ranges of keys and of velocities, and else a signed number.
+// `LO..HI` for key and velocity ranges, else a signed number.
 fn amount_piece(operator: u16, amount: u16) -> Piece<'static>
     ensures { result ≡ piece_of (amount_operand operator amount) }
 {
@@ -124,7 +123,7 @@ fn put_modulator_item<W: Write>(modulator: &Modulator, output: &mut Output<'_, W
     put_modulator(modulator, output);
 }
 
-/// Puts a modulator, `SOURCE DEST AMOUNT ASOURCE TRANSFORM`, each token behind a space.
+/// Writes a modulator, `SOURCE DEST AMOUNT ASOURCE TRANSFORM`, each token after a space.
 pub fn put_modulator<W: Write>(modulator: &Modulator, output: &mut Output<'_, W>)
     ensures { Puts W.contents output.old output.new (flat_map spaced (pieces_of (modulator_operands modulator.now))) }
 {

@@ -1,4 +1,4 @@
-//! The parts of a line that say zones.
+//! Reads zones.
 ghost use Rattle.std.specs.Prelude.{◌≡◌, ◌++◌, ◌∷◌, []};
 ghost use Rattle.script_grammar.specs.Zones.{zone_behind, zone, zones_left, global_zones, global_behind, first_behind, zones_behind, is_end, zones};
 ghost use Rattle.script_grammar.specs.Memory.{ReadsOrWants};
@@ -13,9 +13,9 @@ use std::alloc::Global;
 
 // ---- read
 
-/// `GLOBAL? ZONE*`, to the line's end or a closing brace: the global zone, which is empty where none is said, and the
-/// zones. `global` behind a later brace is a fault of number, and another token than a brace where a
-/// zone could begin one of syntax.
+/// Reads `GLOBAL? ZONE*`, up to the line's end or a closing brace: the global zone, which is empty where
+/// there is none on the line, and the zones. `global` after a later brace is a fault of number; a token other
+/// than a brace where a zone could begin is a fault of syntax.
 pub fn zones(
     alloc: Global,
     line: &mut Cursor<'_, '_>,
@@ -29,7 +29,7 @@ pub fn zones(
     zones_behind(alloc, line)
 }
 
-// What follows the first brace.
+// Reads the zones after their first brace.
 fn zones_behind(
     alloc: Global,
     line: &mut Cursor<'_, '_>,
@@ -54,7 +54,7 @@ fn global_behind(
     global_zones(alloc, line)
 }
 
-// The items of the global zone, and the zones.
+// Reads the items of the global zone, and the zones.
 fn global_zones(
     alloc: Global,
     line: &mut Cursor<'_, '_>,
@@ -66,7 +66,7 @@ fn global_zones(
     Ok((global, zones))
 }
 
-// The first zone behind its brace, and the others.
+// Reads the first zone after its brace, and the other zones.
 fn first_behind(
     alloc: Global,
     line: &mut Cursor<'_, '_>,
@@ -82,7 +82,7 @@ fn first_behind(
     Ok((no_content(alloc), zones))
 }
 
-// The zones that are left, behind those that there are.
+// Reads the remaining zones and appends them.
 fn zones_left(
     alloc: Global,
     mut zones: NumberedList<Zone>,
@@ -99,7 +99,7 @@ fn zones_left(
     Ok(zones)
 }
 
-/// One zone: `{ TARGET ITEM* }`. `global` in place of the target is a fault of number.
+/// Reads a zone: `{ TARGET ITEM* }`. `global` in place of the target is a fault of number.
 pub fn zone(alloc: Global, line: &mut Cursor<'_, '_>) -> Result<Zone, Failure<LineFault>>
     ensures { ReadsOrWants (λ z. z) zone line.old line.new result }
 {
@@ -116,7 +116,7 @@ fn zone_behind(alloc: Global, line: &mut Cursor<'_, '_>) -> Result<Zone, Failure
     Ok(content.into_zone(target))
 }
 
-// Whether no zone follows: no token is left, or the next closes what the zones stand in.
+// Whether the zones end here: no token remains, or the next token closes the braces around them.
 fn is_end(line: &Cursor<'_, '_>) -> bool
     ensures { result ≡ is_end line.now.said }
 {

@@ -2,7 +2,7 @@ use Rattle.std.proofs.Common.{◌≡◌, length}
 use Rattle.script_grammar.specs.Items.{items, items_on}
 use Rattle.script_grammar.proofs.items.items.Given as goal
 
--- what is left, put into what there is, makes the whole
+-- the content so far and the remaining tokens give the whole content
 abbrev pub invariant-loop-line : goal.invariant-loop-line
 invariant-loop-line l = (items_on l.content l.line.said ≡ items l.fn.line.said) × (l.line.pool ≡ l.fn.line.pool)
 

@@ -4,7 +4,7 @@ use Rattle.outputs.proofs.OutputLaws.{Putting}
 use Rattle.script_grammar.proofs.ZonePutLaws.{zone_text}
 use Rattle.script_grammar.proofs.zone_lines.put_all_zones.Given as goal
 
--- the zones that are left are still to be put
+-- the remaining zones are still to be written
 abbrev pub invariant-loop-zone : goal.invariant-loop-zone
 invariant-loop-zone g l =
     Putting g.W.Write.contents l.initial.output l.output (flat_map zone_text l.zones)

@@ -4,7 +4,7 @@ use Rattle.outputs.proofs.OutputLaws.{Putting}
 use Rattle.script_grammar.proofs.ZonePutLaws.{generator_text}
 use Rattle.script_grammar.proofs.zone_lines.put_generators.Given as goal
 
--- the generators that are left are still to be put
+-- the remaining generators are still to be written
 abbrev pub invariant-loop-entry : goal.invariant-loop-entry
 invariant-loop-entry g l =
     Putting g.W.Write.contents l.initial.output l.output (flat_map generator_text l.entries)

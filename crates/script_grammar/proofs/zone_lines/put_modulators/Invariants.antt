@@ -4,7 +4,7 @@ use Rattle.outputs.proofs.OutputLaws.{Putting}
 use Rattle.script_grammar.proofs.ZonePutLaws.{modulator_text}
 use Rattle.script_grammar.proofs.zone_lines.put_modulators.Given as goal
 
--- the modulators that are left are still to be put
+-- the remaining modulators are still to be written
 abbrev pub invariant-loop-modulator : goal.invariant-loop-modulator
 invariant-loop-modulator g l =
     Putting g.W.Write.contents l.initial.output l.output (flat_map modulator_text l.mods)
