@@ -1,4 +1,4 @@
--- What a script says fits.
+-- The edits of a script fit.
 use Rattle.std.proofs.Common.{◌≡◌, ℕ, suc, List, [], ◌∷◌, codes, Result, Ok, Err, sym, subst, inl, inr}
 use Rattle.std.specs.Result.{IfOk}
 use Rattle.std.specs.List.{AllByRecursion}
@@ -51,7 +51,7 @@ spelled_fit text edits h = lines_fit 1 (lines_of text) edits h
 pub script_fits : (text : List ℕ) (lines : List Line) → script_of text ≡ Ok lines → LinesFit lines
 script_fits text lines e = spelled_fit text lines (read_spelled text lines e)
 
--- so does what a call answers
+-- the edits that `parse` returns fit
 pub answers_fit : {X : Type 0} (text : List ℕ) (view : X → List Line) (r : Result X (Failure ScriptFault))
     → Answers view r (script_of text) → IfOk r (λ x. LinesFit (view x))
 answers_fit text view (Ok x) h = script_fits text (view x) h

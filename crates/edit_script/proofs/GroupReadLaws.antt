@@ -1,4 +1,4 @@
--- What is read as a step or as a group of steps, the line says.
+-- Soundness of reading: a step or a group that is read has its operands on the line.
 use Rattle.std.proofs.Common.{◌≡◌, Bool, true, false, List, [], ◌∷◌, ◌++◌, codes, Ok, refl, sym, ap, subst}
 use Rattle.std.proofs.Common.{append_assoc, ◌∙◌}
 use Rattle.std.proofs.lemmas.List.{append-nil}
@@ -33,7 +33,7 @@ braced_said =
     ∷ []) (fixed_front (codes "}")) (λ c.
     none s (λ x more. IsBraced x (Fixed (codes "{") ∷ (w ++ (Fixed (codes "}") ∷ more)))) (w, refl, h))))
 
--- ---- the steps that are left
+-- ---- the remaining steps
 
 record SaidSteps (ss : List Step) (line : List Said) (t : Took (List Step)) : Type 0 where
   pub steps : List Step

@@ -1,4 +1,4 @@
--- What a line says as a step or as a group of steps is read as such.
+-- Completeness of reading: the operands of a step or a group on a line are read as such.
 use Rattle.std.proofs.Common.{◌≡◌, true, false, List, [], ◌∷◌, ◌++◌, codes, Ok, refl, sym, ap, subst, append_assoc, ◌∙◌}
 use Rattle.std.proofs.lemmas.List.{append-nil}
 use Rattle.edit_forms.specs.declared.step.Step.{Step}

@@ -1,4 +1,4 @@
--- The printed lines of edits spell those edits.
+-- The printed lines of edits encode those edits.
 use Rattle.std.proofs.Common.{◌≡◌, ◌++◌, ℕ, suc, true, List, [], ◌∷◌, map, codes, Ok, refl, sym, ap, subst, inl, inr}
 use Rattle.std.proofs.Common.{◌∙◌}
 use Rattle.std.specs.List.{flat_map, list_all, AllByRecursion}
@@ -26,7 +26,7 @@ use Rattle.edit_script.specs.Printing.{text_of, texts_of, numbered, AllFit}
 use Rattle.edit_script.specs.Spelling.{LinesSay, Spells}
 use Rattle.edit_script.proofs.SpellLaws.{spelled_read}
 
--- ---- the word of a line, and the operands behind it
+-- ---- the word of a line, and its operands
 
 abbrev word : Edit → List ℕ
 word (One s) = word_of s
@@ -45,7 +45,7 @@ word_fixed : (e : Edit) → IsFixed (word e)
 word_fixed (One s) = form_fixed s
 word_fixed (Group ss) = (refl, refl)
 
--- ---- what fits can be said
+-- ---- an edit that fits can be encoded
 
 braced_fit : (s : Step) → FitsStep s → operand.AllFit (braced s)
 braced_fit s h = (
@@ -61,7 +61,7 @@ behind_fit : (e : Edit) → FitsEdit e → operand.AllFit (behind e)
 behind_fit (One s) h = operands_fit s h
 behind_fit (Group ss) h = all_braced_fit ss h
 
--- ---- what is printed says the edit
+-- ---- the printed line encodes the edit
 
 whole_printed : (s : Step) → SaysWhole s (step_operands s)
 whole_printed s = record { operands = operands s; parts = refl; says = step_printed s }
@@ -114,9 +114,9 @@ printed es h = texts_say 1 es h
 pub printed_spell : (es : List Edit) → AllFit es → script_of (texts_of es) ≡ Ok (numbered 1 es)
 printed_spell es h = spelled_read (texts_of es) (numbered 1 es) (printed es h)
 
--- ---- behind a comment, and without their numbers
+-- ---- after a comment, and without line numbers
 
--- behind a line that is a comment they stand on line 2 and on
+-- after a comment line the edits are on line 2 and the next lines
 pub printed_behind : (comment : List ℕ) (ps : List Piece) (es : List Edit) → list_all not_feed (35 ∷ comment) ≡ true
     → AllSpoken ps → AllFit es
     → script_of (line_text (35 ∷ comment) ps ++ texts_of es) ≡ Ok (numbered 2 es)

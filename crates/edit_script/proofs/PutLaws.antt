@@ -1,4 +1,4 @@
--- What is put step by step stands on the line of a group.
+-- A group that is written step by step has all its operands on the line.
 use Rattle.std.proofs.Common.{◌≡◌, ℕ, List, [], ◌∷◌, codes, Option, refl, sym, ap, ◌∙◌, ◌++◌}
 use Rattle.std.specs.List.{flat_map}
 use Rattle.outputs.specs.declared.output.Output.{Output}

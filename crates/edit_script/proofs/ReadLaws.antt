@@ -1,4 +1,4 @@
--- What is read from a text, the text spells.
+-- Soundness of reading: a text encodes the edits that are read from it.
 use Rattle.std.proofs.Common.{◌≡◌, ℕ, suc, List, [], ◌∷◌, ◌++◌, map, Result, Ok, Err, refl, sym, ap, subst, ◌∙◌}
 use Rattle.std.proofs.Common.{append_assoc, inl, inr, ◌⊎◌}
 use Rattle.std.specs.List.{AllByRecursion}
@@ -39,7 +39,7 @@ edit_says line t h e =
 
 -- ---- the lines
 
--- what a line makes of the edits before it
+-- what a line adds to the edits before it
 pub record Adds (n : ℕ) (said : List Said) (before after : List Line) : Type 0 where
   pub edit : Edit
   pub parts : after ≡ before ++ record { number = n; edit = edit } ∷ []
@@ -63,7 +63,7 @@ line_makes n [] before after h e = let k : before ≡ after = cc in inl (refl, s
 line_makes n (s ∷ said) before after h e =
     with_edit_makes n (s ∷ said) (edit (s ∷ said)) before after (λ t k. edit_says (s ∷ said) t h k) e
 
--- what lines make of the edits before them
+-- what lines add to the edits before them
 record LinesMake (n : ℕ) (ls : List (List ℕ)) (before after : List Line) : Type 0 where
   pub more : List Line
   pub parts : after ≡ before ++ more

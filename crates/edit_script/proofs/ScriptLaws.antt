@@ -26,7 +26,7 @@ unfolding edit_of
 one_more n [] lines some = absurd (some refl)
 one_more n (s ∷ said) lines some = refl
 
--- the fault of a part that was not read
+-- the fault of a line that is not read
 pub not_read : {X Y : Type 0} (part : Part Y) (view : X → Y) (old new : Left) (failure : Failure LineFault)
     (fault : LineFault)
     → failure ≡ Fault fault → ReadsOrWants view part old new (Err failure) → part old.said ≡ Err fault

@@ -1,4 +1,4 @@
--- What a text spells is read from it.
+-- Completeness of reading: the edits that a text encodes are read from it.
 use Rattle.std.proofs.Common.{◌≡◌, ℕ, suc, List, [], ◌∷◌, ◌++◌, map, Ok, refl, sym, ap, subst, append_assoc, ◌∙◌}
 use Rattle.std.proofs.Common.{inl, inr}
 use Rattle.std.specs.Result.{result_and}
@@ -33,7 +33,7 @@ edit_read said e h =
     let g = gives_edit e h.operands h.says said h.tokens in
     ap (λ r. and_then r (λ e. ended e)) g.is ∙ ap (ended e) (nothing_left g.rest g.says)
 
--- every edit takes a token
+-- every edit consumes a token
 none_says : (e : Edit) (os : List Operand) → SaysAll e os → AllSay [] os → ⊥
 none_says (One s) os h k = subst (AllSay []) h.parts k
 none_says (Group ss) os h k = subst (AllSay []) h.parts k
@@ -43,7 +43,7 @@ some_said e h = none_says e h.operands h.says h.tokens
 
 -- ---- lines
 
--- each line that says edits says something
+-- each line that encodes edits has a value
 all_say : (n : ℕ) (ls : List (List ℕ)) (edits : List Line) → LinesSay n ls edits → AllByRecursion Says ls
 all_say n [] edits h = tt
 all_say n (l ∷ ls) edits (inl h) = (([], h.0), all_say (suc n) ls edits h.1)

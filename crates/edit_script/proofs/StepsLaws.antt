@@ -1,4 +1,4 @@
--- How a list of steps goes on, and what follows the first token of a line.
+-- A list of steps, one step at a time, and what follows the first token of a line.
 use Rattle.std.proofs.Common.{◌≡◌, true, false, List, [], ◌∷◌, codes, Ok, Err, refl}
 use Rattle.edit_forms.specs.declared.step.Step.{Step}
 use Rattle.line_tokens.specs.declared.cursor.Said.{Said}
@@ -34,7 +34,7 @@ pub steps_fail : (ss : List Step) (line : List Said) (d : LineFault) → is_over
 unfolding steps_left
 steps_fail ss line d e i = repeated_fails is_over pure braced_step with_step ss line d e i
 
--- no token is left, or some
+-- whether a token remains
 pub over_is : (line : List Said) → line ≡ [] → is_over line ≡ true
 over_is [] e = refl
 over_is (s ∷ line) e = cc

@@ -1,5 +1,4 @@
--- The grammar of an edit: what stands on its line, and how it is read, from left to right, up to the first
--- fault.
+-- The grammar of an edit: its operands on a line, and its parser, from left to right, up to the first fault.
 use Rattle.std.specs.Prelude.{◌≡◌, List, [], ◌∷◌, ◌++◌, codes, Bool, true, false, if◌then◌else◌}
 use Rattle.edit_forms.specs.declared.step.Step.{Step}
 use Rattle.edit_forms.specs.declared.edit.Edit.{Edit}
@@ -12,17 +11,17 @@ use Rattle.script_grammar.specs.Repeated.{repeated}
 use Rattle.step_script.specs.Grammar.{step_operands, step}
 use Rattle.step_script.specs.Spelling.{SaysWhole}
 
--- ---- what stands on the line
+-- ---- the operands on a line
 
 -- `{ STEP }`
 abbrev pub in_braces : List Operand → List Operand
 in_braces os = Fixed (codes "{") ∷ os ++ Fixed (codes "}") ∷ []
 
--- as it is printed
+-- a step in braces, as it is printed
 abbrev pub braced : Step → List Operand
 braced s = in_braces (step_operands s)
 
--- the first of the steps stands in braces, and the rest are said by what follows
+-- the first step in braces, and operands after it that encode the other steps
 pub record SaysBraced (s : Step) (os : List Operand) (Follow : List Operand → Type 0) : Type 0 where
   pub operands : List Operand
   pub more : List Operand
@@ -30,23 +29,23 @@ pub record SaysBraced (s : Step) (os : List Operand) (Follow : List Operand → 
   pub says : SaysWhole s operands
   pub follow : Follow more
 
--- steps, each in its braces
+-- steps, each in braces
 abbrev pub SaysSteps : List Step → List Operand → Type 0
 SaysSteps [] os = os ≡ []
 SaysSteps (s ∷ ss) os = SaysBraced s os (λ more. SaysSteps ss more)
 
--- `group`, and the steps
+-- `group`, and its steps
 pub record SaysGroup (steps : List Step) (os : List Operand) : Type 0 where
   pub braces : List Operand
   pub parts : os ≡ Fixed (codes "group") ∷ braces
   pub says : SaysSteps steps braces
 
--- what can stand on the line of an edit
+-- the operands that encode an edit
 abbrev pub SaysAll : Edit → List Operand → Type 0
 SaysAll (One s) os = SaysWhole s os
 SaysAll (Group ss) os = SaysGroup ss os
 
--- ---- how it is read
+-- ---- parsers
 
 -- `{ STEP }`
 unfoldable pub braced_step : Part Step
@@ -56,7 +55,7 @@ braced_step = do
   c ← fixed (codes "}")
   pure s
 
--- whether no token is left
+-- whether no token remains
 abbrev pub is_over : List Said → Bool
 is_over [] = true
 is_over (s ∷ line) = false
@@ -64,11 +63,11 @@ is_over (s ∷ line) = false
 abbrev pub with_step : List Step → Step → List Step
 with_step ss s = ss ++ s ∷ []
 
--- steps in braces, each behind those that there are, up to the line's end
+-- steps in braces up to the line's end, each appended
 unfoldable pub steps_left : List Step → Part (List Step)
 steps_left ss line = repeated is_over pure braced_step with_step ss line
 
--- `group`, and the steps
+-- `group`, and its steps
 unfoldable pub group : Part Edit
 group = do
   w ← fixed (codes "group")

@@ -1,4 +1,4 @@
--- The line that an edit is printed as.
+-- The line that is printed for an edit.
 use Rattle.std.specs.Prelude.{ℕ, suc, List, [], ◌∷◌, codes}
 use Rattle.std.specs.List.{flat_map, AllByRecursion}
 use Rattle.edit_forms.specs.declared.edit.Edit.{Edit}
@@ -17,16 +17,16 @@ text_of (Group steps) = line_text (codes "group") (pieces_of (flat_map braced st
 
 -- ---- several lines
 
--- the lines of edits, one after the other
+-- the lines of edits, one after another
 abbrev pub texts_of : List Edit → List ℕ
 texts_of es = flat_map text_of es
 
--- edits on lines in a row, of which the first has the number n
+-- edits on consecutive lines, of which the first has the number n
 abbrev pub numbered : ℕ → List Edit → List Line
 numbered n [] = []
 numbered n (e ∷ es) = record { number = n; edit = e } ∷ numbered (suc n) es
 
--- ---- edits that a script can say
+-- ---- edits that a script can encode
 
 abbrev pub AllFit : List Edit → Type 0
 AllFit es = AllByRecursion FitsEdit es

@@ -1,4 +1,4 @@
--- What a script says, or its first fault.
+-- The edits of a script, or its first fault.
 use Rattle.std.specs.Prelude.{ℕ, List, [], ◌∷◌, ◌++◌, Result, Ok, Err}
 use Rattle.std.specs.Result.{result_and}
 use Rattle.edit_forms.specs.declared.edit.Edit.{Edit}
@@ -14,7 +14,7 @@ abbrev pub with_edit : ℕ → List Line → Result (Took Edit) LineFault → Gr
 with_edit n lines (Ok t) = Ok (lines ++ record { number = n; edit = t.value } ∷ [])
 with_edit n lines (Err e) = Err (on_line n e)
 
--- a line without tokens says nothing, and every other one is an edit
+-- a line without tokens has no edit, and every other line has one
 unfoldable pub edit_of : ℕ → List Said → List Line → Grown Line
 edit_of n [] lines = Ok lines
 edit_of n (s ∷ line) lines = with_edit n lines (edit (s ∷ line))
@@ -22,7 +22,7 @@ edit_of n (s ∷ line) lines = with_edit n lines (edit (s ∷ line))
 unfoldable pub edits_in : List (List Said) → Grown Line
 edits_in lines = gather edit_of 1 lines []
 
--- The edits of a text with their lines, or its fault: the first badly spelled literal of the whole
--- text, and else the first fault from left to right.
+-- The edits of a text with their line numbers, or its fault: the first malformed literal in the whole text,
+-- else the first fault from left to right.
 unfoldable pub script_of : List ℕ → Grown Line
 script_of text = result_and (pool_bytes text) (edits_in (said_lines text))

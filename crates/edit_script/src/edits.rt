@@ -1,4 +1,4 @@
-//! Edits, read from their lines and printed.
+//! Reads and writes edits.
 ghost use Rattle.std.specs.Prelude.{◌≡◌, [], OnOk};
 ghost use Rattle.std.specs.List.{flat_map};
 ghost use Rattle.outputs.specs.Writing.{Writes};
@@ -23,8 +23,8 @@ use step_script::{put_operands, step, word_of};
 
 // ---- read
 
-/// The edit that what is left of a line says, to the line's end; or its first fault from left to right. Want
-/// of memory may come in place of either.
+/// Reads an edit from the remaining tokens of a line, to its end. The error is the first fault from left to
+/// right, or `OutOfMemory`.
 #[tactic(auto, unfolding(crate::specs::Grammar::edit, line_tokens::specs::Parts::ended))]
 pub fn edit<'p>(alloc: Global, line: &mut Cursor<'_, 'p>) -> Result<Edit<'p>, Failure<LineFault>>
     ensures reads { ReadsOrWants (λ e. e) edit line.old line.new result }
@@ -35,7 +35,7 @@ pub fn edit<'p>(alloc: Global, line: &mut Cursor<'_, 'p>) -> Result<Edit<'p>, Fa
     Ok(edit)
 }
 
-// A step, or a group of steps.
+// Reads a step, or a group of steps.
 fn one_or_group<'p>(
     alloc: Global,
     line: &mut Cursor<'_, 'p>,
@@ -57,7 +57,7 @@ fn one<'p>(alloc: Global, line: &mut Cursor<'_, 'p>) -> Result<Edit<'p>, Failure
     Ok(Edit::One(step))
 }
 
-// `group`, and the steps
+// `group`, and its steps
 #[tactic(auto, unfolding(crate::specs::Grammar::group))]
 fn group<'p>(alloc: Global, line: &mut Cursor<'_, 'p>) -> Result<Edit<'p>, Failure<LineFault>>
     ensures { ReadsOrWants (λ e. e) group line.old line.new result }
@@ -67,7 +67,7 @@ fn group<'p>(alloc: Global, line: &mut Cursor<'_, 'p>) -> Result<Edit<'p>, Failu
     Ok(Edit::Group(steps))
 }
 
-// The steps up to the line's end, each in its braces.
+// Reads the steps up to the line's end, each in braces.
 fn steps_left<'p>(
     alloc: Global,
     line: &mut Cursor<'_, 'p>,
@@ -97,7 +97,7 @@ fn braced_step<'p>(alloc: Global, line: &mut Cursor<'_, 'p>) -> Result<Step<'p>,
 
 // ---- printed
 
-/// Writes the line of an edit, with its line feed. It takes no memory.
+/// Writes the line of an edit, with its line feed. It allocates nothing.
 pub fn print<W: Write>(edit: &Edit<'_>, out: &mut W) -> Result<(), WriteFault>
     ensures { Writes (W.contents out.old) (W.contents out.new) (text_of edit.now) result }
 {
@@ -107,7 +107,7 @@ pub fn print<W: Write>(edit: &Edit<'_>, out: &mut W) -> Result<(), WriteFault>
     Ok(())
 }
 
-/// Puts the line of an edit, with its line feed. It takes no memory.
+/// Writes the line of an edit, with its line feed, to an [`Output`]. It allocates nothing.
 pub fn put_edit<W: Write>(edit: &Edit<'_>, output: &mut Output<'_, W>)
     ensures { Puts W.contents output.old output.new (text_of edit.now) }
 {
@@ -141,7 +141,7 @@ fn put_all_braced<W: Write>(steps: &[Step<'_>], output: &mut Output<'_, W>)
     }
 }
 
-// `{ STEP }`, each token behind a space
+// `{ STEP }`, each token after a space
 fn put_braced<W: Write>(step: &Step<'_>, output: &mut Output<'_, W>)
     ensures { Puts W.contents output.old output.new (flat_map spaced (pieces_of (braced step.now))) }
 {

@@ -1,23 +1,22 @@
 //! Laws of scripts.
 ghost use Rattle.edit_script.specs.Laws.{SpelledIsRead, OneReading, PrintedLinesSpell, SpelledEditsFit};
 
-/// A text spells exactly the edits that are read from it, on their lines.
+/// A text encodes exactly the edits that are read from it, on their lines.
 pub fn spelled_is_read()
     ensures { SpelledIsRead }
 {}
 
-/// No text spells two lists of edits.
+/// No text encodes two different lists of edits.
 pub fn one_reading()
     ensures { OneReading }
 {}
 
-/// The printed lines of edits that fit spell those edits, the first on line 1; the empty text spells
-/// none.
+/// The printed lines of edits that fit encode those edits, the first on line 1. The empty text encodes no edits.
 pub fn printed_lines_spell()
     ensures { PrintedLinesSpell }
 {}
 
-/// Every edit that a text spells fits: its numbers are within their types, and its name is a name.
+/// Every edit that a text encodes fits: its numbers are in the ranges of their types, and its names are valid.
 pub fn spelled_edits_fit()
     ensures { SpelledEditsFit }
 {}

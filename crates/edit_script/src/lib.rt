@@ -1,12 +1,12 @@
-//! The edit script: the text in which edits are said, one on each line.
+//! Edit scripts: texts with one edit on each line.
 //!
-//! [`pool_of`] takes the bytes of all literals of a text, and [`parse`] reads the text's edits over
-//! them. [`print`] writes the line of an edit, and [`put_edit`] puts it into an output.
+//! [`pool_of`] collects the bytes of all literals of a text, and [`parse`] reads the text's edits, which
+//! borrow them. [`print`] writes the line of an edit, and [`put_edit`] writes it to an output.
 //!
-//! The text of notes is read by [`parse_notes`].
+//! [`parse_notes`] reads note lists.
 //!
-//! An edit is a step, in one of the forms that [`step_script`] names, or
-//! `group { STEP } { STEP } ..`, any number of steps, also none. No step is a group.
+//! An edit is a step, in one of the forms of [`step_script`], or a group of steps, `group { STEP } { STEP }
+//! ..`. A group may be empty, and contains no groups.
 #![tactic(auto)]
 
 mod edits;

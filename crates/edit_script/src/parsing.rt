@@ -1,4 +1,4 @@
-//! The edits of a script.
+//! Reads the edits of a script.
 ghost use Rattle.std.specs.Prelude.{◌≡◌, Ok, IfOk};
 ghost use Rattle.line_tokens.specs.Tokens.{tokens_of};
 ghost use Rattle.line_tokens.specs.Lines.{lines_of};
@@ -20,7 +20,7 @@ pub struct Line<'a> {
 }
 
 impl<'a> Line<'a> {
-    /// Its edit.
+    /// The edit, without its line number.
     pub fn into_edit(self) -> Edit<'a>
         ensures { result ≡ self.entry.edit }
     {
@@ -29,15 +29,15 @@ impl<'a> Line<'a> {
     }
 }
 
-// Not derived: a derived drop is written out, and proved, wherever a value is dropped; this one is a call.
+// Not derived: a derived drop is inlined, and proved again, wherever a value is dropped; this one is a call.
 impl Drop for Line<'_> {
     fn drop(self) {
         let Line { number: _, edit: _ } = self;
     }
 }
 
-/// The edits of a text with their lines, over the bytes of its literals; or the first fault from left
-/// to right. Out of memory may come in place of either.
+/// The edits of a text with their line numbers; they borrow their literals from `pool`. The error is the
+/// first fault from left to right, or `OutOfMemory`.
 pub fn parse<'a>(
     alloc: Global,
     text: &[u8],
@@ -67,7 +67,7 @@ fn parse_lines<'a>(
     Ok(edits)
 }
 
-// Adds the edit of a line, if it has one, and gives the pool behind the line.
+// Appends the edit of a line, if the line has tokens, and returns the pool after the line.
 fn add_edit<'a>(
     alloc: Global,
     edits: &mut Vec<Line<'a>>,

@@ -1,4 +1,4 @@
--- A line of a note list reads the same without the bytes of its literals, as no literal is part of a note.
+-- A line of a note list is read in the same way without the bytes of its literals, as no literal is part of a note.
 use Rattle.std.proofs.Common.{◌≡◌, ℕ, Bool, true, false, cond, List, [], ◌∷◌, take, drop, map, Option, Some, None}
 use Rattle.std.proofs.Common.{Result, Ok, Err, refl}
 use Rattle.std.specs.List.{list_all}
@@ -14,7 +14,7 @@ use Rattle.line_tokens.specs.Parts.{most_word, most_double_word}
 use Rattle.note_list.specs.declared.limits.TheConstants.{HIGHEST_KEY, HIGHEST_VELOCITY}
 use Rattle.note_list.specs.Notes.{Numbers, note, note_of, judged}
 
--- ---- the same words in the same places, and literals in the others
+-- ---- lines with the same words and literals in the same positions
 
 abbrev AreAlike : List Said → List Said → Type 0
 AreAlike [] [] = Unit {0}
@@ -62,7 +62,7 @@ tokens_alike pool (Plain w ∷ ts) = plain_alike pool w _ _ (tokens_alike (drop 
 tokens_alike pool (Quoted i ∷ ts) = quoted_alike pool i _ _ (tokens_alike (drop (size_of (Quoted i)) pool) ts)
 tokens_alike pool (Broken ∷ ts) = broken_alike pool _ _ (tokens_alike (drop (size_of Broken) pool) ts)
 
--- ---- parts that read them alike
+-- ---- parsers that read such lines alike
 
 abbrev Agree : {X : Type 0} → Result (Took X) LineFault → Result (Took X) LineFault → Type 0
 Agree (Ok a) (Ok b) = (a.value ≡ b.value) × AreAlike a.rest b.rest

@@ -13,7 +13,7 @@ use Rattle.note_list.specs.declared.fault.NoteFault.TheVariants as faults
 use Rattle.note_list.specs.Notes.{Numbers, OrFault, note, in_time, judged, spoken, notes_after, notes_of, with_note}
 use Rattle.note_list.proofs.BareLaws.{judged_alike, nothing_alike, something_alike}
 
--- ---- the line that is judged
+-- ---- the line of a note or of its fault
 
 pub says_nothing : (n : ℕ) (said : List Said) (notes : List Numbers) → said ≡ [] → with_note n said notes ≡ Ok notes
 says_nothing n [] notes e = refl
@@ -46,7 +46,7 @@ some_room k n x e = rw e refl
 pub not_both : {b : Bool} → b ≡ true → b ≡ false → ⊥
 not_both p q = cc
 
--- ---- the notes of a text, taken line by line
+-- ---- the notes of a text, line by line
 
 -- the notes, and those of the lines from line n on
 abbrev then_notes : ℕ → List Numbers → List (List Said) → OrFault (List Numbers)
@@ -120,7 +120,7 @@ none_left : (n : ℕ) (notes : List Numbers) → then_notes n notes [] ≡ Ok no
 unfolding spoken notes_after
 none_left n notes = ap (λ (xs : List Numbers). Ok xs) (append-nil notes)
 
--- taken one by one, the lines make the same notes
+-- the lines, read one by one, give the same notes
 gathered : (n : ℕ) (notes : List Numbers) (ls : List (List Said)) → gather with_note n ls notes ≡ then_notes n notes ls
 gathered n notes [] = gather_none with_note n notes ∙ sym (none_left n notes)
 gathered n notes (l ∷ ls) =

@@ -1,4 +1,4 @@
--- What a fault of a note list is called, and where it is.
+-- The number, the name and the line of a note list's fault.
 use Rattle.std.specs.Prelude.{ℕ, List, codes}
 use Rattle.note_list.specs.declared.fault.NoteFault.{NoteFault}
 use Rattle.note_list.specs.declared.fault.NoteFault.TheVariants.{BadNote, TooManyNotes, TooLong}
@@ -15,7 +15,7 @@ name_of (BadNote line) = codes "BadNote"
 name_of (TooManyNotes line) = codes "TooManyNotes"
 name_of (TooLong line) = codes "TooLong"
 
--- the line at fault
+-- the faulty line
 abbrev pub line_of : NoteFault → ℕ
 line_of (BadNote line) = line
 line_of (TooManyNotes line) = line

@@ -12,7 +12,8 @@ use Rattle.note_list.specs.declared.fault.NoteFault.TheVariants as faults
 
 -- ---- a note
 
--- the numbers of a note: its start and its length in frames, the numbers of its preset, its key and velocity
+-- the numbers of a note: its start and length in frames, the bank number and number of its preset, its key
+-- and velocity
 pub record Numbers : Type 0 where
   pub start : ℕ
   pub length : ℕ
@@ -21,7 +22,7 @@ pub record Numbers : Type 0 where
   pub key : ℕ
   pub velocity : ℕ
 
--- they are within the limits
+-- the numbers are within the limits of a note
 pub record IsNote (n : Numbers) : Type 0 where
   pub ends : n.start + n.length ≤ LAST_FRAME
   pub key : n.key ≤ HIGHEST_KEY
@@ -39,7 +40,7 @@ OrFault X = Result X NoteFault
 
 -- ---- the note of a line
 
--- six numbers and the line's end: a note, or none where it ends too late
+-- six numbers and the line's end: a note, or none if it ends too late
 unfoldable pub note : Part (Option Numbers)
 note = do
   s ← number most_double_word
@@ -51,42 +52,42 @@ note = do
   u ← ended (tt {0})
   pure (note_of (record { start = s; length = l; bank = b; number = n; key = k; velocity = v }))
 
--- a note of line n, before which stand k notes; none is one that ends too late
+-- the note of line n, after k notes; a note that ends too late is a fault
 abbrev pub in_time : ℕ → ℕ → Option Numbers → OrFault Numbers
 in_time k n None = Err (faults.TooLong n)
 in_time k n (Some x) = if nat_le MOST_NOTES k then Err (faults.TooManyNotes n) else Ok x
 
--- the note that was read of line n, before which stand k notes, or its fault
+-- the note that is read from line n, after k notes, or the line's fault
 abbrev pub judged : ℕ → ℕ → Result (Took (Option Numbers)) LineFault → OrFault Numbers
 judged k n (Err e) = Err (faults.BadNote n)
 judged k n (Ok t) = in_time k n t.value
 
 -- ---- the notes of a text
 
--- a line that says something, and its number
+-- a line with tokens, and its number
 pub record Spoken : Type 0 where
   pub line : ℕ
   pub said : List Said
 
--- those of some lines, of which the first has the number n
+-- the lines with tokens, of which the first line has the number n
 unfoldable pub spoken : ℕ → List (List Said) → List Spoken
 spoken n [] = []
 spoken n ([] ∷ lines) = spoken (suc n) lines
 spoken n ((s ∷ said) ∷ lines) = record { line = n; said = s ∷ said } ∷ spoken (suc n) lines
 
--- the notes of such lines, before which stand k notes; or the first fault
+-- the notes of such lines, after k notes, or the first fault
 unfoldable pub notes_after : ℕ → List Spoken → OrFault (List Numbers)
 notes_after k [] = Ok []
 notes_after k (s ∷ lines) =
     and_then (judged k s.line (note s.said)) (λ x. and_then (notes_after (suc k) lines) (λ xs. Ok (x ∷ xs)))
 
--- the notes of a text, of which each line that says something is one; or the first fault
+-- the notes of a text, one for each line with tokens, or the first fault
 unfoldable pub notes_of : List ℕ → OrFault (List Numbers)
 notes_of text = notes_after 0 (spoken 1 (said_lines text))
 
--- ---- a note more
+-- ---- one more note
 
--- the notes, and that of line n, if it says something
+-- the notes, and the note of line n if the line has tokens
 abbrev pub with_note : ℕ → List Said → List Numbers → OrFault (List Numbers)
 with_note n [] notes = Ok notes
 with_note n (s ∷ said) notes = and_then (judged (length notes) n (note (s ∷ said))) (λ x. Ok (notes ++ x ∷ []))

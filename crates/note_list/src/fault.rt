@@ -1,4 +1,4 @@
-//! What is wrong with a note list.
+//! Faults of a note list.
 ghost use Rattle.std.specs.Prelude.{◌≡◌};
 ghost use Rattle.sf_base.specs.declared.memory.Failure.TheVariants.{Fault};
 ghost use Rattle.note_list.specs.Faults.{number_of, name_of, line_of};
@@ -6,16 +6,16 @@ ghost use Rattle.note_list.specs.Faults.{number_of, name_of, line_of};
 use sf_base::Failure;
 use thiserror::Error;
 
-/// The first fault of a note list, with the number of its line, counted from 1.
+/// The first fault of a note list, with its line number, counted from 1.
 #[derive(Debug, Drop, Clone, Copy, PartialEq, Eq, Error)]
 pub enum NoteFault {
-    /// 45: a line that says something is not six numbers in their ranges.
+    /// 45: a line with tokens is not six numbers in their ranges.
     #[error("line {0}: this is no note")]
     BadNote(u64),
-    /// 46: 65,535 notes stand before this one.
+    /// 46: the list has 65,535 notes before this one.
     #[error("line {0}: there are too many notes")]
     TooManyNotes(u64),
-    /// 47: the note ends behind frame 100,000,000.
+    /// 47: the note ends after frame 100,000,000.
     #[error("line {0}: the note ends too late")]
     TooLong(u64),
 }
@@ -32,7 +32,7 @@ impl NoteFault {
         }
     }
 
-    /// The fault's name, as it is printed behind its number.
+    /// The fault's name, as it is printed after its number.
     pub fn name(self) -> &'static str
         ensures { result.now ≡ name_of self }
     {
@@ -43,7 +43,7 @@ impl NoteFault {
         }
     }
 
-    /// The number of the line at fault, counted from 1.
+    /// The number of the faulty line, counted from 1.
     pub fn line(self) -> u64
         ensures { result ≡ line_of self }
     {

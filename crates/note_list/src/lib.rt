@@ -1,7 +1,7 @@
-//! Note lists: the text in which the notes to be played are said, one on each line.
+//! Note lists: texts with a note to be played on each line.
 //!
-//! A line is `START LENGTH BANK NUMBER KEY VELOCITY`, with the lines, blanks and comments of
-//! [`line_tokens`]. [`parse_notes`] reads the notes of a text.
+//! A line is `START LENGTH BANK NUMBER KEY VELOCITY`, with the lines, blanks and comments of [`line_tokens`].
+//! [`parse_notes`] reads the notes of a text.
 #![tactic(auto)]
 
 mod fault;

@@ -1,9 +1,9 @@
-//! The limits that a note and a note list have.
+//! The limits of a note and of a note list.
 
-/// The notes of a list at most.
+/// The maximum number of notes in a list.
 pub const MOST_NOTES: usize = 65_535;
 
-/// The frame behind which no note ends.
+/// The last frame at which a note may end.
 pub const LAST_FRAME: u64 = 100_000_000;
 
 /// The highest key of a note.

@@ -6,8 +6,7 @@ ghost use Rattle.note_list.specs.Notes.{note_of};
 use crate::limits::{HIGHEST_KEY, HIGHEST_VELOCITY, LAST_FRAME};
 use std::marker::Model;
 
-/// A note to be played: it starts and ends by frame 100,000,000, and its key and velocity are at most
-/// 127.
+/// A note to be played. It ends at frame 100,000,000 at the latest, and its key and velocity are at most 127.
 #[derive(Debug, Clone, Copy, PartialEq, Eq)]
 pub struct Note {
     start: u32,
@@ -31,8 +30,8 @@ impl Model for Note {
 }
 
 impl Note {
-    /// The note with these numbers. None where it would end behind frame 100,000,000, or its key or
-    /// velocity is above 127.
+    /// The note with these numbers, or `None` if it would end after frame 100,000,000, or its key or velocity
+    /// is above 127.
     #[tactic(auto, unfolding(crate::specs::Notes::note_of))]
     pub fn new(
         start: u32,
@@ -58,7 +57,7 @@ impl Note {
         })
     }
 
-    /// The frame at which it starts.
+    /// The frame at which the note starts.
     pub fn start(&self) -> u32
         ensures value { result ≡ self.now.start }
         ensures ends { self.now.start + self.now.length ≤ LAST_FRAME }
@@ -66,7 +65,7 @@ impl Note {
         self.start
     }
 
-    /// How many frames it is held.
+    /// The number of frames for which the note is held.
     pub fn length(&self) -> u32
         ensures value { result ≡ self.now.length }
         ensures ends { self.now.start + self.now.length ≤ LAST_FRAME }
@@ -74,21 +73,21 @@ impl Note {
         self.length
     }
 
-    /// The bank number of its preset.
+    /// The bank number of the note's preset.
     pub fn bank(&self) -> u16
         ensures { result ≡ self.now.bank }
     {
         self.bank
     }
 
-    /// The number of its preset.
+    /// The number of the note's preset.
     pub fn number(&self) -> u16
         ensures { result ≡ self.now.number }
     {
         self.number
     }
 
-    /// The key, up to 127. 60 is the middle C.
+    /// The key, from 0 to 127; 60 is middle C.
     pub fn key(&self) -> u8
         ensures value { result ≡ self.now.key }
         ensures within { result ≤ HIGHEST_KEY }
@@ -96,7 +95,7 @@ impl Note {
         self.key
     }
 
-    /// The velocity, up to 127.
+    /// The velocity, from 0 to 127.
     pub fn velocity(&self) -> u8
         ensures value { result ≡ self.now.velocity }
         ensures within { result ≤ HIGHEST_VELOCITY }

@@ -1,4 +1,4 @@
-//! The notes of a text.
+//! Reads the notes of a text.
 ghost use Rattle.std.specs.Prelude.{◌≡◌, ◌≤◌, nat_le, length, IfOk};
 ghost use Rattle.line_tokens.specs.Parts.{Reads};
 ghost use Rattle.line_tokens.specs.Said.{said_in};
@@ -13,9 +13,9 @@ use line_tokens::{Cursor, LineFault, Lines};
 use sf_base::Failure;
 use std::alloc::Global;
 
-/// The notes of a text, at most 65,535, in its order; or its first fault from left to right. On one
-/// line `BadNote` comes before `TooLong`, and that before `TooManyNotes`. Out of memory may come in
-/// place of either.
+/// The notes of a text in order, at most 65,535. The error is the first fault, from left to right, or
+/// `OutOfMemory`. If a line has several faults, `BadNote` precedes `TooLong`, and `TooLong` precedes
+/// `TooManyNotes`.
 pub fn parse_notes(alloc: Global, text: &[u8]) -> Result<Vec<Note>, Failure<NoteFault>>
     ensures answers { Answers (λ notes. notes.items) result (notes_of text.now) }
     ensures few { IfOk result (λ notes. length notes.items ≤ MOST_NOTES) }
@@ -29,13 +29,13 @@ pub fn parse_notes(alloc: Global, text: &[u8]) -> Result<Vec<Note>, Failure<Note
     Ok(notes)
 }
 
-// Adds the note of a line, if it has one.
+// Appends the note of a line, if the line has tokens.
 fn add_note(notes: &mut Vec<Note>, number: u64, line: &[u8]) -> Result<(), Failure<NoteFault>>
     requires { length notes.old.items ≤ MOST_NOTES }
     ensures added { Answers (λ _. notes.new.items) result (with_note number (said_in line.now) notes.old.items) }
     ensures few { IfOk result (λ _. length notes.new.items ≤ MOST_NOTES) }
 {
-    // A note has no literals, and so no line needs a pool.
+    // A note has no literals, so no line needs a pool.
     let mut cursor = Cursor::of(line, &[]);
     if cursor.is_empty() {
         return Ok(());
@@ -53,7 +53,7 @@ fn add_note(notes: &mut Vec<Note>, number: u64, line: &[u8]) -> Result<(), Failu
     }
 }
 
-// The note of a line, to its end; none where it is too long.
+// Reads the note of a line, to its end; `None` if the note ends too late.
 #[tactic(auto, unfolding(crate::specs::Notes::note))]
 fn note(cursor: &mut Cursor<'_, '_>) -> Result<Option<Note>, LineFault>
     ensures { Reads (λ n. n) note cursor.old cursor.new result }
@@ -75,7 +75,7 @@ fn note(cursor: &mut Cursor<'_, '_>) -> Result<Option<Note>, LineFault>
     ))
 }
 
-// Whether there is no room for a further note.
+// Whether the list has the maximum number of notes.
 fn is_full(notes: &Vec<Note>) -> bool
     ensures { result ≡ nat_le MOST_NOTES (length notes.now.items) }
 {

@@ -1,4 +1,4 @@
--- A form that is found among several lists of forms is the first of them that has the word.
+-- A form in one of several lists of forms is the first that has the word.
 use Rattle.std.proofs.Common.{◌≡◌, ◌++◌, ℕ, Bool, true, false, cond, List, [], ◌∷◌, Option, Some, None, Result}
 use Rattle.std.proofs.Common.{refl, sym, is_some, ◌∙◌}
 use Rattle.std.specs.Str.{bytes_eq}
@@ -8,7 +8,7 @@ use Rattle.line_tokens.specs.declared.fault.LineFault.{LineFault}
 use Rattle.line_tokens.specs.Said as saying
 use Rattle.step_script.specs.Forms.{Form, form_word, form_in, ReadsForm}
 
--- what the first of two lists has, is what both have; what it has not, the second has
+-- a form in the first of two lists is found in both; else the second is searched
 found_in_first : (xs ys : List Form) (w : List ℕ) (f : Form) → form_in xs w ≡ Some f → form_in (xs ++ ys) w ≡ Some f
 found_in_first [] ys w f e = cc
 found_in_first (x ∷ xs) ys w f e = from (bytes_eq w (form_word x)) (found_in_first xs ys w f) e
@@ -37,7 +37,7 @@ in_first xs ys w e = from (form_in xs w) refl e
     from (Some f) k e = found_in_first xs ys w f k ∙ sym k
 
 module _ (form : Option Form) (old new : saying.Left) where
-  -- what is answered is of a form that is found, unless nothing is
+  -- a result is the result of a form that is found
   pub found : (read : Result Step (Failure LineFault)) → ReadsForm form old new (Some read) → is_some form ≡ true
   unfolding ReadsForm
   found read h = h.0
@@ -50,5 +50,5 @@ module _ (form : Option Form) (old new : saying.Left) where
   unfolding ReadsForm
   passed_line h = h.1
 
--- what a form that is sought in one list, and then in another, is in both
+-- the result of searching one list and then another is that of searching both
 pub ruleset sought = (in_first, in_second, found, passed_form, passed_line)

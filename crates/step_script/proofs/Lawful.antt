@@ -1,4 +1,4 @@
--- The laws of a part of a line, said once: of each basic part, and of two parts, one behind the other.
+-- The laws of a part of a line: for each basic part, and for two parts one after the other.
 use Rattle.std.proofs.Common.{◌≡◌, ◌≤◌, ◌<◌, ◌^◌, ◌∙◌, append_assoc, sym, subst, refl, arith, lit<, ℕ, List, [], ◌∷◌}
 use Rattle.std.proofs.Common.{◌++◌, Some, Result, Ok, Err, FitsSigned}
 use Rattle.std.specs.Int.{w8}
@@ -38,21 +38,21 @@ use Rattle.script_grammar.proofs.ZoneFitLaws.{generator_fits, modulator_fits, ge
 use Rattle.script_grammar.proofs.OperandLaws.{IsFixed, AllFit, both_fit}
 use Rattle.step_script.specs.Members.{place}
 
--- what a part that is written in one way has to keep to, if these operands say its values
+-- the laws of a part with one text form, if these operands encode its values
 pub record IsLawful {X : Type 0} (part : Part X) (operands : X → List Operand) (Fits : X → Type 0) : Type 0 where
-  -- what says a value is read as that value
+  -- operands of a value are read as that value
   pub gives : (x : X) (line : List Said) (more : List Operand) → AllSay line (operands x ++ more)
       → Gives part x line more
-  -- what is read says the value
+  -- a value that is read has its operands on the line
   pub fronts : (line : List Said) (t : Took X) → AllHoldBytes line → part line ≡ Ok t
       → Fronts line t.rest (operands t.value)
-  -- no more is left than there was
+  -- no more tokens remain than there were
   pub keeps : Keeps part
-  -- what is said fits, and what fits can be said
+  -- a value on a line fits, and a value that fits can be encoded
   pub fits : (x : X) → AllRanged (operands x) → Fits x
   pub fit : (x : X) → Fits x → AllFit (operands x)
 
--- ---- one part behind another
+-- ---- one part after another
 
 abbrev pub pair_part : {X Y : Type 0} → Part X → Part Y → Part (X × Y)
 pair_part p q = p >>= λ x. q >>= λ y. pure (x, y)
@@ -78,7 +78,7 @@ module _ {X Y : Type 0} {p : Part X} {q : Part Y} {o : X → List Operand} {r : 
     fit = λ a h. both_fit (o a.0) (r a.1) (l.fit a.0 h.0) (m.fit a.1 h.1);
   }
 
--- the same parts, in another order of reading
+-- the same parts, grouped differently
 pub regrouped : {X Y Z : Type 0} (s : Result (Took X) LineFault) (f : X → Part Y) (g : Y → Part Z)
     → and_then (and_then s f) g ≡ and_then s (λ x. f x >>= g)
 regrouped (Err e) f g = refl
@@ -89,7 +89,7 @@ pub same_behind : {X Z : Type 0} {f g : X → Part Z} (s : Result (Took X) LineF
 same_behind (Err e) h = refl
 same_behind (Ok t) h = h t.value t.rest
 
--- what is made of one part's value and then of another's is made of the pair's
+-- a function of two values is a function of their pair
 module _ {X Y Z : Type 0} (p : Part X) (q : Part Y) (make : X → Y → Z) where
   pub of_two : (line : List Said)
       → (p >>= λ x. q >>= λ y. pure (make x y)) line ≡ (pair_part p q >>= λ a. pure (make a.0 a.1)) line
@@ -98,14 +98,14 @@ module _ {X Y Z : Type 0} (p : Part X) (q : Part Y) (make : X → Y → Z) where
       (regrouped (p line) (λ x. q >>= λ y. pure (x, y)) (λ a. pure (make a.0 a.1))
       ∙ same_behind (p line) (λ x line. regrouped (q line) (λ y. pure (x, y)) (λ a. pure (make a.0 a.1))))
 
--- the same, where the other is a pair itself, with laws of its own
+-- the same, where the second value is a pair itself, with laws of its own
 module _ {X Y Z : Type 0} (p : Part X) {q : Part Y} {r : Y → List Operand} {G : Y → Type 0} where
   pub of_more : IsLawful q r G → (make : X → Y → Z) → {f : X → Part Z}
       → ((x : X) (line : List Said) → f x line ≡ (q >>= λ y. pure (make x y)) line) → (line : List Said)
       → (p >>= f) line ≡ (pair_part p q >>= λ a. pure (make a.0 a.1)) line
   of_more m make h line = same_behind (p line) h ∙ of_two p q make line
 
--- a value that is made of another, where each is made so
+-- the image of a value under a function with a right inverse
 module _ {X Y : Type 0} {p : Part X} {o : X → List Operand} {F : X → Type 0} (l : IsLawful p o F) {q : Part Y}
     {r : Y → List Operand} {G : Y → Type 0} (make : X → Y) (back : Y → X) where
   pub made_lawful : ((line : List Said) → q line ≡ (p >>= λ x. pure (make x)) line) → ((y : Y) → make (back y) ≡ y)
@@ -154,7 +154,7 @@ number_lawful limit F within fit =
       fit = λ n h. (fit n h, tt);
     }
 
--- a number of a list, or as large
+-- an index of a list
 pub index : IsLawful (number most_double_word) (λ n. place n ∷ []) (λ n. n < 2 ^ 32)
 index = number_lawful most_double_word _ (λ n h. omega (arith, h)) word32
 

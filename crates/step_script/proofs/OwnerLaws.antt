@@ -1,4 +1,4 @@
--- The laws of an owner, of a place in it, and of what several forms say alike.
+-- The laws of an owner, of a place in it, and of operands that several forms share.
 use Rattle.std.proofs.Common.{◌≡◌, ◌≤◌, ◌<◌, ◌^◌, ℕ, length, Bool, true, false, cond, List, [], ◌∷◌, codes, Ok, Some}
 use Rattle.std.proofs.Common.{refl, subst}
 use Rattle.sf_base.specs.Names.{IsName}
@@ -31,7 +31,7 @@ use Rattle.step_script.specs.Presets.{head_operands, head_of, head, placed_head}
 use Rattle.step_script.proofs.Lawful.{IsLawful, ◌&◌, of_two, of_more, made_lawful, index, number16, named_lawful}
 use Rattle.step_script.proofs.Lawful.{a_name}
 
--- ---- a number, and what follows it
+-- ---- an index, and what follows it
 
 pub names : IsLawful naming (λ n. named_operands n.0 n.1) (λ n. (n.0 < 2 ^ 32) × IsName n.1)
 unfolding naming
@@ -167,7 +167,7 @@ places =
     fit there.Global h = ((refl, refl), tt)
     fit (there.Zone k) h = (word32 k h, tt)
 
--- ---- whose zones are edited, and where
+-- ---- an owner and a place in it
 
 pub owner_zones : IsLawful owner_zone (λ z. of_zone z.0 z.1) (λ z. FitsNumberOf z.0 × (z.1 < 2 ^ 32))
 unfolding owner_zone

@@ -1,4 +1,4 @@
--- What is put piece by piece is a line.
+-- A line that is written piece by piece has all its operands.
 use Rattle.std.proofs.Common.{ℕ, List, [], ◌∷◌, Option}
 use Rattle.outputs.specs.declared.output.Output.{Output}
 use Rattle.outputs.specs.Output.{Puts}

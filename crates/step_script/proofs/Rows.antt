@@ -1,5 +1,5 @@
--- The forms of step, a row each: the parts of the line behind the form's word, with their laws, and the
--- step that is made of their values.
+-- The forms of step, a row each: the parser of the form's operands, with its laws, and the step that is made
+-- of their values.
 use Rattle.std.proofs.Common.{◌≡◌, ◌∙◌, ℕ, Bool, true, false, cond, List, [], ◌∷◌, ◌++◌, Option, Some, None, refl, ap}
 use Rattle.std.specs.Str.{bytes_eq}
 use Rattle.edit_forms.specs.declared.step.Step.{Step}
@@ -36,12 +36,12 @@ use Rattle.step_script.proofs.Lawful.{a_generator, a_modulator}
 use Rattle.step_script.proofs.OwnerLaws.{names, moves, heads, owner_zones, owner_places}
 use Rattle.step_script.proofs.Spelt.{IsSpelt, in_one_way, adds_zone, added, adds_owner, owner_parts}
 
--- the step has the word, nothing else says it, it is printed so, and it fits where its values do
+-- the step has the word, only these operands encode it, they are printed, and it fits where its values do
 abbrev pub IsOf : List ℕ → Step → (List Operand → Type 0) → List Operand → Type 0 → Type 1
 IsOf w s Says printed Fits =
     (word_of s ≡ w) × (SaysStep s ≡ Says) × (operands s ≡ printed) × (Fits → FitsStep s) × (FitsStep s → Fits)
 
--- what a form says: a part of the line with its laws stands behind its word, and a step is made of what is read there
+-- a row: the form's word, a parser with its laws, and the step that is made of the values read
 pub record Row (f : Form) : Type 1 where
   pub Value : Type 0
   pub part : Part Value
@@ -53,7 +53,7 @@ pub record Row (f : Form) : Type 1 where
   pub reads : (line : List Said) → f.1 line ≡ (part >>= λ x. pure (make x)) line
   pub is : (x : Value) → IsOf f.0 (make x) (Says x) (printed x) (Fits x)
 
--- a row of a part that can be written in several ways
+-- a row of a part with several text forms
 abbrev spelt : {f : Form} {X : Type 0} {p : Part X} {S : X → List Operand → Type 0} {o : X → List Operand}
     {F : X → Type 0}
     → IsSpelt p S o F → (make : X → Step) → ((line : List Said) → f.1 line ≡ (p >>= λ x. pure (make x)) line)
@@ -71,7 +71,7 @@ spelt {p = p} {S} {o} {F} l make reads is =
       is = is;
     }
 
--- of one part that is written in one way, of two, and of three, as the form reads them
+-- rows of one part with one text form, of two, and of three, as the form reads them
 abbrev one : {f : Form} {X : Type 0} {p : Part X} {o : X → List Operand} {F : X → Type 0} → IsLawful p o F
     → (make : X → Step) → f.1 ≡ (p >>= λ x. pure (make x))
     → ((x : X) → IsOf f.0 (make x) (λ os. os ≡ o x) (o x) (F x)) → Row f
@@ -116,7 +116,7 @@ r and rs = record { rows = (r, rs.rows) }
 abbrev none : AreRows []
 none = record { rows = tt }
 
--- those of one list, and those of another
+-- the rows of two lists
 abbrev in_both : (fs gs : List Form) → RowsOf fs → RowsOf gs → RowsOf (fs ++ gs)
 in_both [] gs rs ss = ss
 in_both (f ∷ fs) gs rs ss = (rs.0, in_both fs gs rs.1 ss)
@@ -229,12 +229,12 @@ abbrev pub at : (fs : List Form) → RowsOf fs → (w : List ℕ) → RowOf (for
 at [] rs w = tt
 at (f ∷ fs) rs w = first_row (bytes_eq w (form_word f)) f (form_in fs w) rs.0 (at fs rs.1 w)
 
--- the values of a row that make a step
+-- the values from which a row makes a step
 abbrev pub ValueOf : (o : Option Form) → RowOf o → Step → Type 0
 ValueOf None r s = ⊥
 ValueOf (Some f) r s = (x : r.Value) × (r.make x ≡ s)
 
--- the values that a step is made of
+-- the values from which a step is made
 pub values : (s : Step) → ValueOf (form_in forms (word_of s)) (at forms rows.rows (word_of s)) s
 unfolding presets.forms instruments.forms samples.forms points.forms zones.forms settings.forms texts.forms
     preset_rows instrument_rows sample_rows point_rows zone_rows setting_rows text_rows

@@ -1,4 +1,4 @@
--- What is read is said by a front of the line.
+-- Soundness of reading: operands at the front of the line encode the value that is read.
 use Rattle.std.proofs.Common.{◌≡◌, List, [], ◌++◌, Ok, refl, sym, subst}
 use Rattle.line_tokens.specs.declared.cursor.Said.{Said}
 use Rattle.line_tokens.specs.Parts.{Part, Took, ◌>>=◌, pure}
@@ -6,13 +6,13 @@ use Rattle.line_tokens.proofs.ReadLaws.{AllHoldBytes, both}
 use Rattle.script_grammar.specs.Operands.{Operand}
 use Rattle.script_grammar.proofs.ReadLaws.{Fronts, then, made}
 
--- a front of the line says operands that are so related to the value
+-- the front of the line encodes operands that are related to the value in this way
 pub record SaidFront {X : Type 0} (Says : X → List Operand → Type 0) (line : List Said) (t : Took X) : Type 0 where
   pub operands : List Operand
   pub says : Says t.value operands
   pub fronts : Fronts line t.rest operands
 
--- all that a part reads is said so
+-- each value that the parser reads is encoded so
 abbrev pub IsSaid : (X : Type 0) → Part X → (X → List Operand → Type 0) → Type 0
 IsSaid X p Says = (line : List Said) (t : Took X) → AllHoldBytes line → p line ≡ Ok t → SaidFront Says line t
 
@@ -23,7 +23,7 @@ said_as T h f line t g e =
     let k = h line t g e in record { operands = k.operands; says = f t.value k.operands k.says; fronts = k.fronts }
 
 module _ {X Y : Type 0} (p : Part X) (f : X → Part Y) (T : Y → List Operand → Type 0) where
-  -- one part, and then another
+  -- one parser after another
   pub behind_said : {S : X → List Operand → Type 0} → IsSaid X p S
       → ((x : X) (os : List Operand) → S x os → IsSaid Y (f x) (λ y more. T y (os ++ more))) → IsSaid Y (p >>= f) T
   behind_said h k line t g e =
@@ -33,7 +33,7 @@ module _ {X Y : Type 0} (p : Part X) (f : X → Part Y) (T : Y → List Operand 
       record
       { operands = b.operands ++ c.operands; says = c.says; fronts = then b.operands c.operands b.fronts c.fronts }
 
-  -- where the first is written in one way
+  -- where the first has one text form
   pub behind : (o : X → List Operand)
       → ((line : List Said) (t : Took X) → AllHoldBytes line → p line ≡ Ok t → Fronts line t.rest (o t.value))
       → ((x : X) → IsSaid Y (f x) (λ y more. T y (o x ++ more))) → IsSaid Y (p >>= f) T
@@ -42,7 +42,7 @@ module _ {X Y : Type 0} (p : Part X) (f : X → Part Y) (T : Y → List Operand 
       (λ line t g e. record { operands = o t.value; says = refl; fronts = h line t g e })
       (λ x os e. subst (λ (os : List Operand). IsSaid Y (f x) (λ y more. T y (os ++ more))) (sym e) (k x))
 
--- what takes no token
+-- a parser that consumes no token
 pub none : {X : Type 0} (x : X) (T : X → List Operand → Type 0) → T x [] → IsSaid X (pure x) T
 none x T h line t g e =
     subst (SaidFront T line) (made x line t e)

@@ -1,4 +1,4 @@
--- The laws of a part of a line that can be written in several ways, as zones can, where what follows ends them.
+-- The laws of a part that has several text forms, such as zones, and that the tokens after it end.
 use Rattle.std.proofs.Common.{◌≡◌, ◌<◌, ◌^◌, ◌∙◌, ap, append_assoc, subst, refl, ℕ, List, ◌∷◌, ◌++◌}
 use Rattle.std.proofs.lemmas.List.{append-nil}
 use Rattle.std.specs.List.{AllByRecursion}
@@ -30,7 +30,7 @@ use Rattle.step_script.proofs.SaidLaws.{IsSaid, behind, behind_said, none, said_
 use Rattle.step_script.proofs.Lawful.{IsLawful, pair_part, of_two, regrouped, same_behind}
 use Rattle.step_script.proofs.OwnerLaws.{owner_zones}
 
--- what such a part has to keep to, if these operands say its values, and it is printed by those
+-- the laws of such a part: these operands encode its values, and those are printed
 pub record IsSpelt {X : Type 0} (part : Part X) (Says : X → List Operand → Type 0) (printed : X → List Operand)
     (Fits : X → Type 0) : Type 0 where
   pub gives : (x : X) (os more : List Operand) → EndsZones more → Says x os → (line : List Said)
@@ -41,7 +41,7 @@ pub record IsSpelt {X : Type 0} (part : Part X) (Says : X → List Operand → T
   pub fit : (x : X) → Fits x → AllFit (printed x)
   pub is_said : (x : X) → Says x (printed x)
 
--- a part that is written in one way
+-- a part with one text form
 pub in_one_way : {X : Type 0} {p : Part X} {o : X → List Operand} {F : X → Type 0} → IsLawful p o F
     → IsSpelt p (λ x os. os ≡ o x) o F
 in_one_way {X} {p} {o} l = record {
@@ -53,7 +53,7 @@ in_one_way {X} {p} {o} l = record {
   is_said = λ x. refl;
 }
 
--- behind operands that are written in one way
+-- after operands with one text form
 pub record SaysBehind {Y : Type 0} (Says : Y → List Operand → Type 0) (before : List Operand) (y : Y)
     (os : List Operand) : Type 0 where
   pub behind : List Operand
@@ -82,7 +82,7 @@ module _ {X Y : Type 0} {p : Part X} {q : Part Y} {o : X → List Operand} {F : 
     is_said = λ a. record { behind = r a.1; parts = refl; says = m.is_said a.1 };
   }
 
--- the same, said in other words
+-- the same for an equivalent relation
 module _ {X : Type 0} {p : Part X} {S T : X → List Operand → Type 0} {o : X → List Operand} {F G : X → Type 0} where
   spelt_as : IsSpelt p S o F → ((x : X) (os : List Operand) → S x os → T x os)
       → ((x : X) (os : List Operand) → T x os → S x os) → ((x : X) → F x → G x) → ((x : X) → G x → F x)
@@ -116,7 +116,7 @@ a_zone = record {
   is_said = λ z. (written_zone z, refl, zone_stands z);
 }
 
--- GLOBAL? ZONE*
+-- `GLOBAL? ZONE*`
 some_zones : IsSpelt zones (λ z os. (w : Written) × (os ≡ written_operands w) × (zones_in w ≡ z))
     (λ z. written_operands (written_of z.0 z.1)) (λ z. FitsGlobal z.0 × AllByRecursion FitsZone z.1)
 some_zones = record {
@@ -137,7 +137,7 @@ some_zones = record {
   is_said = λ z. (written_of z.0 z.1, refl, zones_stand z.0 z.1);
 }
 
--- ---- what has zones, and where it goes in
+-- ---- an owner of zones, and where it is inserted
 
 pub adds_zone : IsSpelt (pair_part owner_zone zone) (λ a. SaysZone a.0.0 a.0.1 a.1)
     (λ a. printed_zone a.0.0 a.0.1 a.1) (λ a. FitsNumberOf a.0.0 × ((a.0.1 < 2 ^ 32) × FitsZone a.1))
@@ -155,7 +155,7 @@ adds_zone =
     (λ a h. (h.0.0, (h.0.1, h.1)))
     (λ a h. ((h.0, h.1.0), h.1.1))
 
--- a preset or an instrument, by its number, its head and its zones
+-- a preset or an instrument: its index, its head and its zones
 abbrev pub added : {H : Type 0} → (ℕ × H) × (GlobalZone × List Zone) → WithZones H
 added a = owner_of a.0.1 a.1
 
@@ -177,7 +177,7 @@ module _ {H : Type 0} {p : Part (ℕ × H)} {o : H → List Operand} {F : H → 
       (λ a h. (h.0.0, record { head = h.0.1; global = h.1.0; zones = h.1.1 }))
       (λ a h. ((h.0, h.1.head), (h.1.global, h.1.zones)))
 
--- it is read in these two parts
+-- the same, read as these two parts
 module _ {H : Type 0} (p : Part (ℕ × H)) where
   pub owner_parts : {Y : Type 0} (make : ℕ → WithZones H → Y) (line : List Said)
       → (owner p >>= λ a. pure (make a.0 a.1)) line ≡ (pair_part p zones >>= λ a. pure (make a.0.0 (added a))) line

@@ -38,7 +38,7 @@ use Rattle.step_script.proofs.Rows.{Row, RowOf, ValueOf, rows, at, values}
 
 -- ---- the form of a step
 
--- the form that has the step's word, its row, and the values there that make the step
+-- the form that has the step's word, its row, and the values from which the row makes the step
 record OfStep (s : Step) : Type 1 where
   form : Form
   found : form_in forms (word_of s) ≡ Some form
@@ -56,7 +56,7 @@ of_step s = from (form_in forms (word_of s)) (at forms rows.rows (word_of s)) re
 has_word : (s : Step) → form_word (of_step s).form ≡ word_of s
 has_word s = let o = of_step s in sym (o.row.is o.value).0 ∙ ap word_of o.makes
 
--- what passes for all passes for the one that is named
+-- a test that all pass is passed by the one that is named
 all_named : {X : Type 0} (test : X → Bool) (word_of : X → List ℕ) (xs : List X) (w : List ℕ) (x : X)
     → list_all test xs ≡ true → named word_of xs w ≡ Some x → test x ≡ true
 all_named test word_of [] w x h e = cc
@@ -69,7 +69,7 @@ all_named {X} test word_of (y ∷ ys) w x h e =
     from k on true e = let same : y ≡ x = cc in subst (λ (z : X). test z ≡ true) same k
     from k on false e = on e
 
--- each is a word that a line can hold
+-- each is a word that can be on a line
 pub form_fixed : (s : Step) → IsFixed (word_of s)
 unfolding presets.forms instruments.forms samples.forms points.forms zones.forms settings.forms texts.forms
 form_fixed s =
@@ -93,13 +93,14 @@ not_group s = from (bytes_eq (word_of s) (codes "group")) refl
         cc
     from false e = refl
 
--- ---- what stands behind it
+-- ---- the operands after the word
 
--- a step of the form, and what says it
+-- a step of the form, and operands that encode it
 abbrev StepOf : Form → Step → List Operand → Type 0
 StepOf f s os = SaysStep s os × (word_of s ≡ form_word f)
 
--- what says a step of a form is read as the step, fits where the step does, and is what is printed
+-- operands that encode a step of a form are read as the step, fit where the step does, and include those that
+-- are printed
 record IsStepLawful (f : Form) (s : Step) : Type 0 where
   gives : (os more : List Operand) → EndsZones more → SaysStep s os → (line : List Said) → AllSay line (os ++ more)
       → Gives f.1 s line more
@@ -147,7 +148,7 @@ step_lawful s =
 
 -- ---- a step
 
--- a form that was read has its row
+-- a form that is read has its row
 read_row : (line : List Said) (t : Took Form) → a_form line ≡ Ok t → Row t.value
 unfolding next_named
 read_row line t e =
@@ -155,7 +156,7 @@ read_row line t e =
     let found = or_fault_is faults.Syntax (form_in forms w.first.value) w.first.rest t w.second in
     subst RowOf found.0 (at forms rows.rows w.first.value)
 
--- what is read as a step says it
+-- a step that is read has its operands on the line
 pub step_said : IsSaid Step step SaysWhole
 unfolding step
 step_said line t g e =
@@ -176,7 +177,7 @@ step_said line t g e =
       fronts = read.then (Fixed (form_word f) ∷ []) k.operands front k.fronts;
     }
 
--- what says a step is read as it
+-- operands that encode a step are read as it
 pub gives_step : (s : Step) (os more : List Operand) → EndsZones more → SaysWhole s os → (line : List Said)
     → AllSay line (os ++ more) → Gives step s line more
 unfolding step
@@ -201,11 +202,11 @@ step_keeps line t e =
     let front : length u.first.rest ≤ length line = named_keeps form_word forms line u.first u.is in
     omega (arith, behind, front)
 
--- what says a step fits
+-- a step on a line fits
 pub step_fits : (s : Step) (os : List Operand) → SaysStep s os → AllRanged os → FitsStep s
 step_fits s os h k = (step_lawful s).fits os h k
 
--- and what fits can be said, as it is printed
+-- a step that fits can be encoded, as it is printed
 pub operands_fit : (s : Step) → FitsStep s → AllFit (operands s)
 operands_fit s h = (step_lawful s).fit h
 

@@ -1,4 +1,4 @@
--- What a form of edits is, and how one is found by its word.
+-- A form of step: its word, and the parser of its operands.
 use Rattle.std.specs.Prelude.{◌≡◌, ℕ, List, Option, Some, None, Result, Ok, Err, IsSome}
 use Rattle.sf_base.specs.declared.memory.Failure.{Failure}
 use Rattle.sf_base.specs.declared.memory.Failure.TheVariants.{Fault, OutOfMemory}
@@ -10,33 +10,33 @@ use Rattle.line_tokens.specs.Parts.{Part, ◌>>=◌, or_fault}
 use Rattle.script_grammar.specs.Memory.{ReadsOrWants}
 use Rattle.script_grammar.specs.Names.{named}
 
--- its word, and how what stands behind the word is read
+-- the word of a form, and the parser of its operands
 abbrev pub Form : Type 0
 Form = List ℕ × Part Step
 
 abbrev pub form_word : Form → List ℕ
 form_word form = form.0
 
--- the one of these that has this word
+-- the form that has this word
 abbrev pub form_in : List Form → List ℕ → Option Form
 form_in forms w = named form_word forms w
 
--- how what stands behind a word is read, if this is its form; a word of no form is a fault
+-- the parser of the operands of a form; a word of no form is a fault of syntax
 abbrev pub behind : Option Form → Part Step
 behind form = or_fault faults.Syntax form >>= λ f. f.1
 
--- an answer other than out of memory
+-- a result other than `OutOfMemory`
 abbrev pub IsNoWant : Result Step (Failure LineFault) → Type 0
 IsNoWant (Ok step) = Unit {0}
 IsNoWant (Err (Fault e)) = Unit {0}
 IsNoWant (Err OutOfMemory) = ⊥
 
--- what the code of a form does behind its word, where it takes no memory: it is never out of it
+-- the contract of a parser that allocates nothing and so never returns `OutOfMemory`
 abbrev pub ReadsInPlace : Part Step → saying.Left → saying.Left → Result Step (Failure LineFault) → Type 0
 ReadsInPlace part old new read = ReadsOrWants (λ s. s) part old new read × IsNoWant read
 
--- what the code of several forms does behind a word, if this is the one of them that has the word: where none has it,
--- nothing is taken from the line
+-- the contract of a function that reads the operands of several forms: `None` if none of them has the word,
+-- and then no token is consumed
 unfoldable pub ReadsForm : Option Form → saying.Left → saying.Left → Option (Result Step (Failure LineFault)) → Type 0
 ReadsForm form old new None = (form ≡ None) × (new ≡ old)
 ReadsForm form old new (Some read) = IsSome form × ReadsOrWants (λ s. s) (behind form) old new read

@@ -1,5 +1,4 @@
--- The grammar of a step: the forms, what stands behind their words, and how it is read, from left to right, up to the
--- first fault.
+-- The grammar of a step: the forms, their operands, and how a step is read from left to right, up to the first fault.
 use Rattle.std.specs.Prelude.{◌≡◌, ℕ, List, ◌∷◌, ◌++◌}
 use Rattle.edit_forms.specs.declared.step.Step.{Step}
 use Rattle.edit_forms.specs.declared.step.Step.TheVariants as steps
@@ -22,13 +21,13 @@ use Rattle.step_script.specs.Zones.{SaysZone}
 use Rattle.step_script.specs.Settings as settings
 use Rattle.step_script.specs.Texts as texts
 
--- ---- the forms, by what they edit
+-- ---- the forms, by the parts of a bank that they edit
 
 abbrev pub forms : List Form
 forms =
     presets.forms ++ instruments.forms ++ samples.forms ++ points.forms ++ zones.forms ++ settings.forms ++ texts.forms
 
--- the word of a step's form, and what is printed behind it
+-- the word of a step's form, and the operands that are printed after it
 abbrev pub printed : Step → List ℕ × List Operand
 printed (steps.Preset s) = presets.printed s
 printed (steps.Instrument s) = instruments.printed s
@@ -38,28 +37,28 @@ printed (steps.Zone o s) = zones.printed o s
 printed (steps.Setting o at s) = settings.printed o at s
 printed (steps.Text s) = texts.printed s
 
--- ---- what stands on the line
+-- ---- the operands on a line
 
 -- the word of a step's form
 abbrev pub word_of : Step → List ℕ
 word_of s = (printed s).0
 
--- what stands behind it, as it is printed
+-- the operands as they are printed
 abbrev pub operands : Step → List Operand
 operands s = (printed s).1
 
--- what can stand there: zones can be written in several ways, and all else in one
+-- operands that encode the step: zones have several forms, all other operands one
 abbrev pub SaysStep : Step → List Operand → Type 0
 SaysStep (steps.Preset (AddPreset at preset)) os = SaysOwner head_operands at preset os
 SaysStep (steps.Instrument (AddInstrument at instrument)) os = SaysOwner name_operands at instrument os
 SaysStep (steps.Zone o (AddZone at zone)) os = SaysZone o at zone os
 SaysStep step os = os ≡ operands step
 
--- what a step is printed as
+-- the word and the operands that are printed for a step
 abbrev pub step_operands : Step → List Operand
 step_operands s = Fixed (word_of s) ∷ operands s
 
--- ---- how it is read
+-- ---- the parser
 
 -- the form whose word is next
 abbrev pub a_form : Part Form

@@ -1,4 +1,4 @@
--- The forms that edit instruments: how what stands behind their words is read, and what they are printed as.
+-- The forms that edit instruments: the parsers of their operands, and the operands that are printed.
 use Rattle.std.specs.Prelude.{ℕ, List, [], ◌∷◌, codes}
 use Rattle.edit_forms.specs.declared.step.Step.{Step}
 use Rattle.edit_forms.specs.declared.step.Step.TheVariants as steps
@@ -44,7 +44,7 @@ forms =
     (codes "add-inst", add_instrument) ∷ (codes "remove-inst", remove_instrument)
     ∷ (codes "rename-inst", rename_instrument) ∷ (codes "move-inst", move_instrument) ∷ []
 
--- the word of a step's form, and what is printed behind it
+-- the word of a step's form, and the operands that are printed after it
 abbrev pub printed : InstrumentStep → List ℕ × List Operand
 printed (AddInstrument at instrument) = (codes "add-inst", printed_owner name_operands at instrument)
 printed (RemoveInstrument instrument) = (codes "remove-inst", place instrument ∷ [])

@@ -1,5 +1,4 @@
--- What the forms of presets, instruments and samples have in common: what stands behind their words, what
--- that says, and how it is read.
+-- Operands that the forms of presets, instruments and samples share: their values and their parsers.
 use Rattle.std.specs.Prelude.{◌≡◌, ℕ, List, [], ◌∷◌, ◌++◌}
 use Rattle.bank_parts.specs.declared.parts.GlobalZone.{GlobalZone}
 use Rattle.bank_parts.specs.declared.parts.Zone.{Zone}
@@ -8,9 +7,9 @@ use Rattle.line_tokens.specs.Parts.{Part, ◌>>=◌, pure, most_double_word, num
 use Rattle.script_grammar.specs.Operands.{Operand, Number, Name}
 use Rattle.script_grammar.specs.Zones.{Written, written_operands, written_of, zones_in, zones}
 
--- ---- what stands on the line
+-- ---- the operands on a line
 
--- a number of a list
+-- the index of a list's member
 abbrev pub place : ℕ → Operand
 place i = Number most_double_word i
 
@@ -22,7 +21,7 @@ named_operands i n = place i ∷ Name n ∷ []
 abbrev pub moved_operands : ℕ → ℕ → List Operand
 moved_operands i j = place i ∷ place j ∷ []
 
--- a number, a head, and GLOBAL? ZONE*
+-- an index, a head, and `GLOBAL? ZONE*`
 abbrev pub owner_operands : ℕ → List Operand → Written → List Operand
 owner_operands at head written = (place at ∷ head) ++ written_operands written
 
@@ -30,17 +29,17 @@ owner_operands at head written = (place at ∷ head) ++ written_operands written
 abbrev pub printed_owner : {H : Type 0} → (H → List Operand) → ℕ → WithZones H → List Operand
 printed_owner head at x = owner_operands at (head x.head) (written_of x.global x.zones)
 
--- the operands say a preset or an instrument that is put in: by zones that stand for its own, however
--- they are written
+-- operands that encode an added preset or instrument: the zones on the line have the value of its zones, in
+-- whatever form
 pub record SaysOwner {H : Type 0} (head : H → List Operand) (at : ℕ) (x : WithZones H) (os : List Operand) : Type 0
   where
     pub written : Written
     pub operands : os ≡ owner_operands at (head x.head) written
     pub stands : zones_in written ≡ (x.global, x.zones)
 
--- ---- how it is read
+-- ---- parsers
 
--- a number, and what follows it
+-- an index, and what follows it
 abbrev pub placed : {X : Type 0} → Part X → Part (ℕ × X)
 placed part = do
   i ← number most_double_word
@@ -58,13 +57,13 @@ moving = placed (number most_double_word)
 abbrev pub owner_of : {H : Type 0} → H → GlobalZone × List Zone → WithZones H
 owner_of head z = record { head = head; global = z.0; zones = z.1 }
 
--- GLOBAL? ZONE*, behind a head
+-- `GLOBAL? ZONE*` after a head
 unfoldable pub zones_of : {H : Type 0} → H → Part (WithZones H)
 zones_of head = do
   z ← zones
   pure (owner_of head z)
 
--- a number and a head, and GLOBAL? ZONE*
+-- an index and a head, and `GLOBAL? ZONE*`
 abbrev pub owner : {H : Type 0} → Part (ℕ × H) → Part (ℕ × WithZones H)
 owner part = do
   h ← part

@@ -1,5 +1,4 @@
--- Whose zones, generators and modulators are edited, and where they stand: what is said there, and how it
--- is read.
+-- Owners of zones, and places in them: their operands on a line, and their parsers.
 use Rattle.std.specs.Prelude.{ℕ, List, [], ◌∷◌, ◌++◌, codes, if◌then◌else◌}
 use Rattle.bank_changes.specs.declared.members.Owner.{Owner}
 use Rattle.bank_changes.specs.declared.members.Owner.TheVariants as owner
@@ -12,7 +11,7 @@ use Rattle.script_grammar.specs.Operands.{Operand, Fixed}
 use Rattle.script_grammar.specs.Names.{next_named}
 use Rattle.step_script.specs.Members.{place}
 
--- ---- what stands on the line
+-- ---- the operands on a line
 
 abbrev pub kind_word : OwnerKind → List ℕ
 kind_word kind.Preset = codes "preset"
@@ -46,7 +45,7 @@ of_zone o k = of_owner o ++ place k ∷ []
 abbrev pub of_place : Owner → Place → List Operand
 of_place o p = of_owner o ++ at_place p ∷ []
 
--- ---- how it is read
+-- ---- parsers
 
 abbrev pub owner_with : OwnerKind → ℕ → Owner
 owner_with kind.Preset n = owner.Preset n

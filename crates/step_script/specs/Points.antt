@@ -1,5 +1,5 @@
--- The forms that edit a sample's points, its loop, its kind and its pitch: how what stands behind their words is read,
--- and what they are printed as.
+-- The forms that edit a sample's points, loop, kind and tuning: the parsers of their operands, and the
+-- operands that are printed.
 use Rattle.std.specs.Prelude.{ℕ, List, [], ◌∷◌, codes}
 use Rattle.edit_forms.specs.declared.step.Step.{Step}
 use Rattle.edit_forms.specs.declared.step.Step.TheVariants as steps
@@ -54,7 +54,7 @@ forms =
     (codes "trim", trim) ∷ (codes "extend", extend) ∷ (codes "set-loop", set_loop) ∷ (codes "set-kind", set_kind)
     ∷ (codes "set-tune", set_tune) ∷ []
 
--- the word of a step's form, and what is printed behind it
+-- the word of a step's form, and the operands that are printed after it
 abbrev pub printed : ℕ → PointStep → List ℕ × List Operand
 printed s (Trim front back) =
     (codes "trim", place s ∷ Number most_double_word front ∷ Number most_double_word back ∷ [])

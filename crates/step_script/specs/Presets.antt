@@ -1,4 +1,4 @@
--- The forms that edit presets: how what stands behind their words is read, and what they are printed as.
+-- The forms that edit presets: the parsers of their operands, and the operands that are printed.
 use Rattle.std.specs.Prelude.{ℕ, List, [], ◌∷◌, ◌++◌, codes}
 use Rattle.bank_parts.specs.declared.parts.Head.{Head}
 use Rattle.edit_forms.specs.declared.step.Step.{Step}
@@ -70,7 +70,7 @@ forms =
     (codes "add-preset", add_preset) ∷ (codes "remove-preset", remove_preset) ∷ (codes "move-preset", move_preset)
     ∷ (codes "set-head", set_head) ∷ []
 
--- the word of a step's form, and what is printed behind it
+-- the word of a step's form, and the operands that are printed after it
 abbrev pub printed : PresetStep → List ℕ × List Operand
 printed (AddPreset at preset) = (codes "add-preset", printed_owner head_operands at preset)
 printed (RemovePreset preset) = (codes "remove-preset", place preset ∷ [])

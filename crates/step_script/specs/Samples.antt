@@ -1,4 +1,4 @@
--- The forms that edit the list of samples: how what stands behind their words is read, and what they are printed as.
+-- The forms that edit the list of samples: the parsers of their operands, and the operands that are printed.
 use Rattle.std.specs.Prelude.{ℕ, List, [], ◌∷◌, codes}
 use Rattle.edit_forms.specs.declared.step.Step.{Step}
 use Rattle.edit_forms.specs.declared.step.Step.TheVariants as steps
@@ -41,7 +41,7 @@ forms =
     (codes "rename-sample", rename_sample) ∷ (codes "add-sample", add_sample)
     ∷ (codes "remove-sample", remove_sample) ∷ (codes "move-sample", move_sample) ∷ []
 
--- the word of a step's form, and what is printed behind it
+-- the word of a step's form, and the operands that are printed after it
 abbrev pub printed : SampleStep → List ℕ × List Operand
 printed (RenameSample sample name) = (codes "rename-sample", named_operands sample name)
 printed (AddSample at sample) = (codes "add-sample", place at ∷ body_operands sample)

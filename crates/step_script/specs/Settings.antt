@@ -1,5 +1,4 @@
--- The forms that edit generators and modulators: how what stands behind their words is read, and what they are printed
--- as.
+-- The forms that edit generators and modulators: the parsers of their operands, and the operands that are printed.
 use Rattle.std.specs.Prelude.{ℕ, List, [], ◌∷◌, ◌++◌, codes}
 use Rattle.modulators.specs.declared.modulator.Modulator.{Modulator}
 use Rattle.bank_changes.specs.declared.members.Owner.{Owner}
@@ -67,7 +66,7 @@ forms =
     (codes "set-gen", set_gen) ∷ (codes "clear-gen", clear_gen) ∷ (codes "add-mod", add_mod)
     ∷ (codes "remove-mod", remove_mod) ∷ (codes "set-mod", set_mod) ∷ []
 
--- the word of a step's form, and what is printed behind it
+-- the word of a step's form, and the operands that are printed after it
 abbrev pub printed : Owner → Place → SettingStep → List ℕ × List Operand
 printed o p (SetGen operator amount) = (codes "set-gen", of_place o p ++ generator_operands operator amount)
 printed o p (ClearGen operator) = (codes "clear-gen", of_place o p ++ Number most_word operator ∷ [])

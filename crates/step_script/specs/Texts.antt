@@ -1,4 +1,4 @@
--- The form that edits a bank's texts: how what stands behind its word is read, and what it is printed as.
+-- The form that edits a bank's texts: the parser of its operands, and the operands that are printed.
 use Rattle.std.specs.Prelude.{ℕ, List, [], ◌∷◌, codes}
 use Rattle.edit_forms.specs.declared.step.Step.{Step}
 use Rattle.edit_forms.specs.declared.step.Step.TheVariants as steps
@@ -19,6 +19,6 @@ set_info = do
 unfoldable pub forms : List Form
 forms = (codes "set-info", set_info) ∷ []
 
--- the word of a step's form, and what is printed behind it
+-- the word of a step's form, and the operands that are printed after it
 abbrev pub printed : TextStep → List ℕ × List Operand
 printed (SetInfo id text) = (codes "set-info", Fixed (id_word id) ∷ Text text ∷ [])

@@ -1,4 +1,4 @@
--- The forms that edit zones: how what stands behind their words is read, and what they are printed as.
+-- The forms that edit zones: the parsers of their operands, and the operands that are printed.
 use Rattle.std.specs.Prelude.{◌≡◌, ℕ, List, [], ◌∷◌, ◌++◌, codes}
 use Rattle.bank_changes.specs.declared.members.Owner.{Owner}
 use Rattle.bank_parts.specs.declared.parts.Zone.{Zone}
@@ -16,7 +16,7 @@ use Rattle.step_script.specs.Forms.{Form}
 use Rattle.step_script.specs.Members.{place}
 use Rattle.step_script.specs.Owners.{of_zone, owner_zone}
 
--- ---- a zone that is put in
+-- ---- an added zone
 
 -- `OWNER K ZONE`
 abbrev pub zone_at_operands : Owner → ℕ → WrittenZone → List Operand
@@ -26,7 +26,7 @@ zone_at_operands o k written = of_zone o k ++ zone_operands written
 abbrev pub printed_zone : Owner → ℕ → Zone → List Operand
 printed_zone o k z = zone_at_operands o k (written_zone z)
 
--- the operands say it: by one that stands for it, however it is written
+-- operands that encode an added zone: the zone on the line has the value of the zone, in whatever form
 pub record SaysZone (o : Owner) (k : ℕ) (z : Zone) (os : List Operand) : Type 0 where
   pub written : WrittenZone
   pub operands : os ≡ zone_at_operands o k written
@@ -82,7 +82,7 @@ forms =
     (codes "add-zone", add_zone) ∷ (codes "remove-zone", remove_zone) ∷ (codes "move-zone", move_zone)
     ∷ (codes "split-zone", split_zone) ∷ (codes "join-zone", join_zone) ∷ (codes "set-target", set_target) ∷ []
 
--- the word of a step's form, and what is printed behind it
+-- the word of a step's form, and the operands that are printed after it
 abbrev pub printed : Owner → ZoneStep → List ℕ × List Operand
 printed o (AddZone at zone) = (codes "add-zone", printed_zone o at zone)
 printed o (RemoveZone zone) = (codes "remove-zone", of_zone o zone)

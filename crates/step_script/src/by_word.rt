@@ -1,6 +1,6 @@
-//! What is chosen by a word.
+//! A match on the bytes of a word.
 
-/// The value behind the first of these texts that is the word, if one is.
+/// The value of the first of these texts that the word equals, if one does.
 macro_rules! by_word {
     ($word:expr, $($text:literal => $value:expr),+ $(,)?) => {
         $(if $word == $text.as_slice() { Some($value) } else)+ { None }

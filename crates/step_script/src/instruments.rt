@@ -22,7 +22,7 @@ use std::io::Write;
 
 // ---- read
 
-/// The step of one of these forms, read from what stands behind its word; none where the word is no form's.
+/// Reads the operands of a step after its word; `None` if the word names none of these forms.
 #[tactic(auto, unfolding(crate::specs::Instruments::forms, crate::specs::Forms::ReadsForm))]
 pub(crate) fn instrument_step<'p>(
     word: &[u8],
@@ -118,7 +118,7 @@ fn put_add_instrument<W: Write>(at: u32, instrument: &Instrument, output: &mut O
     put_zones(&instrument.global, instrument.zones.as_slice(), output);
 }
 
-// `I NAME`, each behind a space
+// `I NAME`, each token after a space.
 fn put_placed_name<W: Write>(at: u32, name: &Name20, output: &mut Output<'_, W>)
     ensures { Puts W.contents output.old output.new (flat_map spaced (pieces_of (place at ∷ name_operands name.now))) }
 {

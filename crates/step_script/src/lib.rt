@@ -1,7 +1,7 @@
-//! What a line of the edit script says of one step: the word of a form, and what stands behind it.
+//! Reads and writes one step of the edit script: the word of its form, and its operands.
 //!
-//! [`step`] reads a step from its place on a line. [`word_of`] is the word of a step's form, and
-//! [`put_operands`] puts what stands behind it.
+//! [`step`] reads a step from a line. [`word_of`] is the word of a step's form, and [`put_operands`] writes
+//! the operands after it.
 //!
 //! The forms are
 //!

@@ -1,4 +1,4 @@
-//! What the forms of presets, instruments and samples have in common.
+//! Operands that the forms of presets, instruments and samples share.
 ghost use Rattle.std.specs.Prelude.{◌≡◌, ◌∷◌, []};
 ghost use Rattle.std.specs.List.{flat_map};
 ghost use Rattle.outputs.specs.Output.{Puts};
@@ -38,7 +38,7 @@ pub(crate) fn moving(line: &mut Cursor<'_, '_>) -> Result<(u32, u32), LineFault>
     Ok((from, to))
 }
 
-// GLOBAL? ZONE*, behind a head
+// `GLOBAL? ZONE*` after a head
 #[tactic(auto, unfolding(crate::specs::Members::zones_of))]
 pub(crate) fn zones_of<H: Copy>(
     head: H,
@@ -57,7 +57,7 @@ pub(crate) fn zones_of<H: Copy>(
 
 // ---- printed
 
-// `I NAME`, each behind a space
+// `I NAME`, each token after a space
 pub(crate) fn put_naming<W: Write>(number: u32, name: &Name20, output: &mut Output<'_, W>)
     ensures { Puts W.contents output.old output.new (flat_map spaced (pieces_of (named_operands number name.now))) }
 {
@@ -66,7 +66,7 @@ pub(crate) fn put_naming<W: Write>(number: u32, name: &Name20, output: &mut Outp
     put_pieces(&[number, name], output);
 }
 
-// `I J`, each behind a space
+// `I J`, each token after a space
 pub(crate) fn put_moving<W: Write>(from: u32, to: u32, output: &mut Output<'_, W>)
     ensures { Puts W.contents output.old output.new (flat_map spaced (pieces_of (moved_operands from to))) }
 {
@@ -75,7 +75,7 @@ pub(crate) fn put_moving<W: Write>(from: u32, to: u32, output: &mut Output<'_, W
     put_pieces(&[from, to], output);
 }
 
-// `I`, behind a space
+// `I`, after a space
 pub(crate) fn put_number<W: Write>(number: u32, output: &mut Output<'_, W>)
     ensures { Puts W.contents output.old output.new (flat_map spaced (pieces_of (place number ∷ []))) }
 {

@@ -1,4 +1,4 @@
-//! Whose zones, generators and modulators are edited, and where they stand.
+//! Owners of zones, and places in them.
 ghost use Rattle.std.specs.Prelude.{◌≡◌};
 ghost use Rattle.line_tokens.specs.Parts.{Reads};
 ghost use Rattle.script_grammar.specs.Operands.{piece_of};
@@ -11,7 +11,7 @@ use line_tokens::{Cursor, LineFault, Piece};
 use script_grammar::{HasWord, next_named};
 use sf_base::Lent;
 
-/// The two kinds of members that have zones.
+/// The two levels at which members have zones.
 #[derive(Debug, Clone, Copy)]
 pub enum OwnerKind {
     Preset,

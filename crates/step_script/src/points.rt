@@ -1,4 +1,4 @@
-//! The forms that edit a sample's points, its loop, its kind and its pitch.
+//! The forms that edit a sample's points, loop, kind and tuning.
 ghost use Rattle.std.specs.Prelude.{◌≡◌, ℕ, codes};
 ghost use Rattle.std.specs.List.{flat_map};
 ghost use Rattle.outputs.specs.Output.{Puts};
@@ -24,7 +24,7 @@ use std::io::Write;
 
 // ---- read
 
-/// The step of one of these forms, read from what stands behind its word; none where the word is no form's.
+/// Reads the operands of a step after its word; `None` if the word names none of these forms.
 #[tactic(auto, unfolding(crate::specs::Points::forms, crate::specs::Forms::ReadsForm))]
 pub(crate) fn point_step<'p>(
     word: &[u8],

@@ -24,7 +24,7 @@ use std::io::Write;
 
 // ---- read
 
-/// The step of one of these forms, read from what stands behind its word; none where the word is no form's.
+/// Reads the operands of a step after its word; `None` if the word names none of these forms.
 #[tactic(auto, unfolding(crate::specs::Presets::forms, crate::specs::Forms::ReadsForm))]
 pub(crate) fn preset_step<'p>(
     word: &[u8],
@@ -154,7 +154,7 @@ fn put_add_preset<W: Write>(at: u32, preset: &Preset, output: &mut Output<'_, W>
     put_zones(&preset.global, preset.zones.as_slice(), output);
 }
 
-// `P NAME NUMBER BANK LIBRARY GENRE MORPHOLOGY`, each behind a space
+// `P NAME NUMBER BANK LIBRARY GENRE MORPHOLOGY`, each token after a space
 fn put_placed_head<W: Write>(at: u32, head: &Head, output: &mut Output<'_, W>)
     ensures { Puts W.contents output.old output.new (flat_map spaced (pieces_of (place at ∷ head_operands head.now))) }
 {

@@ -23,7 +23,7 @@ use std::io::Write;
 
 // ---- read
 
-/// The step of one of these forms, read from what stands behind its word; none where the word is no form's.
+/// Reads the operands of a step after its word; `None` if the word names none of these forms.
 #[tactic(auto, unfolding(crate::specs::Samples::forms, crate::specs::Forms::ReadsForm))]
 pub(crate) fn sample_step<'p>(
     word: &[u8],
@@ -102,7 +102,7 @@ pub(crate) fn put_sample_step<W: Write>(step: &SampleStep<'_>, output: &mut Outp
     }
 }
 
-// `S BODY`, each token behind a space
+// `S BODY`, each token after a space
 #[tactic(auto, using(crate::proofs::PutLaws::puts_added))]
 fn put_add_sample<W: Write>(at: u32, sample: &Sample<'_>, output: &mut Output<'_, W>)
     ensures { Puts W.contents output.old output.new (flat_map spaced (pieces_of (place at ∷ body_operands sample.now))) }

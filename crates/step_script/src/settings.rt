@@ -22,7 +22,7 @@ use std::io::Write;
 
 // ---- read
 
-/// The step of one of these forms, read from what stands behind its word; none where the word is no form's.
+/// Reads the operands of a step after its word; `None` if the word names none of these forms.
 #[tactic(auto, unfolding(crate::specs::Settings::forms, crate::specs::Forms::ReadsForm))]
 pub(crate) fn setting_step<'p>(
     word: &[u8],
@@ -143,7 +143,7 @@ fn put_set_gen<W: Write>(
     put_generator(operator, amount, output);
 }
 
-// `OWNER PLACE`, each behind a space
+// `OWNER PLACE`, each token after a space
 fn put_owner_place<W: Write>(owner: Owner, place: Place, output: &mut Output<'_, W>)
     ensures { Puts W.contents output.old output.new (flat_map spaced (pieces_of (of_place owner place))) }
 {
@@ -164,7 +164,7 @@ fn put_clear_gen<W: Write>(owner: Owner, place: Place, operator: u16, output: &m
     );
 }
 
-// `OWNER PLACE J MOD`, each token behind a space
+// `OWNER PLACE J MOD`, each token after a space
 #[tactic(auto, using(script_grammar::proofs::PutLaws::puts_both))]
 fn put_modulator_at<W: Write>(
     owner: Owner,
@@ -179,7 +179,7 @@ fn put_modulator_at<W: Write>(
     put_modulator(modulator, output);
 }
 
-// `OWNER PLACE J`, each behind a space
+// `OWNER PLACE J`, each token after a space
 fn put_index<W: Write>(owner: Owner, place: Place, index: u32, output: &mut Output<'_, W>)
     ensures { Puts W.contents output.old output.new (flat_map spaced (pieces_of (index_operands owner place index))) }
 {

@@ -1,4 +1,4 @@
-//! Steps, read from their lines and printed.
+//! Reads and writes steps.
 ghost use Rattle.std.specs.Prelude.{◌≡◌};
 ghost use Rattle.std.specs.List.{flat_map};
 ghost use Rattle.outputs.specs.Output.{Puts};
@@ -24,8 +24,8 @@ use std::io::Write;
 
 // ---- read
 
-/// The step that begins here: the word of a form, and what stands behind it. The first fault from left
-/// to right is answered; out of memory may come in place of either.
+/// Reads a step: the word of its form, and its operands. The error is the first fault from left to right, or
+/// `OutOfMemory`.
 #[tactic(auto, unfolding(crate::specs::Grammar::step, crate::specs::Forms::ReadsForm, script_grammar::specs::Names::next_named))]
 pub fn step<'p>(alloc: Global, line: &mut Cursor<'_, 'p>) -> Result<Step<'p>, Failure<LineFault>>
     ensures { ReadsOrWants (λ s. s) step line.old line.new result }
@@ -37,7 +37,7 @@ pub fn step<'p>(alloc: Global, line: &mut Cursor<'_, 'p>) -> Result<Step<'p>, Fa
     }
 }
 
-// The step of the form that has this word, read from what stands behind it; none where the word is no form's.
+// Reads the operands of a step after its word; `None` if the word names no form.
 #[tactic(auto, using(crate::proofs::FormLaws::sought))]
 fn step_of_form<'p>(
     word: &[u8],
@@ -84,7 +84,7 @@ pub fn word_of(step: &Step<'_>) -> &'static [u8]
     }
 }
 
-/// Puts what stands behind the word of a step's form, each token behind a space. It takes no memory.
+/// Writes the operands of a step, each token after a space. It allocates nothing.
 pub fn put_operands<W: Write>(step: &Step<'_>, output: &mut Output<'_, W>)
     ensures { Puts W.contents output.old output.new (flat_map spaced (pieces_of (operands step.now))) }
 {

@@ -20,7 +20,7 @@ use std::io::Write;
 
 // ---- read
 
-/// The step of one of these forms, read from what stands behind its word; none where the word is no form's.
+/// Reads the operands of a step after its word; `None` if the word names none of these forms.
 #[tactic(auto, unfolding(crate::specs::Texts::forms, crate::specs::Forms::ReadsForm))]
 pub(crate) fn text_step<'p>(
     word: &[u8],

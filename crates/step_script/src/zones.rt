@@ -25,7 +25,7 @@ use zone_ranges::{Axis, Keep};
 
 // ---- read
 
-/// The step of one of these forms, read from what stands behind its word; none where the word is no form's.
+/// Reads the operands of a step after its word; `None` if the word names none of these forms.
 #[tactic(auto, unfolding(crate::specs::Zones::forms, crate::specs::Forms::ReadsForm))]
 pub(crate) fn zone_step<'p>(
     word: &[u8],
@@ -144,7 +144,7 @@ fn put_add_zone<W: Write>(owner: Owner, at: u32, zone: &Zone, output: &mut Outpu
     put_zone(zone, output);
 }
 
-// `OWNER K`, each behind a space
+// `OWNER K`, each token after a space
 fn put_owner_zone<W: Write>(owner: Owner, zone: u32, output: &mut Output<'_, W>)
     ensures { Puts W.contents output.old output.new (flat_map spaced (pieces_of (of_zone owner zone))) }
 {

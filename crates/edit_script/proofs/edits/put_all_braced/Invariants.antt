@@ -4,7 +4,7 @@ use Rattle.outputs.proofs.OutputLaws.{Putting}
 use Rattle.edit_script.proofs.PutLaws.{braced_text}
 use Rattle.edit_script.proofs.edits.put_all_braced.Given as goal
 
--- the steps that are left are still to be put
+-- the remaining steps are still to be written
 abbrev pub invariant-loop-step : goal.invariant-loop-step
 invariant-loop-step g l =
     Putting g.W.Write.contents l.initial.output l.output (flat_map braced_text l.steps)

@@ -2,7 +2,7 @@ use Rattle.std.proofs.Common.{◌≡◌, [], length}
 use Rattle.edit_script.specs.Grammar.{steps_left}
 use Rattle.edit_script.proofs.edits.steps_left.Given as goal
 
--- what is left, behind the steps that there are, makes the whole
+-- the steps so far and the remaining tokens give all steps
 abbrev pub invariant-loop-alloc : goal.invariant-loop-alloc
 invariant-loop-alloc l =
     (steps_left l.steps l.line.said ≡ steps_left [] l.fn.line.said) × (l.line.pool ≡ l.fn.line.pool)

@@ -5,7 +5,7 @@ use Rattle.line_tokens.specs.Pool.{gather}
 use Rattle.edit_script.specs.Script.{edit_of, edits_in}
 use Rattle.edit_script.proofs.parsing.parse_lines.Given as goal
 
--- what is left makes of the edits so far what the whole text says
+-- the edits so far and the remaining lines give the edits of the whole text
 abbrev pub invariant-loop-line : goal.invariant-loop-line
 invariant-loop-line l = record {
   can_next : (goal.iterator-loop-line).can_next l.line-iterator;

@@ -5,7 +5,7 @@ use Rattle.note_list.specs.declared.limits.TheConstants.{MOST_NOTES}
 use Rattle.note_list.specs.Notes.{with_note, notes_of}
 use Rattle.note_list.proofs.parsing.parse_notes.Given as goal
 
--- what is left makes of the notes so far those of the whole text
+-- the notes so far and the remaining lines give the notes of the whole text
 abbrev pub invariant-loop-line : goal.invariant-loop-line
 invariant-loop-line l = record {
   can_next : (goal.iterator-loop-line).can_next l.line-iterator;
