@@ -1,4 +1,4 @@
--- Edits in a row, and one more.
+-- Edits in order, and one more.
 use Rattle.std.proofs.Common.{◌++◌, List, [], ◌∷◌, refl, sym, subst}
 use Rattle.std.specs.Prelude.{Result, Ok, Err}
 use Rattle.bank_parts.specs.declared.parts.Parts.{Parts}

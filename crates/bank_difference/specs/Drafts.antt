@@ -1,4 +1,4 @@
--- A bank in the making.
+-- Drafts of a bank.
 use Rattle.std.specs.Prelude.{◌≡◌, List, [], ◌∷◌, ◌++◌, Result, Ok, Err}
 use Rattle.bank_parts.specs.declared.parts.Parts.{Parts}
 use Rattle.edit_forms.specs.declared.step.Step.{Step}
@@ -7,19 +7,19 @@ use Rattle.edit_forms.specs.declared.edit.Edit.TheVariants.{One}
 use Rattle.edit_refusals.specs.Edits.{raw}
 use Rattle.bank_edits.specs.Undone.{IsTaken}
 
--- a first bank, edits, and the bank that they lead to
+-- a first bank, edits, and the bank to which they lead
 pub record Drafted : Type 0 where
   pub first : Parts
   pub edits : List Edit
   pub bank : Parts
 
--- the bank took the step, which stands behind the list of edits
+-- the step is accepted by the bank, and appended to the list of edits
 pub record IsDoneStep (old new : Parts) (was now : List Edit) (s : Step) : Type 0 where
   pub taken : IsTaken old (One s)
   pub changed : new ≡ raw old (One s)
   pub listed : now ≡ was ++ One s ∷ []
 
--- neither the bank nor the list was changed
+-- neither the bank nor the list is changed
 pub record IsNoStep (old new : Parts) (was now : List Edit) : Type 0 where
   pub bank : new ≡ old
   pub list : now ≡ was

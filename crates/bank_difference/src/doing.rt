@@ -1,4 +1,4 @@
-//! One step of a bank in the making.
+//! One step of a draft.
 ghost use Rattle.std.specs.Prelude.{◌≡◌, ◌<◌, ◌++◌, ◌∷◌, [], vec_len, vec_capacity, MatchResult};
 ghost use Rattle.edit_refusals.specs.Edits.{raw};
 ghost use Rattle.bank_edits.specs.Undone.{IsTaken};
@@ -11,10 +11,10 @@ use edit_refusals::Refusal;
 use sf_base::OutOfMemory;
 use std::alloc::{AllocError, Global};
 
-/// Why a step isn't done.
+/// Why a step is not applied.
 #[derive(Debug, Drop, Clone, Copy, PartialEq, Eq)]
 pub(crate) enum Stop {
-    /// The bank refuses it.
+    /// The bank refuses the step.
     Refused,
     OutOfMemory,
 }
@@ -31,7 +31,7 @@ impl From<AllocError> for Stop {
     }
 }
 
-/// Does a step and puts an equal one behind the list; or changes nothing.
+/// Applies a step and appends a copy of it to the list of edits; on an error, neither is changed.
 pub(crate) fn do_step<'a>(
     alloc: Global,
     bank: &mut Bank<'a>,
@@ -49,7 +49,7 @@ pub(crate) fn do_step<'a>(
     Ok(())
 }
 
-// Does an edit, if the bank takes it.
+// Applies an edit, if the bank accepts it.
 fn take<'a>(alloc: Global, bank: &mut Bank<'a>, edit: Edit<'a>) -> Result<(), Stop>
     ensures { MatchResult result (λ done. IsTaken bank.old edit.entry × (bank.new ≡ raw bank.old edit.entry)) (λ why. bank.new ≡ bank.old) }
 {
@@ -72,7 +72,7 @@ fn stop_of(why: Refusal) -> Stop {
     Stop::Refused
 }
 
-// Puts an edit behind a list that has the memory for it.
+// Appends an edit to a list with spare capacity.
 fn push_reserved<'a>(list: &mut Vec<Edit<'a>>, edit: Edit<'a>)
     requires { vec_len list.old < vec_capacity list.old }
     ensures { list.new.items ≡ list.old.items ++ edit.entry ∷ [] }

@@ -1,4 +1,4 @@
-//! A bank in the making: what it was first, the edits so far, and what they made of it.
+//! A draft: a first bank, the edits so far, and the bank to which they lead.
 ghost use Rattle.std.specs.Prelude.{◌≡◌, IfOk};
 ghost use Rattle.bank_text.specs.Whole.{Leads};
 
@@ -9,7 +9,7 @@ use sf_base::OutOfMemory;
 use std::alloc::Global;
 use std::marker::Model;
 
-/// A first bank, edits that it takes in their turn, and the bank that they lead to.
+/// A first bank, edits that it accepts in order, and the bank to which they lead.
 #[derive(Drop)]
 pub(crate) struct Draft<'d, 'a> {
     first: &'d Bank<'a>,
@@ -33,7 +33,7 @@ impl<'d, 'a> Model for Draft<'d, 'a> {
 }
 
 impl<'d, 'a> Draft<'d, 'a> {
-    /// A copy of the bank, with no edit yet.
+    /// A draft with a copy of the bank and no edits.
     pub(crate) fn new(alloc: Global, first: &'d Bank<'a>) -> Result<Draft<'d, 'a>, OutOfMemory>
         ensures { IfOk result (λ draft. draft.first ≡ first.now) }
     {
@@ -45,21 +45,21 @@ impl<'d, 'a> Draft<'d, 'a> {
         })
     }
 
-    /// The bank as the edits left it.
+    /// The bank after the edits.
     pub(crate) fn bank(&self) -> &Bank<'a>
         ensures { result.now ≡ self.now.bank }
     {
         &self.bank
     }
 
-    /// The edits, which lead from the first bank to the one that they left.
+    /// The edits, which lead from the first bank to the edited bank.
     pub(crate) fn into_edits(self) -> Vec<Edit<'a>>
         ensures { Leads self.entry.first result.items self.entry.bank }
     {
         self.edits
     }
 
-    /// Does steps in their order, up to the first one that is not done.
+    /// Applies steps in order, up to the first one that fails.
     pub(crate) fn edit_all(&mut self, alloc: Global, steps: Vec<Step<'a>>) -> Result<(), Stop>
         ensures { self.new.first ≡ self.old.first }
     {
@@ -69,7 +69,7 @@ impl<'d, 'a> Draft<'d, 'a> {
         Ok(())
     }
 
-    // Does one step.
+    // Applies one step.
     fn edit(&mut self, alloc: Global, step: Step<'a>) -> Result<(), Stop>
         ensures { self.new.first ≡ self.old.first }
     {

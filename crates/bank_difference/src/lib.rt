@@ -1,5 +1,5 @@
-//! The edits that make one bank of another: few of them, as a short way is looked for, and those that
-//! are found are known to lead there.
+//! Computes edits that lead from one bank to another. The edits are proved to lead there; their number is
+//! kept small by heuristics.
 #![tactic(auto)]
 
 mod between;

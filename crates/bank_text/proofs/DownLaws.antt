@@ -1,4 +1,4 @@
--- The lines that take a bank down.
+-- The lines that remove all parts of a bank.
 use Rattle.std.proofs.Common.{◌≡◌, ◌<◌, ◌≤◌, ◌+◌, ◌-◌, ◌++◌, ℕ, zero, suc, List, [], ◌∷◌, length, take, get_or}
 use Rattle.std.proofs.Common.{codes, refl, sym, ◌∙◌, ap, arith}
 use Rattle.std.specs.List.{flat_map}
@@ -41,7 +41,7 @@ unfolding printed.text_of
 samples_away zero = refl
 samples_away (suc n) = ap (λ (t : List ℕ). line_text (codes "remove-sample") (Number n ∷ []) ++ t) (samples_away n)
 
--- of so many the last is put, after some others
+-- in a loop over all members, the line of the last remaining member comes next
 pub removals_at : (word : List ℕ) (count done : ℕ) → done < count
     → removal_lines word (count - done)
     ≡ line_text word (Number (count - done - 1) ∷ []) ++ removal_lines word (count - (done + 1))
@@ -54,7 +54,7 @@ removals_at word count done h =
 pub removals_over : (word : List ℕ) (count done : ℕ) → count ≤ done → removal_lines word (count - done) ≡ []
 removals_over word count done h = ap (removal_lines word) (let e : count - done ≡ 0 = omega (arith, h) in e)
 
--- ---- the members of a list from the last to the first
+-- ---- the members of a list, from the last to the first
 
 reverse_last : {X : Type 0} (edits : ℕ → X → List Edit) (n : ℕ) (xs : List X) (x : X)
     → in_reverse edits n (xs ++ x ∷ []) ≡ edits (n + length xs) x ++ in_reverse edits n xs
@@ -121,7 +121,7 @@ resets_lines t =
     ++ (es Comment ++ (es Copyright ++ (es Product ++ (es Engineers ++ (es Date ++ (es Name ++ last))))))))
     (append-nil (es Engine))
 
--- ---- all of them
+-- ---- all parts
 
 pub down_lines : (b : Parts)
     → removal_lines (codes "remove-preset") (length b.presets)

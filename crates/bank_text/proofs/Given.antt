@@ -1,4 +1,4 @@
--- The edits that list a bank give it.
+-- The edits that list a bank lead to it.
 use Rattle.std.proofs.Common.{◌≡◌, ◌<◌, ◌++◌, ℕ, List, [], ◌∷◌, length, refl, sym, ◌∙◌, ap, arith}
 use Rattle.std.proofs.lemmas.List.{append-nil}
 use Rattle.bank_parts.specs.declared.parts.WithZones.{WithZones}
@@ -30,7 +30,7 @@ text_set_same t Copyright = refl
 text_set_same t Comment = refl
 text_set_same t Software = refl
 
--- where the text that is there is empty, or the text is not
+-- where the text in the bank is empty, or the new text is not
 pub text_given : (b : Parts) (id : InfoId) (text : List ℕ) → (text ≡ [] → text_of b.texts id ≡ [])
     → after_all b (text_edits id text) ≡ info_set b id text
 text_given b id [] h =
@@ -101,7 +101,7 @@ module _ (minor : ℕ) (t : Texts) where
   abbrev pub texts8 : Texts
   texts8 = t
 
-  -- each in its turn
+  -- each text in order
   pub given0 : 0 < length t.engine → after_all (with_texts texts0) (text_edits Engine t.engine) ≡ with_texts texts1
   given0 h = text_given (with_texts texts0) Engine t.engine (not_empty t.engine (text_of empty_texts Engine ≡ []) h)
 
@@ -126,7 +126,7 @@ module _ (minor : ℕ) (t : Texts) where
   pub given7 : after_all (with_texts texts7) (text_edits Software t.software) ≡ with_texts texts8
   given7 = text_given (with_texts texts7) Software t.software (λ e. refl)
 
-  -- all of them, and those after the first k
+  -- all texts, and the texts after the first k
   abbrev pub edits7 : List Edit
   edits7 = text_edits Software t.software
 

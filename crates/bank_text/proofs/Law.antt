@@ -1,4 +1,4 @@
--- The edits that list a sound bank give it from the empty bank.
+-- The edits that list a sound bank lead to it from the empty bank.
 use Rattle.std.proofs.Common.{◌≡◌, List, sym, subst, ◌∙◌, ap}
 use Rattle.bank_parts.specs.declared.parts.Parts.{Parts}
 use Rattle.bank_parts.specs.Sound.{IsSound}
@@ -14,7 +14,7 @@ use Rattle.bank_text.proofs.Taken.{sound_empty, all_taken}
 pub whole : GivesBank
 whole b s = record { taken = all_taken b s; given = given b s.valid.texts.engine_there }
 
--- the undo list of what gives a bank leads back to the empty one
+-- the undo list of these edits leads back to the empty bank
 cleared : (a : Parts) → IsSound a → Leads a (undo_list (empty a.minor) (edits_of_bank a)) (empty a.minor)
 cleared a s =
     let w = whole a s in

@@ -61,13 +61,13 @@ edits_of_text b s =
     ap (λ (r : Result (List Line) ScriptFault). map (λ (l : Line). l.edit) (lines_or r)) (text_read b s)
     ∙ edits_numbered 2 (edits_of_bank b)
 
--- ---- its version
+-- ---- the minor version
 
 first_or : List (List ℕ) → List ℕ
 first_or [] = []
 first_or (l ∷ ls) = l
 
--- the number behind the words of the first line
+-- the number after the words of the first line
 minor_read : List ℕ → ℕ
 unfolding first_or
 minor_read text = digits_value (drop 21 (first_or (lines_of text)))
@@ -87,7 +87,7 @@ text_tells a b s r e =
     let same : edits_of_bank a ≡ edits_of_bank b = sym (edits_of_text a s) ∙ (ap edits_read e ∙ edits_of_text b r) in
     sym (whole a s).given ∙ ((λ i. after_all (empty (m i)) (same i)) ∙ (whole b r).given)
 
--- ---- what replaces a bank
+-- ---- the script that replaces a bank
 
 pub replaces : ReplacementLeads
 replaces a b s r m =

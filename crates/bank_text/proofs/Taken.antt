@@ -1,4 +1,4 @@
--- Each of the edits that list a sound bank is taken in its turn.
+-- Each of the edits that list a sound bank is accepted in order.
 use Rattle.std.proofs.Common.{◌≡◌, ◌++◌, ℕ, List, [], ◌∷◌, length, map, refl, sym, subst, ◌∙◌, ap, arith}
 use Rattle.std.specs.Option.{option_map}
 use Rattle.std.proofs.lemmas.List.{append-nil, append_assoc, length-map}
@@ -51,7 +51,7 @@ use Rattle.bank_text.proofs.Given.{with_texts, texts0, texts1, texts2, texts3, t
 use Rattle.bank_text.proofs.Given.{given0, given1, given2, given3, given4, given5, given6, edits1, edits2, edits3}
 use Rattle.bank_text.proofs.Given.{edits4, edits5, edits6, edits7, texts_given, links_given}
 
--- one step, where no test stands and it leads to a sound bank
+-- a step is accepted if it has no cause of refusal and leads to a sound bank
 one_taken : (b c : Parts) (s : Step) → FitsStep s → NoneStands (table.causes b s) → table.raw b s ≡ c → IsSound c
     → IsTaken b (One s)
 one_taken b c s fits tests to sound =

@@ -1,4 +1,4 @@
--- What takes a bank's edits back takes its parts away, from the last to the first.
+-- The undo list of the edits that list a bank removes its parts, from the last to the first.
 use Rattle.std.proofs.Common.{◌≡◌, ◌<◌, ◌+◌, ◌++◌, ℕ, suc, List, [], ◌∷◌, length, map, refl, sym, ◌∙◌, ap, arith}
 use Rattle.std.proofs.lemmas.List.{append-nil, append_assoc}
 use Rattle.bank_parts.specs.declared.texts.Texts.{Texts}

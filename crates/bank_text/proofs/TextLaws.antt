@@ -37,7 +37,7 @@ both_texts es fs = flat_map-append printed.text_of es fs
 pub then_texts : (es fs : List Edit) (text : List ℕ) → texts_of fs ≡ text → texts_of (es ++ fs) ≡ texts_of es ++ text
 then_texts es fs text e = both_texts es fs ∙ ap (λ (t : List ℕ). texts_of es ++ t) e
 
--- ---- the members of a list in their turn
+-- ---- the members of a list in order
 
 pub turns_at : {X : Type 0} (edits : ℕ → X → List Edit) (xs : List X) (i : ℕ) (x : X) → i < length xs
     → x ≡ get_or xs i x
@@ -53,7 +53,7 @@ pub turns_over : {X : Type 0} (edits : ℕ → X → List Edit) (xs : List X) (i
     → texts_of (in_turn edits i (drop i xs)) ≡ []
 turns_over {X} edits xs i h = ap (λ (ys : List X). texts_of (in_turn edits i ys)) (drop_all i xs h)
 
--- of other members
+-- the same for the images of members
 turns_of : {X : Type 0} (edits fs : ℕ → X → List Edit) (f : X → X) → ((n : ℕ) (x : X) → edits n x ≡ fs n (f x))
     → (n : ℕ) (xs : List X) → in_turn edits n xs ≡ in_turn fs n (map f xs)
 turns_of edits fs f same n [] = refl
@@ -75,7 +75,7 @@ instruments_lines n [] = refl
 instruments_lines n (x ∷ xs) =
     ap (λ (t : List ℕ). owner_line (codes "add-inst") name_operands n x ++ t) (instruments_lines (suc n) xs)
 
--- of which the heads are told, and the zones
+-- the line of the next owner: its head and its zones
 pub owner_lines_next : {H : Type 0} (word : List ℕ) (head : H → List Operand) (xs : List (WithZones H)) (i : ℕ)
     (x : WithZones H)
     → i < length xs → x ≡ get_or xs i x
@@ -96,7 +96,7 @@ puts_text_line t id text e h =
     puts_as (texts_of (text_edits id text)) (text_lines t id)
     (ap (λ (text : List ℕ). texts_of (text_edits id text)) e) h
 
--- those of a row of texts
+-- the texts of several ids
 pub row_lines : (edits : InfoId → List Edit) (ids : List InfoId)
     → flat_map (λ (id : InfoId). texts_of (edits id)) ids ≡ texts_of (flat_map edits ids)
 row_lines edits [] = refl

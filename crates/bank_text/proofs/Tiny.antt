@@ -1,4 +1,4 @@
--- The edits of a small bank, by computation.
+-- The edits of a small bank, as a computed example.
 use Rattle.std.proofs.Common.{◌≡◌, ℕ, ℤ, List, [], ◌∷◌, None, refl}
 use Rattle.std.specs.Prelude.{codes}
 use Rattle.bank_parts.specs.declared.texts.InfoId.TheVariants.{Engine, Comment}

@@ -1,4 +1,4 @@
--- What a list of presets or instruments lends of a member is put as the member's zones.
+-- The zones that are borrowed from a list of presets or instruments are written as the member's zones.
 use Rattle.std.proofs.Common.{◌≡◌, ◌<◌, ◌≤◌, ◌+◌, ◌++◌, ℕ, true, false, List, [], ◌∷◌, length, drop, slice_get}
 use Rattle.std.proofs.Common.{Option, Some, None, codes, refl, ap, ◌∙◌, arith}
 use Rattle.std.specs.Prelude.{◌==◌, IfSome, IsSomeAnd}
@@ -94,7 +94,7 @@ module _ {H : Type 0} (xs : List (WithZones H)) (i : ℕ) where
       let own : Puts c p q (spaced_out (items_operands (listed_items (map.entries z.gens) z.mods))) = rw (u, v) l in
       rw (is, there) (puts_zone z first own)
 
-  -- the zones that are ahead are still to be put
+  -- the remaining zones are still to be written
   abbrev pub PuttingZones : {W : Type 0} → (W → Option (List ℕ)) → Output W → Output W → ℕ → Type 0
   PuttingZones c o p k =
       IfSome (slice_get xs i) (λ x. Putting c o p (zones_text x) (flat_map zone_text (drop k x.zones)))
@@ -131,7 +131,7 @@ module _ {H : Type 0} (xs : List (WithZones H)) (i : ℕ) where
       → HasPlace xs i (place.Zone k)
   has_zone k count lt n less = rw n less
 
-  -- ---- all of them
+  -- ---- all zones
 
   pub puts_zones_of : {W : Type 0} (c : W → Option (List ℕ)) (o p q : Output W) → i < length xs
       → IfSome (slice_get xs i) (λ x. Puts c o p (global_text x))

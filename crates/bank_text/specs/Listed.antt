@@ -1,4 +1,4 @@
--- A bank as a list of edits of the empty bank.
+-- A bank as a list of edits that lead to it from the empty bank.
 use Rattle.std.specs.Prelude.{◌++◌, ℕ, suc, List, [], ◌∷◌, codes}
 use Rattle.bank_parts.specs.declared.texts.InfoId.{InfoId}
 use Rattle.bank_parts.specs.declared.texts.InfoId.TheVariants as id
@@ -19,7 +19,7 @@ use Rattle.edit_forms.specs.declared.step.Step.TheVariants as steps
 use Rattle.edit_forms.specs.declared.edit.Edit.{Edit}
 use Rattle.edit_forms.specs.declared.edit.Edit.TheVariants.{One}
 
--- the texts of a file that has none
+-- the texts of the empty bank
 abbrev pub empty_texts : Texts
 empty_texts =
     record {
@@ -38,14 +38,14 @@ empty_texts =
 abbrev pub empty : ℕ → Parts
 empty minor = record { minor = minor; texts = empty_texts; presets = []; instruments = []; samples = [] }
 
--- the edits for each member in its turn, where the first has the number n
+-- the edits for each member in order; the first member has the number n
 abbrev pub in_turn : {X : Type 0} → (ℕ → X → List Edit) → ℕ → List X → List Edit
 in_turn edits n [] = []
 in_turn edits n (x ∷ xs) = edits n x ++ in_turn edits (suc n) xs
 
--- ---- each part
+-- ---- the parts of a bank
 
--- a text that is not empty
+-- sets a text, unless it is empty
 abbrev pub text_edits : InfoId → List ℕ → List Edit
 text_edits id [] = []
 text_edits id (byte ∷ text) = One (steps.Text (SetInfo id (byte ∷ text))) ∷ []
@@ -61,11 +61,11 @@ texts_edits t =
     ++ (text_edits id.Comment t.comment
     ++ text_edits id.Software t.software))))))
 
--- a sample without its link, as the sample that it links to may not be there yet
+-- adds a sample as mono, as its linked sample may not exist yet
 abbrev pub sample_edits : ℕ → Sample → List Edit
 sample_edits i s = One (steps.Sample (AddSample i (of_kind Mono s))) ∷ []
 
--- the kind of a sample that is there
+-- sets the kind of an existing sample, unless it is mono
 abbrev pub kind_edits : ℕ → Kind → List Edit
 kind_edits i Mono = []
 kind_edits i (Right link) = One (steps.Points i (SetKind (Right link))) ∷ []

@@ -14,7 +14,7 @@ use Rattle.bank_text.specs.declared.samples.SamplePoints.TheVariants.{Kept, Left
 use Rattle.bank_text.specs.Listed.{empty, sample_edits, edits_of_bank}
 use Rattle.bank_text.specs.Whole.{Leads, edits_between}
 
--- ---- what is told of points
+-- ---- with and without points
 
 abbrev pub told_points : SamplePoints → List ℕ → List ℕ
 told_points Kept points = points
@@ -32,20 +32,20 @@ with_points LeftOut b = record b { samples = map (told_sample LeftOut) b.samples
 
 -- ---- the script
 
--- the command that makes the empty bank, as a comment
+-- the command that creates the empty bank, as a comment
 unfoldable pub first_line : SamplePoints → ℕ → List ℕ
 first_line Kept minor = line_text (codes "# sfbank new --minor") (Number minor ∷ [])
 first_line LeftOut minor =
     line_text (codes "# sfbank new --minor")
     (Number minor ∷ Word (codes "without points: to read and compare alone") ∷ [])
 
--- the script that gives a bank from the empty one
+-- the script that creates a bank from the empty bank
 unfoldable pub bank_script : SamplePoints → Parts → List ℕ
 bank_script points b = first_line points b.minor ++ texts_of (edits_of_bank (with_points points b))
 
 -- ---- laws
 
--- the text is a script whose edits lead from the one bank to the other
+-- the text is a script whose edits lead from one bank to the other
 pub record IsScript (from : Parts) (text : List ℕ) (to : Parts) : Type 0 where
   pub lines : List Line
   pub read : script_of text ≡ Ok lines
@@ -54,11 +54,11 @@ pub record IsScript (from : Parts) (text : List ℕ) (to : Parts) : Type 0 where
 abbrev pub TextGivesBank : Type 0
 TextGivesBank = (b : Parts) → IsSound b → IsScript (empty b.minor) (bank_script Kept b) b
 
--- no two banks have the same text
+-- two different banks have different texts
 abbrev pub TextTellsBank : Type 0
 TextTellsBank = (a b : Parts) → IsSound a → IsSound b → bank_script Kept a ≡ bank_script Kept b → a ≡ b
 
--- what replaces a bank by another of its version is a script
+-- the text that replaces a bank with another of its minor version is a script with that effect
 abbrev pub ReplacementLeads : Type 0
 ReplacementLeads =
     (a b : Parts) → IsSound a → IsSound b → a.minor ≡ b.minor → IsScript a (texts_of (edits_between a b)) b

@@ -1,5 +1,5 @@
--- A bank that is taken down to the empty one of its version: its presets, its instruments, the links of its
--- samples, the samples and the texts, each from the last to the first.
+-- The edits that remove all parts of a bank, which leaves the empty bank of its minor version: its presets,
+-- its instruments, the links of its samples, the samples and the texts, each from the last to the first.
 use Rattle.std.specs.Prelude.{◌++◌, ℕ, zero, suc, List, [], ◌∷◌, length}
 use Rattle.bank_parts.specs.declared.texts.InfoId.{InfoId}
 use Rattle.bank_parts.specs.declared.texts.InfoId.TheVariants as id
@@ -22,17 +22,17 @@ use Rattle.line_tokens.specs.declared.printing.Piece.TheVariants.{Number}
 use Rattle.line_tokens.specs.Printing.{line_text}
 use Rattle.bank_text.specs.Listed.{empty_texts}
 
--- the edits for each member, the last one's first, where the first member has the number n
+-- the edits for each member, those of the last member first; the first member has the number n
 abbrev pub in_reverse : {X : Type 0} → (ℕ → X → List Edit) → ℕ → List X → List Edit
 in_reverse edits n [] = []
 in_reverse edits n (x ∷ xs) = in_reverse edits (suc n) xs ++ edits n x
 
--- as many members are removed, the last one first
+-- removes this many members, from the last to the first
 abbrev pub removals : (ℕ → Step) → ℕ → List Edit
 removals remove zero = []
 removals remove (suc n) = One (remove n) ∷ removals remove n
 
--- a sample that has a link becomes mono
+-- makes a linked sample mono
 abbrev pub mono_edits : ℕ → Kind → List Edit
 mono_edits i Mono = []
 mono_edits i (Right link) = One (steps.Points i (SetKind Mono)) ∷ []
@@ -42,7 +42,7 @@ mono_edits i (Linked link) = One (steps.Points i (SetKind Mono)) ∷ []
 abbrev pub unlink_edits : ℕ → Sample → List Edit
 unlink_edits i s = mono_edits i s.kind
 
--- a text that is not empty becomes what it is in a file that has none
+-- resets a text to its value in the empty bank, unless it is empty
 abbrev pub reset_edits : InfoId → List ℕ → List Edit
 reset_edits id [] = []
 reset_edits id (byte ∷ text) = One (steps.Text (SetInfo id (text_of empty_texts id))) ∷ []
@@ -75,9 +75,9 @@ taken_down b =
     ++ (removals remove_sample (length b.samples)
     ++ resets b.texts)))
 
--- ---- its lines
+-- ---- the lines of these edits
 
--- a word and the number of each member, the last one's first
+-- a word and the number of each member, from the last to the first
 abbrev pub removal_lines : List ℕ → ℕ → List ℕ
 removal_lines word zero = []
 removal_lines word (suc n) = line_text word (Number n ∷ []) ++ removal_lines word n

@@ -2,28 +2,29 @@
 ghost use Rattle.bank_text.specs.Whole.{GivesBank, LeadsAnywhere};
 ghost use Rattle.bank_text.specs.Printed.{TextGivesBank, TextTellsBank, ReplacementLeads};
 
-/// The empty bank takes each of the edits that list a sound bank in its turn, and they give that bank.
+/// The edits that list a sound bank are accepted in order by the empty bank of its minor version, and lead to
+/// the bank.
 pub fn edits_give_bank()
     ensures { GivesBank }
 {}
 
-/// A sound bank leads to any other of its minor version by edits, each of which is taken in its turn.
+/// A sound bank leads to any other sound bank of its minor version by edits that are accepted in order.
 pub fn edits_lead_anywhere()
     ensures { LeadsAnywhere }
 {}
 
-/// A sound bank's text is a script, whose edits the empty bank takes in their turn, and which give that bank.
+/// A sound bank's text is a script whose edits are accepted in order by the empty bank, and lead to the bank.
 pub fn text_gives_bank()
     ensures { TextGivesBank }
 {}
 
-/// No two sound banks have the same text.
+/// Two different sound banks have different texts.
 pub fn text_tells_bank()
     ensures { TextTellsBank }
 {}
 
-/// The edits that replace a sound bank by another of its minor version are a script, each of which is
-/// taken in its turn, and which lead from the one to the other.
+/// The text that replaces a sound bank with another of its minor version is a script whose edits are accepted
+/// in order, and lead from the first bank to the second.
 pub fn replacement_leads()
     ensures { ReplacementLeads }
 {}

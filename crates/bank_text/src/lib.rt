@@ -1,5 +1,5 @@
-//! A bank as text: the script of edits that makes it from the empty bank of its minor version, and the
-//! one that replaces a bank by another.
+//! A bank as text: the script that creates it from the empty bank of its minor version, and the script that
+//! replaces a bank with another.
 #![tactic(auto)]
 
 mod laws;

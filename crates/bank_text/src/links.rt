@@ -13,7 +13,7 @@ use outputs::Output;
 use script_grammar::put_kind;
 use std::io::Write;
 
-// A line for each sample that has a link.
+// Writes a line for each sample that has a link.
 #[tactic(auto, using(outputs::proofs::OutputLaws::putting_start))]
 pub(crate) fn put_links<W: Write>(samples: &[Sample<'_>], output: &mut Output<'_, W>)
     ensures { Puts W.contents output.old output.new (texts_of (in_turn link_edits 0 samples.now)) }
@@ -23,7 +23,7 @@ pub(crate) fn put_links<W: Write>(samples: &[Sample<'_>], output: &mut Output<'_
     }
 }
 
-// The line of a link, and nothing for a mono sample.
+// Writes the line of a link; a mono sample has none.
 fn put_link<W: Write>(number: u64, kind: Kind, output: &mut Output<'_, W>)
     ensures { Puts W.contents output.old output.new (texts_of (kind_edits number kind)) }
 {
@@ -33,7 +33,7 @@ fn put_link<W: Write>(number: u64, kind: Kind, output: &mut Output<'_, W>)
     }
 }
 
-// The line that sets a sample's kind.
+// Writes the line that sets a sample's kind.
 pub(crate) fn put_set_kind<W: Write>(number: u64, kind: Kind, output: &mut Output<'_, W>)
     ensures { Puts W.contents output.old output.new (text_of (One (steps.Points number (SetKind kind)))) }
 {

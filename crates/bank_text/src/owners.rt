@@ -1,4 +1,4 @@
-//! The lines that put presets or instruments in.
+//! The lines that add presets or instruments.
 ghost use Rattle.std.specs.Prelude.{◌≡◌, ◌<◌, length, slice_get, IfSome};
 ghost use Rattle.std.specs.List.{flat_map};
 ghost use Rattle.outputs.specs.Output.{Puts};
@@ -15,7 +15,7 @@ use script_grammar::put_name;
 use sf_base::{Lent, Name20};
 use std::io::Write;
 
-/// What a preset or an instrument has besides its zones, on the line that puts one in.
+/// The head of a preset or an instrument, on the line that adds the owner.
 pub(crate) trait AddedHead: OwnerHead {
     ghost use Rattle.std.specs.Prelude.{List, ℕ};
     ghost use Rattle.script_grammar.specs.Operands.{Operand};
@@ -23,14 +23,14 @@ pub(crate) trait AddedHead: OwnerHead {
     /// The word of the form.
     ghost word: { List ℕ };
 
-    /// What stands behind the number.
+    /// The operands after the number.
     ghost operands: { Self → List Operand };
 
     /// The word of the form.
     fn word() -> &'static [u8]
         ensures { result.now ≡ word };
 
-    /// Puts what stands behind the number, each token behind a space.
+    /// Writes the operands after the number, each token after a space.
     fn put_operands<W: Write>(&self, output: &mut Output<'_, W>)
         ensures { Puts W.contents output.old output.new (flat_map spaced (pieces_of (operands self.now))) };
 }
@@ -75,7 +75,7 @@ impl AddedHead for Name20 {
     }
 }
 
-// A line for each preset, or for each instrument.
+// Writes a line for each preset, or for each instrument.
 #[tactic(auto, using(outputs::proofs::OutputLaws::putting_start))]
 pub(crate) fn put_owners<H: AddedHead, W: Write>(owners: &Owners<H>, output: &mut Output<'_, W>)
     ensures { Puts W.contents output.old output.new (owner_lines H.word H.operands 0 owners.now) }
@@ -85,7 +85,7 @@ pub(crate) fn put_owners<H: AddedHead, W: Write>(owners: &Owners<H>, output: &mu
     }
 }
 
-// The line of number `i`, which is there.
+// Writes the line of owner `i`.
 fn put_owner<H: AddedHead, W: Write>(owners: &Owners<H>, i: usize, output: &mut Output<'_, W>)
     requires { i < length owners.now }
     ensures { IfSome (slice_get owners.now i) (λ x. Puts W.contents output.old output.new (owner_line H.word H.operands i x)) }

@@ -1,4 +1,4 @@
-//! What replaces one bank by another.
+//! The script that replaces a bank with another.
 ghost use Rattle.std.specs.Prelude.{◌≡◌, ◌<◌, length};
 ghost use Rattle.std.specs.List.{flat_map};
 ghost use Rattle.outputs.specs.Output.{Puts};
@@ -18,9 +18,9 @@ use line_tokens::{Piece, put_line};
 use outputs::Output;
 use std::io::Write;
 
-/// Puts the script that replaces a bank by another of its minor version: lines that take all of the
-/// first away, from its last preset to its first text, and those of the script of the other. Takes no
-/// memory.
+/// Writes the script that replaces `from` with `to`, which has the same minor version: lines that remove all
+/// parts of `from`, from its last preset to its first text, and then the lines that create `to`. It allocates
+/// nothing.
 pub fn put_replacement<W: Write>(from: &Bank<'_>, to: &Bank<'_>, output: &mut Output<'_, W>)
     ensures { Puts W.contents output.old output.new (texts_of (edits_between from.now to.now)) }
 {
@@ -28,7 +28,7 @@ pub fn put_replacement<W: Write>(from: &Bank<'_>, to: &Bank<'_>, output: &mut Ou
     put_parts(to, SamplePoints::Kept, output);
 }
 
-// The lines that take all of a bank away.
+// Writes the lines that remove all parts of a bank.
 fn put_taken_down<W: Write>(bank: &Bank<'_>, output: &mut Output<'_, W>)
     ensures puts { Puts W.contents output.old output.new (texts_of (taken_down bank.now)) }
     ensures engine { 0 < length bank.now.texts.engine }
@@ -40,7 +40,7 @@ fn put_taken_down<W: Write>(bank: &Bank<'_>, output: &mut Output<'_, W>)
     put_resets(bank, output);
 }
 
-// A line of this word for each of so many members, the last one first.
+// Writes a line of this word for each of `count` members, from the last to the first.
 #[tactic(auto, using(outputs::proofs::OutputLaws::putting_start))]
 fn put_removals<W: Write>(word: &[u8], count: usize, output: &mut Output<'_, W>)
     ensures { Puts W.contents output.old output.new (removal_lines word.now count) }
@@ -51,7 +51,7 @@ fn put_removals<W: Write>(word: &[u8], count: usize, output: &mut Output<'_, W>)
     }
 }
 
-// A line for each sample that has a link, the last one first.
+// Writes a line for each sample that has a link, from the last to the first.
 fn put_unlinks<W: Write>(samples: &[Sample<'_>], output: &mut Output<'_, W>)
     ensures { Puts W.contents output.old output.new (texts_of (in_reverse unlink_edits 0 samples.now)) }
 {
@@ -62,7 +62,7 @@ fn put_unlinks<W: Write>(samples: &[Sample<'_>], output: &mut Output<'_, W>)
     }
 }
 
-// The line that takes a link away, and nothing for a mono sample.
+// Writes the line that removes a link; a mono sample has none.
 fn put_unlink<W: Write>(number: u64, kind: Kind, output: &mut Output<'_, W>)
     ensures { Puts W.contents output.old output.new (texts_of (mono_edits number kind)) }
 {
@@ -74,7 +74,7 @@ fn put_unlink<W: Write>(number: u64, kind: Kind, output: &mut Output<'_, W>)
     }
 }
 
-// A line for each text that is not empty, the last one first.
+// Writes a line for each text that is not empty, from the last to the first.
 fn put_resets<W: Write>(bank: &Bank<'_>, output: &mut Output<'_, W>)
     ensures { Puts W.contents output.old output.new (texts_of (resets bank.now.texts)) }
 {
@@ -91,7 +91,7 @@ fn put_resets<W: Write>(bank: &Bank<'_>, output: &mut Output<'_, W>)
     put_each_reset(bank, &last_first, output);
 }
 
-// A line for each of these texts that is not empty.
+// Writes a line for each of these texts that is not empty.
 #[tactic(auto, using(outputs::proofs::OutputLaws::putting_start, outputs::proofs::OutputLaws::putting_end))]
 fn put_each_reset<W: Write>(bank: &Bank<'_>, ids: &[InfoId], output: &mut Output<'_, W>)
     ensures { Puts W.contents output.old output.new (flat_map (λ (id : InfoId). texts_of (reset_edits id (info.text_of bank.now.texts id))) ids.now) }
@@ -101,7 +101,7 @@ fn put_each_reset<W: Write>(bank: &Bank<'_>, ids: &[InfoId], output: &mut Output
     }
 }
 
-// The line that resets a text, and nothing where it is empty.
+// Writes the line that resets a text; an empty text has none.
 fn put_reset<W: Write>(id: InfoId, text: &[u8], output: &mut Output<'_, W>)
     ensures { Puts W.contents output.old output.new (texts_of (reset_edits id text.now)) }
 {
@@ -110,7 +110,7 @@ fn put_reset<W: Write>(id: InfoId, text: &[u8], output: &mut Output<'_, W>)
     }
 }
 
-// What a text is in a file that has none.
+// The value of a text in the empty bank.
 fn first_text(id: InfoId) -> &'static [u8]
     ensures { result.now ≡ info.text_of empty_texts id }
 {

@@ -1,4 +1,4 @@
-//! The lines that put samples in.
+//! The lines that add samples.
 ghost use Rattle.std.specs.Prelude.{◌≡◌, ◌∷◌, []};
 ghost use Rattle.std.specs.List.{flat_map};
 ghost use Rattle.outputs.specs.Output.{Puts};
@@ -22,16 +22,16 @@ use sample_view::Points;
 use script_grammar::{put_kind, put_loop, put_name, put_points, put_tune};
 use std::io::Write;
 
-/// What the script of a bank tells of the points of its samples.
+/// Whether the script of a bank has the points of its samples.
 #[derive(Clone, Copy, Debug, PartialEq, Eq)]
 pub enum SamplePoints {
-    /// All of them, so that the script makes the bank.
+    /// All points, so that the script creates the bank.
     Kept,
-    /// None of them: such a script is short, but it is for reading and comparing alone.
+    /// No points: the script is short, but can only be read and compared.
     LeftOut,
 }
 
-// A line for each sample, without its link.
+// Writes a line for each sample, without its link.
 #[tactic(auto, using(outputs::proofs::OutputLaws::putting_start))]
 pub(crate) fn put_samples<W: Write>(
     samples: &[Sample<'_>],
@@ -45,7 +45,7 @@ pub(crate) fn put_samples<W: Write>(
     }
 }
 
-// The line of a sample.
+// Writes the line of a sample.
 fn put_sample<W: Write>(
     number: u64,
     sample: &Sample<'_>,
@@ -61,7 +61,7 @@ fn put_sample<W: Write>(
     output.put(b"\n");
 }
 
-// All of a sample but its points, as if it had no link.
+// Writes a sample without its points, and as mono.
 fn put_mono_head<W: Write>(sample: &Sample<'_>, output: &mut Output<'_, W>)
     ensures { Puts W.contents output.old output.new (flat_map spaced (pieces_of (head_operands (of_kind Mono sample.now)))) }
 {
@@ -71,7 +71,7 @@ fn put_mono_head<W: Write>(sample: &Sample<'_>, output: &mut Output<'_, W>)
     put_loop(sample.looped, output);
 }
 
-// The points, or none.
+// Writes the points, or none.
 fn put_told_points<W: Write>(points: &Points<'_>, told: SamplePoints, output: &mut Output<'_, W>)
     ensures { Puts W.contents output.old output.new (flat_map spaced (pieces_of (operand.Points (told_points told points.now) ∷ []))) }
 {

@@ -15,10 +15,10 @@ use outputs::Output;
 use sf_base::Lent;
 use std::io::Write;
 
-/// Puts the script that makes a bank of the empty bank of its minor version: a comment that names the
-/// command for that bank, and a line for each edit, first of the texts that are not empty, then of the
-/// samples, their links, the instruments and the presets. Without the points, the comment says so, and
-/// each sample stands with none. Takes no memory.
+/// Writes the script that creates a bank from the empty bank of its minor version: a comment with the command
+/// that creates the empty bank, and a line for each edit, first of the texts that are not empty, then of the
+/// samples, their links, the instruments and the presets. With [`SamplePoints::LeftOut`] the comment states
+/// that points are left out, and each sample has none. It allocates nothing.
 pub fn put_bank_text<W: Write>(bank: &Bank<'_>, points: SamplePoints, output: &mut Output<'_, W>)
     ensures { Puts W.contents output.old output.new (bank_script points bank.now) }
 {
@@ -26,7 +26,7 @@ pub fn put_bank_text<W: Write>(bank: &Bank<'_>, points: SamplePoints, output: &m
     put_parts(bank, points, output);
 }
 
-// The comment before all edits.
+// Writes the comment before all edits.
 fn put_first_line<W: Write>(points: SamplePoints, minor: u16, output: &mut Output<'_, W>)
     ensures { Puts W.contents output.old output.new (first_line points minor) }
 {
@@ -41,7 +41,7 @@ fn put_first_line<W: Write>(points: SamplePoints, minor: u16, output: &mut Outpu
     }
 }
 
-// The lines of the edits.
+// Writes the lines of the edits.
 pub(crate) fn put_parts<W: Write>(bank: &Bank<'_>, points: SamplePoints, output: &mut Output<'_, W>)
     ensures { Puts W.contents output.old output.new (texts_of (edits_of_bank (with_points points bank.now))) }
 {

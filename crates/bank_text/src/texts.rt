@@ -17,14 +17,14 @@ use script_grammar::HasWord;
 use sf_base::Lent;
 use std::io::Write;
 
-// A line for each text that is not empty.
+// Writes a line for each text that is not empty.
 pub(crate) fn put_texts<W: Write>(bank: &Bank<'_>, output: &mut Output<'_, W>)
     ensures { Puts W.contents output.old output.new (texts_of (texts_edits bank.now.texts)) }
 {
     put_each_text(bank, InfoId::all(), output);
 }
 
-// A line for each of these texts that is not empty.
+// Writes a line for each of these texts that is not empty.
 #[tactic(auto, using(outputs::proofs::OutputLaws::putting_start, outputs::proofs::OutputLaws::putting_end))]
 fn put_each_text<W: Write>(bank: &Bank<'_>, ids: &[InfoId], output: &mut Output<'_, W>)
     ensures { Puts W.contents output.old output.new (flat_map (λ (id : InfoId). texts_of (text_edits id (info.text_of bank.now.texts id))) ids.now) }
@@ -34,7 +34,7 @@ fn put_each_text<W: Write>(bank: &Bank<'_>, ids: &[InfoId], output: &mut Output<
     }
 }
 
-// The line of a text, and nothing where it is empty.
+// Writes the line of a text; an empty text has none.
 fn put_text<W: Write>(id: InfoId, text: &[u8], output: &mut Output<'_, W>)
     ensures { Puts W.contents output.old output.new (texts_of (text_edits id text.now)) }
 {
@@ -43,7 +43,7 @@ fn put_text<W: Write>(id: InfoId, text: &[u8], output: &mut Output<'_, W>)
     }
 }
 
-// The line that sets a text.
+// Writes the line that sets a text.
 #[tactic(auto, unfolding(edit_script::specs::Printing::text_of))]
 pub(crate) fn put_set_info<W: Write>(id: InfoId, text: &[u8], output: &mut Output<'_, W>)
     ensures { Puts W.contents output.old output.new (text_of (One (steps.Text (SetInfo id text.now)))) }

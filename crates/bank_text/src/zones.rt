@@ -1,4 +1,4 @@
-//! The zones of a preset or an instrument, put on its line.
+//! The zones of a preset or an instrument on its line.
 ghost use Rattle.std.specs.Prelude.{◌≡◌, ◌<◌, length, slice_get, IfSome};
 ghost use Rattle.std.specs.List.{flat_map};
 ghost use Rattle.outputs.specs.Output.{Puts};
@@ -17,7 +17,7 @@ use script_grammar::put_items;
 use sf_base::Lent;
 use std::io::Write;
 
-// The global zone and the zones of number `i`, which is there, each token behind a space.
+// Writes the global zone and the zones of owner `i`, each token after a space.
 pub(crate) fn put_zones_of<H: OwnerHead, W: Write>(
     owners: &Owners<H>,
     i: usize,
@@ -30,8 +30,7 @@ pub(crate) fn put_zones_of<H: OwnerHead, W: Write>(
     put_own_zones(owners, i, output);
 }
 
-/// Puts the global zone of number `i`, which is there, each token behind a space, and nothing where it is
-/// empty.
+/// Writes the global zone of owner `i`, each token after a space; nothing if it is empty.
 pub fn put_global_of<H: OwnerHead, W: Write>(
     owners: &Owners<H>,
     i: usize,
@@ -50,7 +49,7 @@ pub fn put_global_of<H: OwnerHead, W: Write>(
     }
 }
 
-// The zones besides the global one.
+// Writes the zones of owner `i` without its global zone.
 fn put_own_zones<H: OwnerHead, W: Write>(owners: &Owners<H>, i: usize, output: &mut Output<'_, W>)
     requires { i < length owners.now }
     ensures { IfSome (slice_get owners.now i) (λ x. Puts W.contents output.old output.new (flat_map (λ (z : Zone). flat_map spaced (pieces_of (zone_operands (written_zone z)))) x.zones)) }
@@ -60,7 +59,7 @@ fn put_own_zones<H: OwnerHead, W: Write>(owners: &Owners<H>, i: usize, output: &
     }
 }
 
-/// Puts zone `k` of number `i`, both of which are there, each token behind a space.
+/// Writes zone `k` of owner `i`, each token after a space.
 pub fn put_zone_of<H: OwnerHead, W: Write>(
     owners: &Owners<H>,
     i: usize,

@@ -4,7 +4,7 @@ use Rattle.edit_script.specs.Printing.{texts_of}
 use Rattle.bank_text.specs.Listed.{in_turn, link_edits}
 use Rattle.bank_text.proofs.links.put_links.Given as goal
 
--- the lines of the samples that are ahead are still to be put
+-- the lines of the remaining samples are still to be written
 abbrev pub invariant-loop-number : goal.invariant-loop-number
 invariant-loop-number g l =
     Putting g.W.Write.contents l.initial.output l.output (texts_of (in_turn link_edits 0 l.samples))

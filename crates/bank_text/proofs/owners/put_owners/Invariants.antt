@@ -3,7 +3,7 @@ use Rattle.outputs.proofs.OutputLaws.{Putting}
 use Rattle.bank_text.specs.Lines.{owner_lines}
 use Rattle.bank_text.proofs.owners.put_owners.Given as goal
 
--- the lines of those that are ahead are still to be put
+-- the lines of the remaining owners are still to be written
 abbrev pub invariant-loop-number : goal.invariant-loop-number
 invariant-loop-number g l =
     Putting g.W.Write.contents l.initial.output l.output

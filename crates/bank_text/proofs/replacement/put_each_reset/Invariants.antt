@@ -4,7 +4,7 @@ use Rattle.outputs.proofs.OutputLaws.{Putting}
 use Rattle.bank_text.proofs.DownLaws.{reset_lines}
 use Rattle.bank_text.proofs.replacement.put_each_reset.Given as goal
 
--- the lines of the texts that are left are still to be put
+-- the lines of the remaining texts are still to be written
 abbrev pub invariant-loop-id : goal.invariant-loop-id
 invariant-loop-id g l =
     Putting g.W.Write.contents l.initial.output l.output (flat_map (reset_lines l.bank.texts) l.ids)

@@ -4,7 +4,7 @@ use Rattle.edit_script.specs.Printing.{texts_of}
 use Rattle.bank_text.specs.TakenDown.{in_reverse, unlink_edits}
 use Rattle.bank_text.proofs.replacement.put_unlinks.Given as goal
 
--- the lines of the samples before are still to be put
+-- the lines of the preceding samples are still to be written
 abbrev pub invariant-loop-done : goal.invariant-loop-done
 invariant-loop-done g l =
     Putting g.W.Write.contents l.initial.output l.output (texts_of (in_reverse unlink_edits 0 l.samples))

@@ -5,7 +5,7 @@ use Rattle.bank_text.specs.Listed.{in_turn}
 use Rattle.bank_text.specs.Printed.{told_edits}
 use Rattle.bank_text.proofs.samples.put_samples.Given as goal
 
--- the lines of the samples that are ahead are still to be put
+-- the lines of the remaining samples are still to be written
 abbrev pub invariant-loop-number : goal.invariant-loop-number
 invariant-loop-number g l =
     Putting g.W.Write.contents l.initial.output l.output (texts_of (in_turn (told_edits l.points) 0 l.samples))
