@@ -1,4 +1,4 @@
-//! The presets or the instruments of a bank, read as the other bank numbers what they target.
+//! The presets or the instruments of a bank, with targets renumbered for the bank that is edited.
 use crate::numbers::target_number;
 use bank_core::{Owners, ZonePlace};
 use bank_parts::{GlobalZone, OwnerHead, WithZones, Zone};
@@ -9,8 +9,8 @@ use numbered_lists::NumberedList;
 use sf_base::OutOfMemory;
 use std::alloc::Global;
 
-/// Presets or instruments, and the number that each target has in the bank that is edited; where none are
-/// given they are those that it has here.
+/// Presets or instruments. `targets` has, for each target here, its number in the bank that is edited; with
+/// `None` the numbers are the same.
 #[derive(Clone, Copy)]
 pub struct Level<'s, H: OwnerHead> {
     pub owners: &'s Owners<H>,
@@ -18,12 +18,12 @@ pub struct Level<'s, H: OwnerHead> {
 }
 
 impl<'s, H: OwnerHead> Level<'s, H> {
-    /// How many there are.
+    /// The number of owners.
     pub(crate) fn len(&self) -> usize {
         self.owners.len()
     }
 
-    /// What number `i` has besides its zones, if it is there.
+    /// The head of owner `i`, if there is one.
     pub(crate) fn head(&self, i: usize) -> Option<H> {
         if i >= self.owners.len() {
             return None;
@@ -31,7 +31,7 @@ impl<'s, H: OwnerHead> Level<'s, H> {
         Some(*self.owners.head(i))
     }
 
-    /// How many zones number `i` has.
+    /// The number of zones of owner `i`.
     pub(crate) fn zone_count(&self, i: usize) -> usize {
         if i >= self.owners.len() {
             return 0;
@@ -39,7 +39,7 @@ impl<'s, H: OwnerHead> Level<'s, H> {
         self.owners.zone_count(i)
     }
 
-    /// The target of zone `k` of number `i`.
+    /// The target of zone `k` of owner `i`, in the numbers of the bank that is edited.
     pub(crate) fn target(&self, i: usize, k: usize) -> u16 {
         if !self.owners.has_place(i, ZonePlace::Zone(k)) {
             return 0;
@@ -47,7 +47,7 @@ impl<'s, H: OwnerHead> Level<'s, H> {
         self.renumbered(self.owners.target(i, k))
     }
 
-    /// The generators of a place of number `i`.
+    /// The generators at a place of owner `i`.
     pub(crate) fn entries(&self, i: usize, place: ZonePlace) -> &'s [(u16, u16)] {
         if !self.owners.has_place(i, place) {
             return &[];
@@ -55,7 +55,7 @@ impl<'s, H: OwnerHead> Level<'s, H> {
         self.owners.entries(i, place)
     }
 
-    /// The amount of an operator in a place of number `i`, if it is set there.
+    /// The amount of an operator at a place of owner `i`, if it is set there.
     pub(crate) fn amount(&self, i: usize, place: ZonePlace, operator: u16) -> Option<u16> {
         if !self.owners.has_place(i, place) {
             return None;
@@ -63,7 +63,7 @@ impl<'s, H: OwnerHead> Level<'s, H> {
         self.owners.amount(i, place, operator)
     }
 
-    /// The modulators of a place of number `i`.
+    /// The modulators at a place of owner `i`.
     pub(crate) fn mods(&self, i: usize, place: ZonePlace) -> &'s [Modulator] {
         if !self.owners.has_place(i, place) {
             return &[];
@@ -71,7 +71,7 @@ impl<'s, H: OwnerHead> Level<'s, H> {
         self.owners.mods(i, place)
     }
 
-    /// A copy of zone `k` of number `i`, if it is there.
+    /// A copy of zone `k` of owner `i`, if there is one.
     pub(crate) fn zone(
         &self,
         alloc: Global,
@@ -86,7 +86,7 @@ impl<'s, H: OwnerHead> Level<'s, H> {
         Ok(Some(zone))
     }
 
-    /// A copy of number `i`, if it is there.
+    /// A copy of owner `i`, if there is one.
     pub(crate) fn owner(
         &self,
         alloc: Global,
@@ -134,7 +134,7 @@ impl<'s, H: OwnerHead> Level<'s, H> {
         }
     }
 
-    /// The key of all zones of number `i`.
+    /// The hash key of all zones of owner `i`.
     pub(crate) fn contents_key(&self, i: usize) -> u64 {
         let mut key = self.settings_key(NOTHING, i, ZonePlace::Global);
         for k in 0..self.zone_count(i) {
@@ -143,7 +143,7 @@ impl<'s, H: OwnerHead> Level<'s, H> {
         key
     }
 
-    /// The key of the targets of number `i`.
+    /// The hash key of the targets of owner `i`.
     pub(crate) fn targets_key(&self, i: usize) -> u64 {
         let mut key = NOTHING;
         for k in 0..self.zone_count(i) {
@@ -152,7 +152,7 @@ impl<'s, H: OwnerHead> Level<'s, H> {
         key
     }
 
-    /// The key of all that a zone has, behind another.
+    /// The hash key of a zone, appended to another key.
     pub(crate) fn zone_key(&self, key: u64, i: usize, k: usize) -> u64 {
         let key = with_number(key, self.target(i, k).into());
         self.settings_key(key, i, ZonePlace::Zone(k))

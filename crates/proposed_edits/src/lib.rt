@@ -1,6 +1,6 @@
-//! Edits that bring a bank nearer to another, by what they have in common: texts, samples, instruments and
-//! presets with their zones. They are proposals: whoever takes them tries each on a copy of the bank and
-//! compares what comes of them, so nothing is promised of them but that each call is safe.
+//! Proposes edits that make a bank more similar to another: texts, samples, instruments and presets with
+//! their zones. Callers try each edit on a copy of the bank and compare the result with the other bank; each
+//! call here is only proved not to panic.
 #![tactic(auto)]
 
 mod level;

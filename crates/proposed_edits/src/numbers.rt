@@ -1,4 +1,4 @@
-//! Numbers of members, as edits have them. One that no member can have stands for those that are too large.
+//! Numbers of members, as edits have them. A number that is too large becomes the maximum, which no member has.
 
 /// The number of a member.
 pub(crate) fn member_number(place: usize) -> u32 {

@@ -1,16 +1,16 @@
-//! Steps, put behind others. A step has a long layout, which the proof of a function that holds one has at each of
-//! its points: so functions with loops and several exits leave it to these.
+//! Appends steps to a list. A step has a long layout, which is in the proof of a function at each point where
+//! the function holds a step; so functions with loops and several exits call these instead.
 use bank_core::{Owner, Place};
 use edit_forms::{PointStep, SampleStep, SettingStep, Step, ZoneStep};
 use sf_base::OutOfMemory;
 
-/// Puts a step behind the others.
+/// Appends a step.
 pub(crate) fn push_step<'a>(steps: &mut Vec<Step<'a>>, step: Step<'a>) -> Result<(), OutOfMemory> {
     steps.push(step)?;
     Ok(())
 }
 
-/// The same of a step that edits the list of samples.
+/// Appends a step that edits the list of samples.
 pub(crate) fn push_sample_step<'a>(
     steps: &mut Vec<Step<'a>>,
     step: SampleStep<'a>,
@@ -18,7 +18,7 @@ pub(crate) fn push_sample_step<'a>(
     push_step(steps, Step::Sample(step))
 }
 
-/// The same of a step that edits a sample.
+/// Appends a step that edits a sample.
 pub(crate) fn push_point_step<'a>(
     steps: &mut Vec<Step<'a>>,
     sample: u32,
@@ -27,7 +27,7 @@ pub(crate) fn push_point_step<'a>(
     push_step(steps, Step::Points(sample, step))
 }
 
-/// The same of a step that edits zones.
+/// Appends a step that edits the zones of an owner.
 pub(crate) fn push_zone_step<'a>(
     steps: &mut Vec<Step<'a>>,
     owner: Owner,
@@ -36,7 +36,7 @@ pub(crate) fn push_zone_step<'a>(
     push_step(steps, Step::Zone(owner, step))
 }
 
-/// The same of a step that edits a place.
+/// Appends a step that edits the generators or modulators of a place.
 pub(crate) fn push_setting_step<'a>(
     steps: &mut Vec<Step<'a>>,
     owner: Owner,

@@ -1,4 +1,4 @@
-//! The generators and modulators of a place that differ.
+//! Proposes edits of the generators and modulators of a place.
 use crate::numbers::member_number;
 use crate::pushing::push_setting_step;
 use bank_core::{Owner, Place};
@@ -7,7 +7,7 @@ use list_orders::{before, behind, common_back, common_front};
 use modulators::Modulator;
 use sf_base::OutOfMemory;
 
-/// Steps that give a place the generators that are wanted.
+/// Proposes steps that give a place the wanted generators.
 pub(crate) fn gen_steps<'a>(
     steps: &mut Vec<Step<'a>>,
     owner: Owner,
@@ -40,7 +40,7 @@ fn clear_steps<'a>(
     Ok(())
 }
 
-/// Whether modulators differ that no step can change, as there is a link among them.
+/// Whether the modulators differ but no step can change them, as one of them is a link.
 pub(crate) fn mods_are_barred(had: &[Modulator], wanted: &[Modulator]) -> bool {
     had != wanted && (has_link(had) || has_link(wanted))
 }
@@ -49,7 +49,7 @@ fn has_link(mods: &[Modulator]) -> bool {
     mods.iter().any(|modulator| modulator.is_link())
 }
 
-/// Steps that give a place the modulators that are wanted, where they are not barred.
+/// Proposes steps that give a place the wanted modulators, where steps can change them.
 pub(crate) fn mod_steps<'a>(
     steps: &mut Vec<Step<'a>>,
     owner: Owner,

@@ -1,4 +1,4 @@
-//! The zones that are split in two.
+//! Proposes splits of zones.
 use crate::numbers::member_number;
 use crate::pushing::push_zone_step;
 use crate::zones::Pair;
@@ -10,7 +10,8 @@ use sf_base::OutOfMemory;
 use zone_ranges::range_operator;
 
 impl<'s, H: OwnerHead> Pair<'s, H> {
-    /// Steps that split each zone that two zones are wanted of, where those before it are none or split too.
+    /// Proposes a split of each zone that corresponds to two wanted zones, if the zones before it are
+    /// unchanged or split too.
     pub(crate) fn split_steps<'a>(&self, steps: &mut Vec<Step<'a>>) -> Result<(), OutOfMemory> {
         let mut splits: usize = 0;
         for zone in 0..self.had.zone_count(self.i) {
@@ -28,7 +29,7 @@ impl<'s, H: OwnerHead> Pair<'s, H> {
         Ok(())
     }
 
-    // On which axis and where a zone is split into this one that is wanted and the next.
+    // The axis and the value at which a zone is split into the zone `wanted` and the next.
     fn split_of(&self, zone: usize, wanted: usize) -> Option<(Axis, u8)> {
         if let Some(at) = self.split_at(zone, wanted, Axis::Key) {
             return Some((Axis::Key, at));
@@ -52,13 +53,13 @@ impl<'s, H: OwnerHead> Pair<'s, H> {
         if is_split { Some(high.low) } else { None }
     }
 
-    // The own range of a zone that is wanted.
+    // The own range of a wanted zone.
     fn wanted_range(&self, k: usize, operator: u16) -> Option<Range> {
         let amount = self.wanted.amount(self.j, ZonePlace::Zone(k), operator)?;
         Some(Range::of_amount(amount))
     }
 
-    // The range that holds for a zone that is there.
+    // The effective range of an existing zone: its own, else the global zone's, else 0 to 127.
     fn had_range(&self, zone: usize, operator: u16) -> Range {
         let own = self.had.amount(self.i, ZonePlace::Zone(zone), operator);
         let inherited = self.had.amount(self.i, ZonePlace::Global, operator);
@@ -68,7 +69,7 @@ impl<'s, H: OwnerHead> Pair<'s, H> {
         }
     }
 
-    // Whether a zone agrees with one that is wanted in all but an operator.
+    // Whether an existing zone equals a wanted zone in all but an operator.
     fn is_alike_but(&self, zone: usize, wanted: usize, operator: u16) -> bool {
         let (had_place, wanted_place) = (ZonePlace::Zone(zone), ZonePlace::Zone(wanted));
         let had = self.had.entries(self.i, had_place);
@@ -80,7 +81,7 @@ impl<'s, H: OwnerHead> Pair<'s, H> {
     }
 }
 
-// Whether the first entries are all among the second ones, but for an operator.
+// Whether all entries but an operator's are among the others.
 fn has_all_but(entries: &[(u16, u16)], others: &[(u16, u16)], operator: u16) -> bool {
     entries
         .iter()

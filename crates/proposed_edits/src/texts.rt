@@ -1,4 +1,4 @@
-//! The texts that differ.
+//! Proposes edits of texts.
 use crate::pushing::push_step;
 use bank_core::{Bank, InfoId};
 use edit_forms::{Step, TextStep};
@@ -16,7 +16,7 @@ const IDS: [InfoId; 8] = [
     InfoId::Software,
 ];
 
-/// Steps that give the bank the other's texts.
+/// Steps that give the bank `now` the texts of the bank `to`.
 pub fn text_steps<'a>(
     alloc: Global,
     now: &Bank<'a>,
