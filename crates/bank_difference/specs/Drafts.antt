@@ -24,6 +24,7 @@ pub record IsNoStep (old new : Parts) (was now : List Edit) : Type 0 where
   pub bank : new ≡ old
   pub list : now ≡ was
 
+-- a step is applied and listed, or nothing changes
 abbrev pub IsTry : {Why : Type 0} → Parts → Parts → List Edit → List Edit → Step → Result (Unit {0}) Why → Type 0
 IsTry old new was now s (Ok done) = IsDoneStep old new was now s
 IsTry old new was now s (Err why) = IsNoStep old new was now

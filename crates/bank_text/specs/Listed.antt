@@ -35,6 +35,7 @@ empty_texts =
       software = [];
     }
 
+-- the empty bank of a minor version
 abbrev pub empty : ℕ → Parts
 empty minor = record { minor = minor; texts = empty_texts; presets = []; instruments = []; samples = [] }
 
@@ -50,6 +51,7 @@ abbrev pub text_edits : InfoId → List ℕ → List Edit
 text_edits id [] = []
 text_edits id (byte ∷ text) = One (steps.Text (SetInfo id (byte ∷ text))) ∷ []
 
+-- sets each text that is not empty
 abbrev pub texts_edits : Texts → List Edit
 texts_edits t =
     text_edits id.Engine t.engine
@@ -72,17 +74,21 @@ kind_edits i (Right link) = One (steps.Points i (SetKind (Right link))) ∷ []
 kind_edits i (Left link) = One (steps.Points i (SetKind (Left link))) ∷ []
 kind_edits i (Linked link) = One (steps.Points i (SetKind (Linked link))) ∷ []
 
+-- sets the link of a sample that has one
 abbrev pub link_edits : ℕ → Sample → List Edit
 link_edits i s = kind_edits i s.kind
 
+-- adds an instrument
 abbrev pub instrument_edits : ℕ → WithZones (List ℕ) → List Edit
 instrument_edits i x = One (steps.Instrument (AddInstrument i x)) ∷ []
 
+-- adds a preset
 abbrev pub preset_edits : ℕ → WithZones Head → List Edit
 preset_edits i x = One (steps.Preset (AddPreset i x)) ∷ []
 
 -- ---- the bank
 
+-- the edits that lead from the empty bank to this bank
 abbrev pub edits_of_bank : Parts → List Edit
 edits_of_bank b =
     texts_edits b.texts

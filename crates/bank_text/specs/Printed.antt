@@ -16,16 +16,20 @@ use Rattle.bank_text.specs.Whole.{Leads, edits_between}
 
 -- ---- with and without points
 
+-- all points, or none
 abbrev pub told_points : SamplePoints → List ℕ → List ℕ
 told_points Kept points = points
 told_points LeftOut points = []
 
+-- a sample with its points, or without
 abbrev pub told_sample : SamplePoints → Sample → Sample
 told_sample how s = record s { points = told_points how s.points }
 
+-- adds a sample with its points, or without
 abbrev pub told_edits : SamplePoints → ℕ → Sample → List Edit
 told_edits how i s = sample_edits i (told_sample how s)
 
+-- a bank with its points, or without
 abbrev pub with_points : SamplePoints → Parts → Parts
 with_points Kept b = b
 with_points LeftOut b = record b { samples = map (told_sample LeftOut) b.samples }
@@ -51,6 +55,7 @@ pub record IsScript (from : Parts) (text : List ℕ) (to : Parts) : Type 0 where
   pub read : script_of text ≡ Ok lines
   pub leads : Leads from (map (λ (l : Line). l.edit) lines) to
 
+-- the text of a sound bank is a script that leads to it from the empty bank
 abbrev pub TextGivesBank : Type 0
 TextGivesBank = (b : Parts) → IsSound b → IsScript (empty b.minor) (bank_script Kept b) b
 

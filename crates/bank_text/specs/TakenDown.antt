@@ -39,6 +39,7 @@ mono_edits i (Right link) = One (steps.Points i (SetKind Mono)) ∷ []
 mono_edits i (Left link) = One (steps.Points i (SetKind Mono)) ∷ []
 mono_edits i (Linked link) = One (steps.Points i (SetKind Mono)) ∷ []
 
+-- removes the link of a sample that has one
 abbrev pub unlink_edits : ℕ → Sample → List Edit
 unlink_edits i s = mono_edits i s.kind
 
@@ -47,6 +48,7 @@ abbrev pub reset_edits : InfoId → List ℕ → List Edit
 reset_edits id [] = []
 reset_edits id (byte ∷ text) = One (steps.Text (SetInfo id (text_of empty_texts id))) ∷ []
 
+-- resets each text that is not empty, from the last to the first
 abbrev pub resets : Texts → List Edit
 resets t =
     reset_edits id.Software t.software
@@ -67,6 +69,7 @@ remove_instrument n = steps.Instrument (RemoveInstrument n)
 abbrev pub remove_sample : ℕ → Step
 remove_sample n = steps.Sample (RemoveSample n)
 
+-- the edits that lead from this bank to the empty bank
 abbrev pub taken_down : Parts → List Edit
 taken_down b =
     removals remove_preset (length b.presets)

@@ -60,6 +60,7 @@ abbrev pub is_over : List Said → Bool
 is_over [] = true
 is_over (s ∷ line) = false
 
+-- a step is appended
 abbrev pub with_step : List Step → Step → List Step
 with_step ss s = ss ++ s ∷ []
 
@@ -74,11 +75,13 @@ group = do
   ss ← steps_left []
   pure (Group ss)
 
+-- a step
 unfoldable pub one : Part Edit
 one = do
   s ← step
   pure (One s)
 
+-- a step, or a group of steps
 unfoldable pub one_or_group : Part Edit
 one_or_group line = if is_next (codes "group") line then group line else one line
 

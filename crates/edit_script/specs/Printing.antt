@@ -28,8 +28,10 @@ numbered n (e ∷ es) = record { number = n; edit = e } ∷ numbered (suc n) es
 
 -- ---- edits that a script can encode
 
+-- the values of all edits are in the ranges of their types
 abbrev pub AllFit : List Edit → Type 0
 AllFit es = AllByRecursion FitsEdit es
 
+-- the same of the edits of a script
 abbrev pub LinesFit : List Line → Type 0
 LinesFit ls = AllByRecursion (λ (l : Line). FitsEdit l.edit) ls

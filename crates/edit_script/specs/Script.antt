@@ -10,6 +10,7 @@ use Rattle.line_tokens.specs.Pool.{Grown, gather, on_line, pool_bytes}
 use Rattle.edit_script.specs.declared.parsing.Line.{Line}
 use Rattle.edit_script.specs.Grammar.{edit}
 
+-- the edit that is read from line n is appended, or the fault has the line's number
 abbrev pub with_edit : ℕ → List Line → Result (Took Edit) LineFault → Grown Line
 with_edit n lines (Ok t) = Ok (lines ++ record { number = n; edit = t.value } ∷ [])
 with_edit n lines (Err e) = Err (on_line n e)
@@ -19,6 +20,7 @@ unfoldable pub edit_of : ℕ → List Said → List Line → Grown Line
 edit_of n [] lines = Ok lines
 edit_of n (s ∷ line) lines = with_edit n lines (edit (s ∷ line))
 
+-- the edits of lines, with their line numbers
 unfoldable pub edits_in : List (List Said) → Grown Line
 edits_in lines = gather edit_of 1 lines []
 

@@ -11,13 +11,16 @@ use Rattle.line_tokens.specs.Said as saying
 
 -- ---- a parser: a value and the rest of the line, or the first fault
 
+-- a value that is read, and the rest of the line
 pub record Took (X : Type 0) : Type 0 where
   pub value : X
   pub rest : List Said
 
+-- a parser of the front of a line
 abbrev pub Part : Type 0 → Type 0
 Part X = List Said → Result (Took X) LineFault
 
+-- the next parser, applied to the rest of the line
 abbrev pub and_then : {X Y : Type 0} → Result (Took X) LineFault → (X → Part Y) → Result (Took Y) LineFault
 and_then (Ok t) f = f t.value t.rest
 and_then (Err e) f = Err e
@@ -66,9 +69,11 @@ ended x (s ∷ line) = Err faults.Syntax
 
 -- ---- numbers
 
+-- a decimal digit
 abbrev pub is_digit : ℕ → Bool
 is_digit b = nat_le 48 b && nat_le b 57
 
+-- the value of decimal digits
 abbrev pub digits_value : List ℕ → ℕ
 digits_value w = fold (λ n b. n * 10 + (b - 48)) 0 w
 
@@ -157,6 +162,7 @@ name = do
 
 -- ---- the contract of a function that implements a parser
 
+-- the function returns the parser's value or fault; on a value, it leaves the rest of the line, and the same pool
 abbrev pub Reads : {X Y : Type 0} → (X → Y) → Part Y → saying.Left → saying.Left → Result X LineFault → Type 0
 Reads view part old new (Ok x) =
     (part old.said ≡ Ok (record { value = view x; rest = new.said })) × (new.pool ≡ old.pool)

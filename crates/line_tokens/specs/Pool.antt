@@ -35,15 +35,18 @@ on_line n line.Literal = faults.Literal n
 
 -- ---- the pool: the bytes of all literals, or the fault of the first malformed one
 
+-- the pool after a token of line n
 unfoldable pub literal_of : ℕ → Said → List ℕ → Grown ℕ
 literal_of n (Word w) pool = Ok pool
 literal_of n (Literal bytes) pool = Ok (pool ++ bytes)
 literal_of n Bad pool = Err (faults.Literal n)
 
+-- the pool after the tokens of line n
 unfoldable pub literals_of : ℕ → List Said → List ℕ → Grown ℕ
 literals_of n [] pool = Ok pool
 literals_of n (s ∷ line) pool = and_then (literal_of n s pool) (λ more. literals_of n line more)
 
+-- the pool of a text
 unfoldable pub pool_bytes : List ℕ → Grown ℕ
 pool_bytes text = gather literals_of 1 (said_lines text) []
 

@@ -11,6 +11,7 @@ use Rattle.line_tokens.specs.Printing.{is_open}
 
 -- ---- tokens
 
+-- no space, tab or carriage return
 abbrev pub not_blank : ℕ → Bool
 not_blank b = not (is_blank b)
 

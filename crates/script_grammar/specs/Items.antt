@@ -57,6 +57,7 @@ abbrev pub with_items : GlobalZone → List Item → GlobalZone
 with_items content [] = content
 with_items content (i ∷ items) = with_items (with_item content i) items
 
+-- the content of a zone with these items
 abbrev pub content_of : List Item → GlobalZone
 content_of items = with_items no_content items
 
@@ -89,6 +90,7 @@ modulator = do
   transform ← number most_word
   pure (modulator_of source dest amount amount_source transform)
 
+-- an item after its first word
 unfoldable pub item_behind : List ℕ → Part Item
 item_behind w =
     if bytes_eq w (codes "g") then (generator >>= λ e. pure (item.Generator e.0 e.1))
@@ -109,5 +111,6 @@ closed x = do
 unfoldable pub items_on : GlobalZone → Part GlobalZone
 items_on content line = repeated (is_next (codes "}")) closed an_item with_item content line
 
+-- `ITEM* }`
 unfoldable pub items : Part GlobalZone
 items = items_on no_content

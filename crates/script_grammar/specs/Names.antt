@@ -17,8 +17,10 @@ next_named word_of xs = do
 
 -- ---- a fixed word
 
+-- whether a word is this text; another word is a fault of syntax
 unfoldable pub fixed_by : List ℕ → List ℕ → Part (Unit {0})
 fixed_by text w = if bytes_eq w text then pure tt else or_fault faults.Syntax None
 
+-- this word, and no other
 unfoldable pub fixed : List ℕ → Part (Unit {0})
 fixed text = word >>= fixed_by text

@@ -54,5 +54,6 @@ piece_of (Name bytes) = piece.Name bytes
 piece_of (Text bytes) = piece.Name bytes
 piece_of (Points ps) = piece.Hex (flat_map word_bytes ps)
 
+-- the pieces that are printed for operands
 abbrev pub pieces_of : List Operand → List Piece
 pieces_of os = map piece_of os

@@ -34,11 +34,13 @@ abbrev pub head_operands : Sample → List Operand
 head_operands s =
     (Name s.name ∷ tune_operands s.rate s.key s.correction) ++ (kind_operands s.kind ++ loop_operands s.looped)
 
+-- `NAME RATE KEY CORR KIND LOOP POINTS`
 abbrev pub body_operands : Sample → List Operand
 body_operands s = head_operands s ++ Points s.points ∷ []
 
 -- ---- parsers
 
+-- a kind after its first word
 unfoldable pub kind_behind : List ℕ → Part Kind
 kind_behind w =
     if bytes_eq w (codes "mono") then pure Mono
@@ -47,9 +49,11 @@ kind_behind w =
     else if bytes_eq w (codes "linked") then (number most_word >>= λ link. pure (Linked link))
     else or_fault faults.Syntax None
 
+-- `mono`, `right N`, `left N` or `linked N`
 unfoldable pub kind : Part Kind
 kind = word >>= kind_behind
 
+-- a loop after its first word
 unfoldable pub loop_behind : List ℕ → Part (Option (ℕ × ℕ))
 loop_behind w =
     if bytes_eq w (codes "noloop") then pure None
@@ -57,6 +61,7 @@ loop_behind w =
     then (number most_double_word >>= λ a. number most_double_word >>= λ b. pure (Some (a, b)))
     else or_fault faults.Syntax None
 
+-- `noloop` or `loop A B`
 unfoldable pub looped : Part (Option (ℕ × ℕ))
 looped = word >>= loop_behind
 
@@ -64,6 +69,7 @@ looped = word >>= loop_behind
 unfoldable pub points_of : List ℕ → Option (List ℕ)
 points_of bytes = if length bytes % 2 == 0 then Some (words bytes) else None
 
+-- a literal of whole points
 unfoldable pub points : Part (List ℕ)
 points = do
   bytes ← literal
@@ -77,6 +83,7 @@ tune = do
   correction ← signed 127
   pure (rate, key, correction)
 
+-- the sample with these fields
 abbrev pub sample_of : List ℕ → ℕ × ℕ × ℤ → Kind → Option (ℕ × ℕ) → List ℕ → Sample
 sample_of name tune kind looped points =
     record {

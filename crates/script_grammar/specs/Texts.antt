@@ -17,8 +17,10 @@ id_word Copyright = codes "ICOP"
 id_word Comment = codes "ICMT"
 id_word Software = codes "ISFT"
 
+-- the ids of all texts of a bank
 abbrev pub ids : List InfoId
 ids = Engine ∷ Name ∷ Date ∷ Engineers ∷ Product ∷ Copyright ∷ Comment ∷ Software ∷ []
 
+-- the id of a text
 unfoldable pub info_id : Part InfoId
 info_id = next_named id_word ids

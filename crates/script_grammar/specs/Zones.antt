@@ -18,6 +18,7 @@ use Rattle.script_grammar.specs.Items.{items_operands, no_content, content_of, i
 
 -- ---- zones as they are written
 
+-- a zone as it is written on a line: a target and items
 pub record WrittenZone : Type 0 where
   pub target : ℕ
   pub items : List Item
@@ -42,9 +43,11 @@ written_operands w = global_operands w.global ++ flat_map zone_operands w.zones
 
 -- ---- the value of zones on a line
 
+-- the zone with this target and content
 abbrev pub zone_of : ℕ → GlobalZone → Zone
 zone_of target content = record { target = target; gens = content.gens; mods = content.mods }
 
+-- the value of a zone that is written on a line
 abbrev pub zone_in : WrittenZone → Zone
 zone_in z = zone_of z.target (content_of z.items)
 
@@ -53,6 +56,7 @@ abbrev pub global_in : Option (List Item) → GlobalZone
 global_in None = no_content
 global_in (Some items) = content_of items
 
+-- the value of a global zone and zones that are written on a line
 abbrev pub zones_in : Written → GlobalZone × List Zone
 zones_in w = (global_in w.global, map zone_in w.zones)
 
@@ -67,12 +71,15 @@ listed_items entries mods =
 abbrev pub items_of : Gens → List Modulator → List Item
 items_of gens mods = listed_items (entries gens) mods
 
+-- an empty global zone is not printed
 abbrev pub global_of : GlobalZone → Option (List Item)
 global_of g = if len g.gens + length g.mods == 0 then None else Some (items_of g.gens g.mods)
 
+-- a zone as it is printed
 abbrev pub written_zone : Zone → WrittenZone
 written_zone z = record { target = z.target; items = items_of z.gens z.mods }
 
+-- a global zone and zones as they are printed
 abbrev pub written_of : GlobalZone → List Zone → Written
 written_of g zs = record { global = global_of g; zones = map written_zone zs }
 
@@ -100,6 +107,7 @@ abbrev pub is_end : List Said → Bool
 is_end [] = true
 is_end (s ∷ line) = is_next (codes "}") (s ∷ line)
 
+-- a zone is appended
 abbrev pub with_zone : List Zone → Zone → List Zone
 with_zone zs z = zs ++ z ∷ []
 

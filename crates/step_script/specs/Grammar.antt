@@ -23,6 +23,7 @@ use Rattle.step_script.specs.Texts as texts
 
 -- ---- the forms, by the parts of a bank that they edit
 
+-- all forms of step
 abbrev pub forms : List Form
 forms =
     presets.forms ++ instruments.forms ++ samples.forms ++ points.forms ++ zones.forms ++ settings.forms ++ texts.forms
@@ -64,6 +65,7 @@ step_operands s = Fixed (word_of s) ∷ operands s
 abbrev pub a_form : Part Form
 a_form = next_named form_word forms
 
+-- a step: the word of its form, and its operands
 unfoldable pub step : Part Step
 step = do
   form ← a_form

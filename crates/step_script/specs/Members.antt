@@ -54,6 +54,7 @@ naming = placed name
 unfoldable pub moving : Part (ℕ × ℕ)
 moving = placed (number most_double_word)
 
+-- an owner with this head, global zone and zones
 abbrev pub owner_of : {H : Type 0} → H → GlobalZone × List Zone → WithZones H
 owner_of head z = record { head = head; global = z.0; zones = z.1 }
 

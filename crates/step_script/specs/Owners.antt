@@ -13,6 +13,7 @@ use Rattle.step_script.specs.Members.{place}
 
 -- ---- the operands on a line
 
+-- the word of a preset or an instrument in `OWNER`
 abbrev pub kind_word : OwnerKind → List ℕ
 kind_word kind.Preset = codes "preset"
 kind_word kind.Instrument = codes "inst"
@@ -20,10 +21,12 @@ kind_word kind.Instrument = codes "inst"
 abbrev pub kinds : List OwnerKind
 kinds = kind.Preset ∷ kind.Instrument ∷ []
 
+-- whether an owner is a preset or an instrument
 abbrev pub kind_of : Owner → OwnerKind
 kind_of (owner.Preset p) = kind.Preset
 kind_of (owner.Inst i) = kind.Instrument
 
+-- the number of an owner
 abbrev pub number_in : Owner → ℕ
 number_in (owner.Preset p) = p
 number_in (owner.Inst i) = i
@@ -47,10 +50,12 @@ of_place o p = of_owner o ++ at_place p ∷ []
 
 -- ---- parsers
 
+-- the owner with this number
 abbrev pub owner_with : OwnerKind → ℕ → Owner
 owner_with kind.Preset n = owner.Preset n
 owner_with kind.Instrument n = owner.Inst n
 
+-- `preset P` or `inst I`
 unfoldable pub an_owner : Part Owner
 an_owner = do
   k ← next_named kind_word kinds

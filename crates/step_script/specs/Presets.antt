@@ -19,10 +19,12 @@ head_operands h =
     Name h.name ∷ Number most_word h.number ∷ Number most_word h.bank ∷ Number most_double_word h.library
     ∷ Number most_double_word h.genre ∷ Number most_double_word h.morphology ∷ []
 
+-- the head with these fields
 abbrev pub head_of : List ℕ → ℕ → ℕ → ℕ → ℕ → ℕ → Head
 head_of name number bank library genre morphology =
     record { name = name; number = number; bank = bank; library = library; genre = genre; morphology = morphology }
 
+-- `NAME NUMBER BANK LIBRARY GENRE MORPHOLOGY`
 unfoldable pub head : Part Head
 head = do
   n ← name
@@ -65,6 +67,7 @@ set_head = do
   bank ← number most_word
   pure (steps.Preset (SetHead n.0 n.1 program bank))
 
+-- the forms
 unfoldable pub forms : List Form
 forms =
     (codes "add-preset", add_preset) ∷ (codes "remove-preset", remove_preset) ∷ (codes "move-preset", move_preset)

@@ -61,6 +61,7 @@ set_mod = do
   m ← modulator
   pure (steps.Setting p.0 p.1 (SetMod j m))
 
+-- the forms
 unfoldable pub forms : List Form
 forms =
     (codes "set-gen", set_gen) ∷ (codes "clear-gen", clear_gen) ∷ (codes "add-mod", add_mod)

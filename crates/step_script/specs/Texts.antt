@@ -16,6 +16,7 @@ set_info = do
   text ← literal
   pure (steps.Text (SetInfo id text))
 
+-- the form
 unfoldable pub forms : List Form
 forms = (codes "set-info", set_info) ∷ []
 

@@ -77,6 +77,7 @@ set_target = do
   target ← number most_word
   pure (steps.Zone z.0 (SetTarget z.1 target))
 
+-- the forms
 unfoldable pub forms : List Form
 forms =
     (codes "add-zone", add_zone) ∷ (codes "remove-zone", remove_zone) ∷ (codes "move-zone", move_zone)
