@@ -1,4 +1,4 @@
--- A part of 1000 by two products of 16 bits.
+-- A share in 1000ths by two products of 16 bits.
 use Rattle.std.proofs.Common.{◌≡◌, ℕ, ◌+◌, ◌-◌, ◌*◌, ◌/◌, ◌%◌, ◌<◌, ◌≤◌, suc, ℤ, pos, negsuc, ◌+ℤ◌, ◌*ℤ◌, ◌≤ℤ◌}
 use Rattle.std.proofs.Common.{SFits, to_z, of_z, ap, subst, sym, ◌∙◌, arith}
 use Rattle.std.proofs.lemmas.Int.{ints}
@@ -9,7 +9,7 @@ use Rattle.voice_levels.proofs.LevelLaws.{product_within, shifted_down}
 use Rattle.sound_tables.specs.Floor.{floor_div}
 use Rattle.voices.specs.Levels.{side, fine_of}
 
--- a number, by its quotient that rounds down
+-- a number, as its quotient rounded down and its remainder
 record Split (z : ℤ) (n : ℕ) : Type 0 where
   rest : ℕ
   sum : floor_div z n *ℤ pos n +ℤ pos rest ≡ z
@@ -48,7 +48,7 @@ little (negsuc a) r h f =
     let m : suc a * r ≤ 32768 * 999 = mul-le (suc a) r 32768 999 (omega (arith, ints, f)) h in
     record { low = omega (arith, ints, m); high = omega (arith, ints, m) }
 
--- what is too much is less than the least that the quotient leaves
+-- rounding the share up to 2^28ths does not change the rounded product
 pub fine_side : (z : ℤ) (part h l : ℕ) → h * 16384 + l ≡ fine_of part → SFits w16 z
     → floor_div (z *ℤ pos h +ℤ floor_div (z *ℤ pos l +ℤ pos 32768) 16384) 16384 ≡ side z part
 unfolding side
@@ -171,7 +171,7 @@ computed z h l frame high low fz fh fl ez eh el =
           ∙ ap (λ (v : ℤ). to_z w32 (of_z w32 (shr_z v 16384))) t ∙ u;
     }
 
--- and that it is the side
+-- the computed share is `side`
 pub fine_is : (z h l : ℤ) (part : ℕ) → part ≤ 1000 → SFits w16 z → h ≡ pos (fine_of part / 16384)
     → l ≡ pos (fine_of part % 16384)
     → shr_z (z *ℤ h +ℤ shr_z (z *ℤ l +ℤ pos 32768) 16384) 16384 ≡ side z part

@@ -1,4 +1,4 @@
--- A voice that is over stays so; one that isn't is before its end.
+-- A voice that is over stays over, and one that isn't reads before its end.
 use Rattle.std.proofs.Common.{◌≡◌, sym, ◌∙◌, true≢false, List, ℕ, zero, suc, ◌+◌, ◌*◌, ◌<◌, ◌≤◌, Bool, true, false}
 use Rattle.std.proofs.Common.{cond, not, ◌&&◌, refl, subst, arith, nat_le, ⊎_elim}
 use Rattle.std.proofs.lemmas.Bool.{cases_eq}
@@ -16,7 +16,7 @@ is_looped : (looped left : Bool) → (looped && not left) ≡ true → looped �
 is_looped true left e = refl
 is_looped false left e = e
 
--- a loop that is in force lies within the sample
+-- an active loop lies within the sample
 pub loop_start_inside : (n : ℕ) (v : VoiceParameters) (t : ℕ) → IsPlayable n v → is_looping v t ≡ true
     → v.loop_start < n
 loop_start_inside n v t p e =
@@ -79,7 +79,7 @@ over_stays v s (suc t) l e = ⊎_elim
 pub is_looped_at : (v : VoiceParameters) (t : ℕ) → is_looping v t ≡ true → v.looped ≡ true
 is_looped_at v t e = is_looped v.looped (is_loop_left v t) e
 
--- a course that is over stays right
+-- the state of a voice that is over stays valid
 pub course_stays : (points : List ℕ) (v : VoiceParameters) (s t : ℕ) (course : Course) → s ≤ t → course.over ≡ true
     → IsCourse points v s course → IsCourse points v t course
 course_stays points v s t course l e h = record {

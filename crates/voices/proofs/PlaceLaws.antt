@@ -1,4 +1,4 @@
--- Places that wrap and go on.
+-- Laws of positions that wrap and advance.
 use Rattle.std.proofs.Common.{◌≡◌, ℕ, zero, suc, ◌+◌, ◌-◌, ◌*◌, ◌/◌, ◌%◌, ◌<◌, ◌≤◌, Bool, true, false, cond, not}
 use Rattle.std.proofs.Common.{◌&&◌, refl, sym, ◌∙◌, ap, arith, inl, inr, nat_le}
 use Rattle.zone_select.specs.declared.parameters.VoiceParameters.{VoiceParameters}
@@ -17,7 +17,7 @@ pub wrapped_above : (from to x : ℕ) → to ≤ x → wrapped from to x ≡ fro
 wrapped_above from to x h =
     let t : nat_le to x ≡ true = grind (arith, nat_tests) in ap (λ b. cond b (from + (x - from) % (to - from)) x) t
 
--- a place that went on past a loop's end by less than the loop
+-- a position past a loop's end by less than the loop's length
 pub wrapped_once : (from to x : ℕ) → from < to → to ≤ x → x - to < to - from → wrapped from to x ≡ x - (to - from)
 wrapped_once from to x h ge lt =
     let w : ℕ = to - from in
@@ -34,7 +34,7 @@ wrapped_within from to x h =
           let b : (x - from) % (to - from) < to - from = mod_below (x - from) (to - from) (omega arith) in omega arith
     ]
 
--- a remainder, stepped further
+-- a remainder plus a step
 mod_step : (y w step : ℕ) → (y % w + step) % w ≡ (y + step) % w
 mod_step y w step =
     let e : y / w * w + y % w ≡ y = div-add-mod' y w in
@@ -57,7 +57,7 @@ wrapped_later from to x step h ge =
           wrapped_above from to (from + m + step) over ∙ ap (λ y. from + y % (to - from)) k ∙ sym r
     ]
 
--- to wrap first and step afterwards is to step and wrap
+-- wrapping before a step makes no difference
 pub wrapped_step : (from to x step : ℕ) → from < to
     → wrapped from to (wrapped from to x + step) ≡ wrapped from to (x + step)
 wrapped_step from to x step h =
@@ -73,7 +73,7 @@ wrapped_next place from to first t step h e =
     let f : first + t * step + step ≡ first + (t + 1) * step = omega arith in
     ap (λ y. wrapped from to (y + step)) e ∙ wrapped_step from to (first + t * step) step h ∙ ap (wrapped from to) f
 
--- a place fits 60 bits
+-- a position fits in 60 bits
 pub far_place : (first t step : ℕ) → first < 4294967296 → t < 8589934592 → step ≤ 73043661
     → 65536 * first + t * step < 1152921504606846976
 far_place first t step h g k =
@@ -90,7 +90,7 @@ cond_inside true false x y from to e h = wrapped_within from to x (h refl)
 cond_inside true true x y from to e h = cc
 cond_inside false left x y from to e h = cc
 
--- a loop that is in force keeps the place before its end
+-- an active loop keeps the position before its end
 pub place_inside : (v : VoiceParameters) (t : ℕ) → is_looping v t ≡ true
     → (v.looped ≡ true → v.loop_start < v.loop_end) → place v t < 65536 * v.loop_end
 unfolding place looped_place
@@ -167,7 +167,7 @@ by_until true looped l t step r w e =
       | inr ge ↦ late looped l t step r w ge
     ]
 
--- where the loop is in force the place wraps, and elsewhere it goes straight on
+-- the next position wraps if the loop is active, and advances linearly otherwise
 pub place_more : (v : VoiceParameters) (t : ℕ) → (v.looped ≡ true → v.loop_start < v.loop_end)
     → place v (t + 1)
     ≡ cond (is_looping v t) (wrapped (65536 * v.loop_start) (65536 * v.loop_end) (place v t + v.step))
@@ -190,7 +190,7 @@ straight_case true false l t step r e f =
     ]
 straight_case true true l t step r e f = late false l t step r (λ x. x) (grind (arith, nat_tests))
 
--- where no loop is in force the place goes straight on
+-- without an active loop the position advances linearly
 pub place_straight : (v : VoiceParameters) (t : ℕ) → is_looping v t ≡ false → place v (t + 1) ≡ place v t + v.step
 unfolding place looped_place
 place_straight v t e =
@@ -202,17 +202,17 @@ times_div k d n h =
     let e : d / n * n + d % n ≡ d = div-add-mod' d n in
     let f : k * n ≤ d / n * n = mul-le k n (d / n) n h (omega arith) in omega arith
 
--- a run stays before an end that its last step doesn't reach
+-- n positions lie before `to` if n is at most the rounded-up number of increments to it
 pub run_stays : (x step to n k : ℕ) → x < to → n ≤ (to - 1 - x) / step + 1 → k < n → x + k * step < to
 run_stays x step to n k h g l =
     let e : k * step ≤ to - 1 - x = times_div k (to - 1 - x) step (omega arith) in omega arith
 
--- a run whose last frame lies before an end does so whole
+-- if the last position lies before `to`, all do
 pub all_before : (x step to n k : ℕ) → x + (n - 1) * step < to → k < n → x + k * step < to
 all_before x step to n k h l =
     let e : k * step ≤ (n - 1) * step = mul-le k step (n - 1) step (omega arith) (omega arith) in omega arith
 
--- a run whose last frame doesn't lie before an end moves, and has fewer frames before it
+-- if the last position doesn't lie before `to`, the increment isn't zero, and fewer positions lie before it
 pub moves_on : (x step to n : ℕ) → x < to → to ≤ x + (n - 1) * step → 0 < step
 moves_on x zero to n h g = absurd (omega (arith, (let e : (n - 1) * 0 ≡ 0 = omega arith in e)))
 moves_on x (suc step) to n h g = omega arith
@@ -228,7 +228,7 @@ one_less n step = mul-le (n - 1) step n step (omega arith) (omega arith)
 pub short_way : (n step : ℕ) → n ≤ 1024 → step ≤ 73043661 → n * step ≤ 74796708864
 short_way n step h g = mul-le n step 1024 73043661 h g
 
--- an earlier place is no further
+-- an earlier position is not greater
 pub less_far : (x k n step far : ℕ) → k < n → x + n * step < far → (k * step < far) × (x + k * step < far)
 less_far x k n step far l h =
     let e : k * step ≤ n * step = mul-le k step n step (omega arith) (omega arith) in (omega arith, omega arith)

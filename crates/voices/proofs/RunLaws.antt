@@ -1,4 +1,4 @@
--- Stretches of frames, and what they add.
+-- Laws of stretches of frames, and of adding them to sums.
 use Rattle.std.proofs.Common.{◌≡◌, ℕ, zero, suc, ◌+◌, ◌-◌, ◌*◌, ◌/◌, ◌%◌, ◌<◌, ◌≤◌, ℤ, pos, negsuc, ◌+ℤ◌, ◌-ℤ◌, ◌≤ℤ◌}
 use Rattle.std.proofs.Common.{Bool, true, false, cond, not, ◌&&◌, List, get_or, nat_eq, nat_le, refl, sym, ◌∙◌, ap}
 use Rattle.std.proofs.Common.{subst, arith, inl, inr, to_z, of_z, true≢false}
@@ -31,12 +31,12 @@ same_end l t k h =
           let b : nat_le l t ≡ true = grind (arith, nat_tests) in a ∙ sym b
     ]
 
--- up to the note's end, and from it on, a loop is in force throughout or not at all
+-- on either side of the note's end, the loop is active throughout or not at all
 pub same_loop : (v : VoiceParameters) (t k : ℕ) → (t < v.length → t + k < v.length)
     → is_looping v (t + k) ≡ is_looping v t
 same_loop v t k h = ap (λ b. v.looped && not (v.until_release && b)) (same_end v.length t k h)
 
--- where no loop is in force the place goes straight on
+-- without an active loop the position advances linearly
 pub straight_on : (v : VoiceParameters) (t k : ℕ) → (v.looped ≡ true → v.loop_start < v.loop_end)
     → is_looping v t ≡ false
     → (is_looping v (t + k) ≡ false) × (place v (t + k) ≡ place v t + k * v.step)
@@ -83,7 +83,7 @@ stretch_is v t n h young unreleased before near = record {
       let b : place v t + k * v.step < 65536 * v.end = near f k l in omega arith);
 }
 
--- a sum with room for one more
+-- a sum of at most 65534 voices has space for one more
 pub added : (was sum r : ℤ) → sum ≡ was → IsWithin 65534 was → negsuc 32767 ≤ℤ r → r ≤ℤ pos 32767
     → to_z w32 (of_z w32 (to_z w32 (of_z w32 sum) +ℤ to_z w32 (of_z w32 r))) ≡ was +ℤ r
 added was sum r e room lo hi = omega (arith, ints, e, room.0, room.1, lo, hi)
@@ -114,7 +114,7 @@ is_added was s sum r e f lo hi =
       high = subst (λ (x : ℤ). x ≤ℤ pos 32767) e hi;
     }
 
--- the sum that was added to has room for one more, and the other is as it was
+-- sharing, when only the side's sum changes
 pub shared_side : (was m sound sum m' : ℤ) → IsAdded was sound sum → m' ≡ m → IsShared was m sound sum m'
 shared_side was m sound sum m' a e =
     let added = a.added in
@@ -145,7 +145,7 @@ pub over_is_silent : (v : Voice) (left : Bool) (t : ℕ) → is_over v.parameter
 unfolding snd
 over_is_silent v left t e = ap (λ b. cond b (pos 0) (side (sound_at v t) (part_of v.parameters left))) e
 
--- what a stretch adds, counted from the run's start
+-- adding a stretch, with frames counted from the start of the run
 pub later_added : (v : Voice) (age at k : ℕ) (was was' sum : ℤ) → at % 2 ≡ 0 → was' ≡ was
     → IsAdded was' (snd v (nat_eq (k % 2) 0) (age + at / 2 + k / 2)) sum
     → IsAdded was (snd v (nat_eq ((at + k) % 2) 0) (age + (at + k) / 2)) sum
@@ -156,7 +156,7 @@ later_added v age at k was was' sum even e a =
     (subst (λ x. IsAdded was' (snd v (nat_eq x 0) (age + (at + k) / 2)) sum) p
     (subst (λ x. IsAdded was' (snd v (nat_eq (k % 2) 0) x) sum) q a))
 
--- what is heard of a frame where the voice isn't over, and where it is
+-- the frame of a voice that isn't over, and of one that is
 pub heard_is : (v : Voice) (t : ℕ) → is_over v.parameters t ≡ false → heard_at v t ≡ sound_at v t
 unfolding heard_at
 heard_is v t e = ap (λ b. cond b (pos 0) (sound_at v t)) e
@@ -165,7 +165,7 @@ pub heard_over : (v : Voice) (s t : ℕ) → is_over v.parameters s ≡ true →
 unfolding heard_at
 heard_over v s t e l = ap (λ b. cond b (pos 0) (sound_at v t)) (over_stays v.parameters s t l e)
 
--- what a side gets of what is heard
+-- panning a frame gives its side
 heard_side : (v : Voice) (left : Bool) (t : ℕ) → side (heard_at v t) (part_of v.parameters left) ≡ snd v left t
 unfolding heard_at snd
 heard_side v left t = by_case (is_over v.parameters t) (sound_at v t) (part_of v.parameters left)
@@ -186,7 +186,7 @@ heard_added v t i left right z was sum a e f g =
     by_side true = ap (side (heard_at v t)) f ∙ heard_side v true t
     by_side false = ap (side (heard_at v t)) g ∙ heard_side v false t
 
--- what both sides get of a voice in the middle
+-- both sides of a centered voice get half of each frame
 pub central_side : (v : Voice) (left : Bool) (t : ℕ) → v.parameters.pan ≡ pos 0 → side (heard_at v t) 500 ≡ snd v left t
 central_side v left t e =
     ap (side (heard_at v t)) (by_side left ∙ sym (ap (λ p. above_zero (cond left (pos 500 -ℤ p) (pos 500 +ℤ p))) e))
@@ -199,7 +199,7 @@ central_side v left t e =
 pub differ : (b : Bool) → b ≡ true → b ≡ false → ⊥
 differ b e f = true≢false (sym e ∙ f)
 
--- a place that was computed from equal numbers
+-- a bound computed from equal numbers
 pub near_is : (x x' s s' e e' k : ℕ) → x ≡ x' → s ≡ s' → e ≡ e' → x + k * s < 65536 * e → x' + k * s' < 65536 * e'
 near_is x x' s s' e e' k p q r h =
     subst (λ y. y + k * s' < 65536 * e') p
@@ -212,7 +212,7 @@ pub place_near : (n : ℕ) (v : VoiceParameters) (t : ℕ) (looping : Bool) → 
 place_near n v t true p o e = place_inside v t e p.ordered
 place_near n v t false p o e = place_sounds n v t p o
 
--- to go on, and to look at the loop only then
+-- the position k frames later can be wrapped in one step
 pub place_on : (v : VoiceParameters) (t k : ℕ) (looping : Bool) → (v.looped ≡ true → v.loop_start < v.loop_end)
     → is_looping v t ≡ looping
     → ((j : ℕ) → j < k → is_looping v (t + j) ≡ looping) → (looping ≡ true → v.loop_start < v.loop_end)
@@ -238,17 +238,17 @@ place_on v t (suc k) true h e same o =
     q ∙ m ∙ ap (λ x. wrapped from to (x + v.step)) ih
     ∙ wrapped_step from to (place v t + k * v.step) v.step (omega arith) ∙ ap (wrapped from to) r
 
--- within its limit the place has nothing to look at
+-- before its limit a position doesn't wrap
 pub gone_near : (v : VoiceParameters) (looping : Bool) (x : ℕ) → x < 65536 * limit v looping → gone_on v looping x ≡ x
 gone_near v true x h = wrapped_below (65536 * v.loop_start) (65536 * v.loop_end) x h
 gone_near v false x h = refl
 
--- a remainder by whole points leaves what is behind a point
+-- a remainder by whole points keeps the fraction
 whole_part : (y w : ℕ) → y % (65536 * w) % 65536 ≡ y % 65536
 whole_part y w =
     let d : y / (65536 * w) * (65536 * w) + y % (65536 * w) ≡ y = div-add-mod' y (65536 * w) in omega (arith, d)
 
--- a loop's end changes nothing of how far a place is behind its point
+-- wrapping keeps the fraction of a position
 pub gone_part : (v : VoiceParameters) (looping : Bool) (x : ℕ) → (looping ≡ true → v.loop_start < v.loop_end)
     → gone_on v looping x % 65536 ≡ x % 65536
 gone_part v false x h = refl
@@ -265,7 +265,7 @@ gone_part v true x h =
           let p = whole_part (x - from) (v.loop_end - v.loop_start) in omega (arith, e, p, ge)
     ]
 
--- how far behind its point a frame lies, by what is behind points alone
+-- the fraction of a position k frames later, from fractions alone
 pub same_part : (x step k : ℕ) → (x % 65536 + k * (step % 65536)) % 65536 ≡ (x + k * step) % 65536
 same_part x step k =
     let e : step ≡ step / 65536 * 65536 + step % 65536 = omega arith in

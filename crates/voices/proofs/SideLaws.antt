@@ -1,4 +1,4 @@
--- Bounds of what is panned and interpolated.
+-- Bounds of panned and interpolated values.
 use Rattle.std.proofs.Common.{◌≡◌, ℕ, ◌+◌, ◌*◌, ◌/◌, ◌%◌, ◌<◌, ◌≤◌, zero, suc, cond, nat_eq, Bool, true, false, ℤ}
 use Rattle.std.proofs.Common.{pos, negsuc, ◌+ℤ◌, ◌-ℤ◌, ◌*ℤ◌, ◌-◌, ◌≤ℤ◌, neg_ℤ, FitsSigned, sym, ap, arith}
 use Rattle.std.proofs.lemmas.Nat.{mul-le}
@@ -18,7 +18,7 @@ pub side_within : (p : ℤ) (gain : ℕ) → gain ≤ 1000 → negsuc 32767 ≤�
 unfolding side
 side_within p gain h lo hi = part_within p gain 1000 (omega arith) h lo hi
 
--- all of it, and none of it
+-- the share of 1000 1000ths is the whole
 pub whole_side : (z : ℤ) → side z 1000 ≡ z
 unfolding side
 whole_side z = whole_part z 1000 (omega arith)
@@ -27,13 +27,13 @@ pub no_side : (z : ℤ) → side z 0 ≡ pos 0
 unfolding side
 no_side z = let e = floor_div_is (z *ℤ pos 0) 0 1000 0 (omega arith) (omega (arith, ints)) in omega (arith, ints, e)
 
--- and none of nothing
+-- any share of zero is zero
 pub side_of_none : (part : ℕ) → side (pos 0) part ≡ pos 0
 unfolding side
 side_of_none part =
     let e = floor_div_is (pos 0 *ℤ pos part) 0 1000 0 (omega arith) (omega (arith, ints)) in omega (arith, ints, e)
 
--- half of it
+-- half is a shift by one bit
 pub half_side : (z : ℤ) → shr_z z 2 ≡ side z 500
 unfolding side
 half_side (pos a) = let e : a * 500 / 1000 ≡ a / 2 = omega arith in omega (arith, ints)
@@ -45,7 +45,7 @@ half_side (negsuc a) =
     in
     omega (arith, ints, e)
 
--- as much for either side
+-- equal shares of both sides
 pub half_each : (z : ℤ) (i left right : ℕ) → left ≡ 500 → right ≡ 500
     → side z 500 ≡ side z (cond (nat_eq i 0) left right)
 half_each z i left right e f = ap (side z) (sym (one (nat_eq i 0)))
@@ -54,7 +54,7 @@ half_each z i left right e f = ap (side z) (sym (one (nat_eq i 0)))
     one true = e
     one false = f
 
--- a frame that is all on the left, or on the right
+-- a frame that is wholly on the left, or on the right
 pub left_alone : (z : ℤ) (i : ℕ) → i < 2 → cond (nat_eq i 0) z (pos 0) ≡ side z (cond (nat_eq i 0) 1000 0)
 left_alone z zero h = sym (whole_side z)
 left_alone z (suc zero) h = sym (no_side z)
@@ -77,7 +77,7 @@ between_within p q f h fp fq =
     part_down (q -ℤ p) f 65536 (omega arith) (omega arith) s in
     (omega (arith, ints, b.0, b.1), omega (arith, ints, b.0, b.1)))
 
--- two points from zero on, and their weighed sum
+-- two points that are not negative, and their weighted sum
 record Raised (p q : ℤ) (f : ℕ) : Type 0 where
   a : ℕ
   b : ℕ
@@ -120,7 +120,7 @@ weighed_within p q f h fp fq =
     let y : r.b * f ≤ 65535 * f = mul-le r.b f 65535 f r.small' (omega arith) in
     (omega (arith, ints, sum), omega (arith, ints, sum, x, y))
 
--- what lies between two points is their weighed sum, rounded down
+-- linear interpolation is the weighted sum, rounded down
 pub weighed_is : (p q : ℤ) (f : ℕ) → f < 65536 → SFits w16 p → SFits w16 q
     → floor_div (weighed p q f) 65536 ≡ between p q f
 unfolding between
@@ -137,7 +137,7 @@ weighed_is p q f h fp fq =
     let first = r.first in
     omega (arith, ints, one, two, first)
 
--- the same sum, by how far the points are apart
+-- the weighted sum as the first point plus a slope
 pub by_slope : (p q : ℤ) (f : ℕ) → f < 65536 → SFits w16 p → SFits w16 q
     → p *ℤ pos 65536 +ℤ (q -ℤ p) *ℤ pos f ≡ weighed p q f
 by_slope p q f h fp fq =
@@ -151,6 +151,6 @@ by_slope p q f h fp fq =
     let sum = r.sum in
     omega (arith, ints, slope, whole, first, sum)
 
--- a part of 1000, read 32768 parts higher
+-- division rounding down, with a dividend made non-negative
 pub share_is : (z : ℤ) (k n m : ℕ) → 0 < n → z +ℤ pos (k * n) ≡ pos m → floor_div z n +ℤ pos k ≡ pos (m / n)
 share_is = floor_div_is

@@ -1,4 +1,4 @@
--- What one slice tells of the points around a place.
+-- The points around a position, read from one slice.
 use Rattle.std.proofs.Common.{◌≡◌, ℕ, ◌+◌, ◌-◌, ◌*◌, ◌/◌, ◌%◌, ◌<◌, ◌≤◌, pos, Bool, true, false, cond, ◌&&◌, ◌==◌}
 use Rattle.std.proofs.Common.{List, length, get_or, take, drop, nat_lt, refl, ◌∙◌, ap, arith}
 use Rattle.std.proofs.lemmas.Bool.Decides.{nat_tests}
@@ -19,7 +19,7 @@ word_at : (bytes : List ℕ) (i : ℕ) → 2 * i + 1 < length bytes
     → get_or (words bytes) i 0 ≡ get_or bytes (2 * i) 0 + 256 * get_or bytes (2 * i + 1) 0
 word_at bytes i h = get_or-words (2 * i) i bytes refl h
 
--- two points that stand side by side are four bytes
+-- a point and the next one are four bytes
 pub pair_is : (bytes : List ℕ) (i : ℕ) → 2 * i + 3 < length bytes
     → pair_at (words bytes) i
     ≡ get_or bytes (2 * i) 0 + 256 * get_or bytes (2 * i + 1) 0 + 65536 * get_or bytes (2 * i + 2) 0
@@ -31,7 +31,7 @@ pair_is bytes i h =
     ∙ ap (λ k. get_or bytes (2 * i + 2) 0 + 256 * get_or bytes k 0) (omega arith) in
     omega (arith, here, next)
 
--- a place, counted from another point
+-- a position relative to another point
 from_first : (x p : ℕ) → 65536 * p ≤ x
     → ((x - 65536 * p) / 65536 ≡ x / 65536 - p) × ((x - 65536 * p) % 65536 ≡ x % 65536)
 from_first x p h = (omega arith, omega arith)
@@ -55,7 +55,7 @@ next_point points true loop_end start end i h l =
 next_point points false loop_end start end i h l =
     let b : nat_lt (i + 1) end ≡ true = grind (arith, nat_tests) in rw b refl
 
--- before the last point of a slice, and of the loop, the slice says it all
+-- before the last point of a slice and of the loop, interpolation needs only the slice
 pub straight_is : (points bytes : List ℕ) (v : VoiceParameters) (looping : Bool) (i first x : ℕ)
     → IsRunAround points i bytes first
     → (looping ≡ true → v.loop_end ≤ v.end)
@@ -77,7 +77,7 @@ straight_is points bytes v looping i first x run l from last slice =
     (next ∙ next_point points looping v.loop_end v.loop_start v.end (x / 65536) last l)
     ∙ ap (between (point_at points (x / 65536)) (follower points v looping (x / 65536))) f.1
 
--- what a pair says is what its slice says
+-- interpolation of a pair is interpolation in its slice
 pub pair_straight : (bytes : List ℕ) (place : ℕ) → ((j : ℕ) → get_or bytes j 0 < 256)
     → 2 * (place / 65536) + 3 < length bytes
     → pair_says (pair_at (words bytes) (place / 65536)) (place % 65536) ≡ straight (words bytes) place
@@ -94,7 +94,7 @@ pair_straight bytes place all h =
     ap (λ y. between (cast_signed w16 y) (cast_signed w16 (pair_at ws i / 65536)) (place % 65536)) here
     ∙ ap (λ y. between (cast_signed w16 (get_or ws i 0)) (cast_signed w16 y) (place % 65536)) next
 
--- a slice that begins at the point itself
+-- the part of a slice from the point itself on
 pub run_from : (points bytes : List ℕ) (i first : ℕ) → IsRunAround points i bytes first
     → IsRunAround points i (drop (2 * first) bytes) 0
 run_from points bytes i first run =
@@ -118,7 +118,7 @@ run_from points bytes i first run =
           ∙ ap (λ j. take m (drop j points)) (let e : i ≡ i - 0 = omega arith in e);
     }
 
--- a slice is in hand once it tells of one point
+-- a slice that contains one point in place is a slice of these points
 pub in_hand : (points : List ℕ) (i place : ℕ) (slice : Slice) → IsRunAround points i slice.bytes.now place
     → slice.first ≡ i - place → IsInHand points slice
 in_hand points i place slice run e = record {
@@ -133,6 +133,6 @@ in_hand points i place slice run e = record {
       };
 }
 
--- no slice is as good as any
+-- the empty slice is valid for any points
 pub none_in_hand : (points : List ℕ) (slice : Slice) → length slice.bytes.now ≡ 0 → IsInHand points slice
 none_in_hand points slice e = record { holds = λ k le inside. absurd (omega (arith, e, inside)) }

@@ -1,4 +1,4 @@
--- What is known of a pair makes its voice.
+-- A pair that the note selects has a voice.
 use Rattle.std.proofs.Common.{◌≡◌, ℕ, Option, Some, None, slice_get, ap, ◌∙◌}
 use Rattle.std.specs.Option.{option_map, option_and_then}
 use Rattle.note_list.specs.Notes.{Numbers}
@@ -26,7 +26,7 @@ of_chosen b n k p s (Some c) h e f =
     of_sample n c p s (slice_get b.samples c.sample) e
     (let same : k ≡ c.sample = cc in f ∙ ap (slice_get b.samples) same)
 
--- the points of its sample, of number k, and its parameters
+-- the voice has the points of sample k, and the parameters
 pub voice_is : (b : Parts) (n : Numbers) (q : ℕ × ℕ) (k : ℕ) (p : VoiceParameters) (s : Sample)
     → Some k ≡ option_map (λ (c : Chosen). c.sample) (chosen_by b n q)
     → Some p ≡ option_map (λ (v : Voice). v.parameters) (voice_by b n q) → Some s ≡ slice_get b.samples k

@@ -1,4 +1,4 @@
--- What a voice keeps from call to call.
+-- The state that a voice keeps between calls.
 use Rattle.std.specs.Prelude.{ℕ, ◌+◌, ◌-◌, ◌*◌, ◌≡◌, ◌<◌, ◌≤◌, ◌^◌, false, List, length}
 use Rattle.sound_tables.specs.Tables.{gain_of}
 use Rattle.sample_view.specs.Runs.{IsRunAround}
@@ -9,12 +9,12 @@ use Rattle.voices.specs.Place.{place, is_over}
 use Rattle.voice_levels.specs.Envelope.{held, envelope}
 use Rattle.voice_levels.specs.Even.{IsEven}
 
--- a slice of these points: it tells of each point that lies in it
+-- a slice of these points: each point in its range is in it
 pub record IsInHand (points : List ℕ) (slice : Slice) : Type 0 where
   pub holds : (i : ℕ) → slice.first ≤ i → 2 * (i - slice.first) + 1 < length slice.bytes.now
       → IsRunAround points i slice.bytes.now (i - slice.first)
 
--- what is kept of frame t
+-- the voice state at frame t
 pub record IsCourse (points : List ℕ) (v : VoiceParameters) (t : ℕ) (course : Course) : Type 0 where
   pub over : course.over ≡ is_over v t
   pub young : course.over ≡ false → t + 1 < 2 ^ 33

@@ -1,18 +1,18 @@
--- What each side gets of a frame, rounded down.
+-- Panning: the share of each side of a frame, rounded down.
 use Rattle.std.specs.Prelude.{ℕ, ◌+◌, ◌*◌, ◌/◌, ℤ, pos, ◌*ℤ◌}
 use Rattle.sound_tables.specs.Floor.{floor_div}
 use Rattle.voices.specs.declared.runs.Side.{Side}
 use Rattle.voices.specs.declared.runs.Side.TheVariants.{Left, Right}
 
--- `part` of 1000
+-- `part` 1000ths of z
 unfoldable pub side : ℤ → ℕ → ℤ
 side z part = floor_div (z *ℤ pos part) 1000
 
--- where the sums of a side stand in each two
+-- the index of a side's sum in each frame's two
 abbrev pub turn_of : Side → ℕ
 turn_of Left = 0
 turn_of Right = 1
 
--- a part of 1000 in 2^28ths, rounded up
+-- a share of `part` 1000ths in 2^28ths, rounded up
 abbrev pub fine_of : ℕ → ℕ
 fine_of part = (part * 268435456 + 999) / 1000

@@ -1,4 +1,4 @@
--- Points, and what lies between them.
+-- Points, and linear interpolation between them.
 use Rattle.std.specs.Prelude.{ℕ, ◌+◌, ◌-◌, ◌/◌, ◌%◌, ℤ, pos, ◌+ℤ◌, ◌-ℤ◌, ◌*ℤ◌, Bool, cond, ◌&&◌, ◌==◌, nat_lt, List}
 use Rattle.std.specs.Prelude.{slice_index}
 use Rattle.std.specs.Int.{cast_signed, w16}
@@ -9,20 +9,20 @@ use Rattle.zone_select.specs.declared.parameters.VoiceParameters.{VoiceParameter
 unfoldable pub point_at : List ℕ → ℕ → ℤ
 point_at points i = cast_signed w16 (slice_index points i)
 
--- between two points, at `part` of 65536
+-- linear interpolation between two points, at `part` of 65536, rounded down
 unfoldable pub between : ℤ → ℤ → ℕ → ℤ
 between p0 p1 part = p0 +ℤ floor_div ((p1 -ℤ p0) *ℤ pos part) 65536
 
--- two points, each times its part of 65536: that is 65536 times what lies between them, and not yet rounded
+-- 65536 times the linear interpolation between two points, not rounded
 unfoldable pub weighed : ℤ → ℤ → ℕ → ℤ
 weighed p0 p1 part = p0 *ℤ pos (65536 - part) +ℤ p1 *ℤ pos part
 
--- the point after point i: the loop's first after its last, and silence after the end
+-- the point after point i: a loop's first after its last, and zero after the end
 unfoldable pub follower : List ℕ → VoiceParameters → Bool → ℕ → ℤ
 follower points v looping i =
     cond (looping && (i + 1 == v.loop_end)) (point_at points v.loop_start)
     (cond (nat_lt (i + 1) v.end) (point_at points (i + 1)) (pos 0))
 
--- what the sample says at a place
+-- the interpolated point at a position
 unfoldable pub point_of : List ℕ → VoiceParameters → Bool → ℕ → ℤ
 point_of points v looping x = between (point_at points (x / 65536)) (follower points v looping (x / 65536)) (x % 65536)

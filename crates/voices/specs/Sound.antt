@@ -1,4 +1,4 @@
--- What a voice plays.
+-- The frames of a voice.
 use Rattle.std.specs.Prelude.{ℕ, ◌+◌, ◌≡◌, ◌≤◌, ℤ, pos, ◌+ℤ◌, ◌-ℤ◌, Bool, true, cond}
 use Rattle.sound_tables.specs.Tables.{gain_of}
 use Rattle.sound_tables.specs.Floor.{above_zero}
@@ -10,16 +10,16 @@ use Rattle.voices.specs.Place.{place, is_looping, is_over}
 use Rattle.voices.specs.Points.{point_of}
 use Rattle.voice_levels.specs.Envelope.{envelope}
 
--- a voice, and the number of the frame that comes next
+-- a voice, and the number of its next frame
 pub record Live : Type 0 where
   pub value : Voice
   pub age : ℕ
 
--- the part of 1000 that a side gets
+-- the share of a side, in 1000ths
 abbrev pub part_of : VoiceParameters → Bool → ℕ
 part_of v left = above_zero (cond left (pos 500 -ℤ v.pan) (pos 500 +ℤ v.pan))
 
--- frame t before it is panned, of a voice that isn't over
+-- frame t before panning, of a voice that isn't over
 unfoldable pub sound_at : Voice → ℕ → ℤ
 sound_at v t =
     scaled_by
@@ -31,15 +31,15 @@ sound_at v t =
 unfoldable pub snd : Voice → Bool → ℕ → ℤ
 snd v left t = cond (is_over v.parameters t) (pos 0) (side (sound_at v t) (part_of v.parameters left))
 
--- frame t before it is panned, and silence where the voice is over
+-- frame t before panning; silence where the voice is over
 unfoldable pub heard_at : Voice → ℕ → ℤ
 heard_at v t = cond (is_over v.parameters t) (pos 0) (sound_at v t)
 
--- a voice that is over counts no more frames
+-- the voice after one more frame; a voice that is over doesn't advance
 abbrev pub after_frame : Live → Live
 after_frame live =
     cond (is_over live.value.parameters live.age) live (record { value = live.value; age = live.age + 1 })
 
--- a voice that is over stays so, and is silent
+-- a voice that is over stays over
 abbrev pub OverStaysOver : Type 0
 OverStaysOver = (v : VoiceParameters) (s t : ℕ) → s ≤ t → is_over v s ≡ true → is_over v t ≡ true

@@ -1,4 +1,4 @@
-//! A voice's next frames, added to sums.
+//! Adds the next frames of a voice to sums.
 ghost use Rattle.std.specs.Prelude.{◌≡◌, ℕ, ◌+◌, ◌*◌, ◌/◌, ◌%◌, ◌^◌, ◌≤◌, ◌<◌, pos, EachIndex, length, nat_eq, slice_index_or};
 ghost use Rattle.zone_select.specs.Playable.{IsPlayable};
 ghost use Rattle.voices.specs.Course.{IsCourse};
@@ -13,8 +13,7 @@ use crate::workspace::{LONGEST, Stages};
 use sample_view::Points;
 use zone_select::VoiceParameters;
 
-// Adds the frames from `age` on to the sums of both sides, which stand in turn: at a time no more than a workspace
-// has room for.
+// Adds the frames from `age` on to interleaved left and right sums, at most a workspace's length at a time.
 pub(crate) fn add_run<'a>(
     points: &Points<'a>,
     v: &VoiceParameters,
@@ -44,7 +43,7 @@ pub(crate) fn add_run<'a>(
     }
 }
 
-// Adds the frames from `age` on: of a voice in the middle to sums that both sides get.
+// Adds the frames from `age` on: those of a centered voice to `middle`, which both sides share.
 pub(crate) fn add_run_apart<'a>(
     points: &Points<'a>,
     v: &VoiceParameters,
@@ -72,7 +71,7 @@ pub(crate) fn add_run_apart<'a>(
     share(points, v, age, run, sums, middle);
 }
 
-// Adds the frames from `age` on, which were made: of a voice in the middle half of each to sums that both sides get.
+// Adds the computed frames from `age` on: half of each frame of a centered voice to `middle`, which both sides share.
 fn share(
     points: &Points,
     v: &VoiceParameters,

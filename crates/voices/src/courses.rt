@@ -1,4 +1,4 @@
-//! What a voice keeps from call to call, so that it is not found anew.
+//! State that a voice keeps between calls, so that it need not be computed again.
 ghost use Rattle.std.specs.Prelude.{◌≡◌, ◌+◌, ◌≤◌, ◌<◌, ℕ, List, true};
 ghost use Rattle.sound_tables.specs.Tables.{gain_of};
 ghost use Rattle.voice_levels.specs.Even.{IsEven};
@@ -12,25 +12,25 @@ use sound_tables::gain;
 use voice_levels::{Level, held_at};
 use zone_select::VoiceParameters;
 
-// What is kept of the frame that comes next.
+// The state of a voice at its next frame.
 #[derive(Clone, Copy)]
 pub(crate) struct Course<'a> {
     // Whether the voice is over.
     pub(crate) over: bool,
-    // The place, unless it is over.
+    // The position in the sample, in 65536ths of a point; meaningless once the voice is over.
     pub(crate) place: u64,
-    // The level, and how long it lasts; it may have ended.
+    // The envelope's gain, and how long it stays the same; it may have expired.
     pub(crate) level: Level,
-    // The level at the note's end.
+    // The envelope's gain when the note ends.
     pub(crate) at_end: u32,
-    // What the attenuation leaves of each frame, of 65536.
+    // The gain of the attenuation, of 65536.
     pub(crate) loudness: u32,
-    // The slice of points in hand; it may have been left.
+    // The slice of points read last; the position may be past it.
     pub(crate) slice: Slice<'a>,
 }
 
 impl<'a> Course<'a> {
-    // That of a voice at its first frame.
+    // The state of a voice at its first frame.
     #[tactic(auto, using(crate::proofs::SliceLaws::none_in_hand))]
     pub(crate) fn start(v: &VoiceParameters) -> Course<'a>
         requires loop_is { v.now.looped ≡ true → v.now.loop_start < v.now.loop_end }
@@ -48,7 +48,7 @@ impl<'a> Course<'a> {
         }
     }
 
-    // Goes on to a frame `t`, whose place is `x` unless the release is over by then.
+    // Advances to frame `t`, whose position is `x` unless the release is over by then.
     pub(crate) fn go_on(
         &mut self,
         v: &VoiceParameters,
@@ -69,7 +69,7 @@ impl<'a> Course<'a> {
         self.slice = slice;
     }
 
-    // Goes to any frame `t`, an earlier one too. Its level is found once it is asked for.
+    // Moves to any frame `t`, also an earlier one. The envelope's gain is computed when it is next needed.
     pub(crate) fn go_to(&mut self, v: &VoiceParameters, t: u64)
         requires loop_is { v.now.looped ≡ true → v.now.loop_start < v.now.loop_end }
         requires steps { v.now.step ≤ 73043661 }
@@ -77,7 +77,7 @@ impl<'a> Course<'a> {
         requires loudness { (self.old.loudness ≡ gain_of v.now.attenuation) × (self.old.loudness ≤ 65536) }
         ensures { (points : List ℕ) → IsInHand points self.old.slice → IsCourse points v.now t self.new }
     {
-        // Behind the release the voice is over, wherever its place is.
+        // After the release the voice is over, whatever its position.
         let release_end = u64::from(v.length) + u64::from(v.release);
         let x = place_at(v, t.min(release_end));
         let slice = self.slice;

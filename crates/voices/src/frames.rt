@@ -13,7 +13,7 @@ use sound_tables::gain;
 use voice_levels::{attenuated, envelope_at};
 use zone_select::VoiceParameters;
 
-// What the left side gets, of 1000.
+// The share of the left side, in 1000ths.
 pub(crate) fn left_part(v: &VoiceParameters) -> u32
     requires { (negsuc 499 ≤ℤ v.now.pan) × (v.now.pan ≤ℤ pos 500) }
     ensures value { result ≡ part_of v.now true }
@@ -22,7 +22,7 @@ pub(crate) fn left_part(v: &VoiceParameters) -> u32
     (500 - v.pan) as u32
 }
 
-// What the right side gets, of 1000.
+// The share of the right side, in 1000ths.
 pub(crate) fn right_part(v: &VoiceParameters) -> u32
     requires { (negsuc 499 ≤ℤ v.now.pan) × (v.now.pan ≤ℤ pos 500) }
     ensures value { result ≡ part_of v.now false }
@@ -31,7 +31,7 @@ pub(crate) fn right_part(v: &VoiceParameters) -> u32
     (500 + v.pan) as u32
 }
 
-// What the sample says at frame `t`, at which the voice isn't over, and whose place is `x`.
+// The interpolated point at frame `t`, where the voice isn't over; `x` is its position.
 #[tactic(auto, using(crate::proofs::OverLaws::loop_start_inside))]
 fn point_at_frame(points: &Points, v: &VoiceParameters, t: u64, x: u64) -> i32
     requires playable { IsPlayable (length points.now) v.now }
@@ -44,7 +44,7 @@ fn point_at_frame(points: &Points, v: &VoiceParameters, t: u64, x: u64) -> i32
     point_of_place(points, v, is_looping_at(v, t), x)
 }
 
-// Frame `t` before it is panned, of a voice that isn't over then.
+// Frame `t` before panning, where the voice isn't over; `x` is its position.
 #[tactic(auto, unfolding(crate::specs::Sound::sound_at))]
 fn sound_of(points: &Points, v: &VoiceParameters, t: u64, x: u64) -> i32
     requires playable { IsPlayable (length points.now) v.now }
@@ -62,7 +62,7 @@ fn sound_of(points: &Points, v: &VoiceParameters, t: u64, x: u64) -> i32
     )
 }
 
-// Both sides of frame `t`, at which the voice isn't over, and whose place is `x`.
+// Both sides of frame `t`, where the voice isn't over; `x` is its position.
 #[tactic(auto, unfolding(crate::specs::Sound::snd))]
 pub(crate) fn frame(points: &Points, v: &VoiceParameters, t: u64, x: u64) -> (i32, i32)
     requires playable { IsPlayable (length points.now) v.now }
@@ -80,7 +80,7 @@ pub(crate) fn frame(points: &Points, v: &VoiceParameters, t: u64, x: u64) -> (i3
     (panned(z, left_part(v)), panned(z, right_part(v)))
 }
 
-// The place of the frame behind frame `t`, whose place is `x`.
+// The position of the frame after frame `t`, whose position is `x`.
 #[tactic(auto, using(crate::proofs::OverLaws::place_sounds))]
 pub(crate) fn next_place(points: &Points, v: &VoiceParameters, t: u64, x: u64) -> u64
     requires playable { IsPlayable (length points.now) v.now }

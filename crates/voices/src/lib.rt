@@ -1,4 +1,4 @@
-//! One voice: a sample that is played by the numbers of a pair of zones, frame by frame.
+//! One voice: a sample played with the parameters of a pair of zones, frame by frame.
 #![tactic(auto)]
 
 ghost use Rattle.voices.specs.Sound.{OverStaysOver};
@@ -19,7 +19,7 @@ pub use start::VoiceFault;
 pub use voice::Voice;
 pub use workspace::Workspace;
 
-/// The law that a voice that is over at a frame is over at each later one. It does nothing.
+/// The law that a voice that is over stays over. It does nothing.
 #[tactic(auto, using(crate::proofs::OverLaws::over_stays))]
 pub fn over_law()
     ensures { OverStaysOver }

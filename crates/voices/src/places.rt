@@ -1,4 +1,4 @@
-//! Where a voice reads its sample.
+//! The position at which a voice reads its sample, in 65536ths of a point.
 ghost use Rattle.std.specs.Prelude.{◌≡◌, ◌+◌, ◌≤◌, ◌<◌, ◌^◌, ◌*◌, ℕ, true, false};
 ghost use Rattle.voices.specs.Place.{looped_place, place, is_looping, is_over};
 ghost use Rattle.voices.specs.Runs.{gone_on};
@@ -6,7 +6,7 @@ ghost use Rattle.voices.specs.Runs.{gone_on};
 use crate::workspace::LONGEST;
 use zone_select::VoiceParameters;
 
-// The place while the loop, if there is one, is in force.
+// The position while the loop, if there is one, is active.
 #[tactic(auto, using(crate::proofs::PlaceLaws::wrapped_below, crate::proofs::PlaceLaws::wrapped_above, crate::proofs::PlaceLaws::far_place), unfolding(crate::specs::Place::looped_place))]
 fn looped_place_at(v: &VoiceParameters, t: u64) -> u64
     requires loop_is { v.now.looped ≡ true → v.now.loop_start < v.now.loop_end }
@@ -29,14 +29,14 @@ fn looped_place_at(v: &VoiceParameters, t: u64) -> u64
     }
 }
 
-// Whether the loop is in force at frame `t`.
+// Whether the loop is active at frame `t`.
 pub(crate) fn is_looping_at(v: &VoiceParameters, t: u64) -> bool
     ensures { result ≡ is_looping v.now t }
 {
     v.looped && !(v.until_release && u64::from(v.length) <= t)
 }
 
-// The place at frame `t`.
+// The position at frame `t`.
 #[tactic(auto, using(crate::proofs::PlaceLaws::far_rest), unfolding(crate::specs::Place::place))]
 pub(crate) fn place_at(v: &VoiceParameters, t: u64) -> u64
     requires loop_is { v.now.looped ≡ true → v.now.loop_start < v.now.loop_end }
@@ -53,7 +53,7 @@ pub(crate) fn place_at(v: &VoiceParameters, t: u64) -> u64
     }
 }
 
-// Whether the voice is over at frame `t`, whose place is `x` unless the release is over by then.
+// Whether the voice is over at frame `t`, whose position is `x` unless the release is over by then.
 pub(crate) fn is_over_by(v: &VoiceParameters, t: u64, x: u64) -> bool
     requires here { t < v.now.length + v.now.release → x ≡ place v.now t }
     ensures value { result ≡ is_over v.now t }
@@ -66,8 +66,7 @@ pub(crate) fn is_over_by(v: &VoiceParameters, t: u64, x: u64) -> bool
     !is_looping_at(v, t) && 65536 * u64::from(v.end) <= x
 }
 
-// Where a place has come after some frames. Mostly a loop's end is passed once, so that is asked before anything is
-// divided.
+// The position after some frames. A loop's end is mostly passed at most once, so that case comes before the division.
 #[tactic(auto, using(crate::proofs::PlaceLaws::wrapped_below, crate::proofs::PlaceLaws::wrapped_once, crate::proofs::PlaceLaws::wrapped_above, crate::proofs::PlaceLaws::short_way))]
 pub(crate) fn advanced(v: &VoiceParameters, looping: bool, x: u64, frames: usize) -> u64
     requires loop_is { looping ≡ true → v.now.loop_start < v.now.loop_end }
@@ -88,8 +87,8 @@ pub(crate) fn advanced(v: &VoiceParameters, looping: bool, x: u64, frames: usize
     from + (next - from) % (to - from)
 }
 
-// How many frames, at most `most`, lie before `to`: the first is at `x`, each next one `step` further.
-// Mostly all do, so that is asked before anything is divided.
+// How many frames, at most `most`, lie before `to`: the first is at `x`, each next one `step` further. Mostly all do,
+// so that case comes before the division.
 #[tactic(auto, using(crate::proofs::PlaceLaws::all_before, crate::proofs::PlaceLaws::run_stays, crate::proofs::PlaceLaws::fewer, crate::proofs::PlaceLaws::moves_on, crate::proofs::PlaceLaws::one_less))]
 pub(crate) fn frames_before(x: u64, step: u64, to: u64, most: u64) -> u64
     requires before { x < to }

@@ -1,5 +1,4 @@
-//! Runs of frames, in stages over short stretches: what the sample says, how loud that is, and both
-//! sides of it.
+//! Runs of frames, computed in stages over short stretches: the points, the envelope and attenuation, and both sides.
 ghost use Rattle.std.specs.Prelude.{◌≡◌, ℕ, ◌+◌, ◌*◌, ◌/◌, ◌%◌, ◌^◌, ◌≤◌, ◌<◌, ◌≤ℤ◌, ◌+ℤ◌, pos, negsuc, true, false, cond, EachIndex, length, nat_eq, slice_index, slice_index_or};
 ghost use Rattle.sound_tables.specs.Tables.{gain_of};
 ghost use Rattle.voice_levels.specs.Levels.{scaled_by};
@@ -22,8 +21,8 @@ use sample_view::Points;
 use voice_levels::soften;
 use zone_select::VoiceParameters;
 
-// How many frames from `t` on, at most `most`, are heard in one way: the note's end ends a stretch. The
-// place of the first is `x`.
+// How many frames from `t` on, at most `most`, form one stretch, which ends at the latest where the note ends. The
+// position of the first is `x`.
 fn stretch(v: &VoiceParameters, t: u64, x: u64, most: usize) -> usize
     requires loop_is { v.now.looped ≡ true → v.now.loop_start < v.now.loop_end }
     requires steps { v.now.step ≤ 73043661 }
@@ -42,7 +41,7 @@ fn stretch(v: &VoiceParameters, t: u64, x: u64, most: usize) -> usize
     frames_before(x, u64::from(v.step), end, n) as usize
 }
 
-// How many frames, at most `most`, come before the note's end, or, from it on, before the release's.
+// How many frames, at most `most`, remain before the note's end or, from there on, before the release's.
 fn frames_ahead(v: &VoiceParameters, t: u64, most: u64) -> u64
     requires unreleased { t < v.now.length + v.now.release }
     requires some { 0 < most }
@@ -59,8 +58,8 @@ fn frames_ahead(v: &VoiceParameters, t: u64, most: u64) -> u64
     }
 }
 
-// The frames of a stretch before they are panned, by way of a word and two levels for each. The course of the first
-// frame goes on to that behind the last.
+// Computes the frames of a stretch before panning, from a word and two gains for each, and advances the voice state to
+// the frame after them.
 fn fill_by_stages<'a>(
     points: &Points<'a>,
     v: &VoiceParameters,
@@ -96,13 +95,13 @@ fn fill_by_stages<'a>(
     course.go_on(v, t + n as u64, next, level, slice);
 }
 
-// The sides of a frame, whose sums stand in turn.
+// The side of a frame; its sums are interleaved with those of the other side.
 enum Side {
     Left,
     Right,
 }
 
-// Where the first sum of a side stands.
+// The index of a side's first sum.
 fn turn_of(side: Side) -> usize
     ensures value { result ≡ turn_of side }
     ensures first { result < 2 }
@@ -127,7 +126,7 @@ fn add_one_side(run: &[i16], heard: Side, sums: &mut [i32])
     }
 }
 
-// Adds a part of each frame to the sums of either side.
+// Adds each frame's shares to the sums of both sides.
 fn add_both_sides(run: &[i16], left: u32, right: u32, sums: &mut [i32])
     requires long { length sums.old ≡ 2 * length run.now }
     requires parts { (left ≤ 1000) × (right ≤ 1000) }
@@ -145,7 +144,7 @@ fn add_both_sides(run: &[i16], left: u32, right: u32, sums: &mut [i32])
     }
 }
 
-// Adds half of each frame to the sums of either side.
+// Adds half of each frame to the sums of both sides.
 fn add_halves(run: &[i16], sums: &mut [i32])
     requires long { length sums.old ≡ 2 * length run.now }
     requires room { AllWithin 65534 sums.old }
@@ -160,7 +159,7 @@ fn add_halves(run: &[i16], sums: &mut [i32])
     }
 }
 
-// Adds each frame's parts to the sums of both sides.
+// Adds each frame's shares to the sums of both sides, the fastest way for these shares.
 pub(crate) fn add_sides(run: &[i16], left: u32, right: u32, sums: &mut [i32])
     requires long { length sums.old ≡ 2 * length run.now }
     requires parts { (left ≤ 1000) × (right ≤ 1000) }
@@ -180,7 +179,7 @@ pub(crate) fn add_sides(run: &[i16], left: u32, right: u32, sums: &mut [i32])
     }
 }
 
-// Adds half of each frame to a sum that both sides get.
+// Adds half of each frame to the sums that both sides share.
 pub(crate) fn add_halves_once(run: &[i16], middle: &mut [i32])
     requires long { length middle.old ≡ length run.now }
     requires room { AllWithin 65534 middle.old }
@@ -193,8 +192,8 @@ pub(crate) fn add_halves_once(run: &[i16], middle: &mut [i32])
     }
 }
 
-// The frames from `age` on before they are panned, stretch by stretch. As in all that goes on from here, the course
-// of the first frame goes on to that behind the last.
+// Computes the frames from `age` on before panning, stretch by stretch, and advances the voice state to the frame after
+// them.
 pub(crate) fn fill_run<'a>(
     points: &Points<'a>,
     v: &VoiceParameters,

@@ -1,5 +1,5 @@
-//! What a sample says between its points. What each frame of a run goes through is inlined always: so the
-//! run's loop has no calls, and is done for several frames at once.
+//! Interpolation between the points of a sample. Functions called for each frame of a run are always inlined, so that
+//! the run's loop has no calls and is vectorized.
 ghost use Rattle.std.specs.Prelude.{◌≡◌, ◌+◌, ◌*◌, ◌/◌, ◌%◌, ◌≤◌, ◌<◌, ◌≤ℤ◌, pos, negsuc, length, true};
 ghost use Rattle.voices.specs.Points.{between, point_at, follower, point_of};
 ghost use Rattle.voices.specs.Runs.{pair_says};
@@ -7,8 +7,8 @@ ghost use Rattle.voices.specs.Runs.{pair_says};
 use sample_view::Points;
 use zone_select::VoiceParameters;
 
-// Between two points, at `part` of 65536. A product of how far they are apart may not fit, but its sum with the
-// first point does: so it is right whatever was lost on the way.
+// Linear interpolation between two points, at `part` of 65536. The product may overflow, but its sum with the first
+// point fits in 32 bits, so wrapping arithmetic gives the exact result.
 #[inline(always)]
 pub(crate) fn interpolated(p0: i16, p1: i16, part: u32) -> i32
     requires { part < 65536 }
@@ -38,7 +38,7 @@ fn follower_at(points: &Points, v: &VoiceParameters, looping: bool, i: usize) ->
     }
 }
 
-// What the sample says at a place before the end.
+// The interpolated point at a position before the end.
 #[tactic(auto, unfolding(crate::specs::Points::point_of, crate::specs::Points::point_at))]
 pub(crate) fn point_of_place(points: &Points, v: &VoiceParameters, looping: bool, x: u64) -> i32
     requires inside { v.now.end ≤ length points.now }
@@ -56,7 +56,7 @@ pub(crate) fn point_of_place(points: &Points, v: &VoiceParameters, looping: bool
     )
 }
 
-// A point and the one after it side by side, as they are around a place before the end.
+// The points around a position before the end, packed into one word: the first in the lower 16 bits.
 #[tactic(auto, unfolding(crate::specs::Points::point_of, crate::specs::Points::point_at))]
 pub(crate) fn pair_of_place(points: &Points, v: &VoiceParameters, looping: bool, x: u64) -> u32
     requires inside { v.now.end ≤ length points.now }

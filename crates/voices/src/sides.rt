@@ -1,12 +1,12 @@
-//! What each side gets of a frame. Each frame comes here, so the calls are inlined always: a loop over a run then has
-//! none, and is done for several frames at once.
+//! Panning: the share of each side of a frame. These functions are always inlined, so that a loop over a run has no
+//! calls and is vectorized.
 ghost use Rattle.std.specs.Prelude.{◌≡◌, ℕ, ◌*◌, ◌/◌, ◌%◌, ◌≤◌, ◌≤ℤ◌, pos, negsuc};
 ghost use Rattle.voices.specs.Levels.{fine_of, side};
 
-// The part of a side that gets a frame whole.
+// The share of a side that gets each frame whole, in 1000ths.
 pub(crate) const WHOLE: u32 = 1000;
 
-// `part` of 1000, rounded down: 32768 more keep the division above zero.
+// `part` 1000ths of `z`, rounded down. Adding 32768 keeps the dividend from being negative.
 #[inline(always)]
 #[tactic(auto, using(crate::proofs::SideLaws::share_is), unfolding(crate::specs::Levels::side))]
 fn share_of(z: i32, part: u32) -> i32
@@ -18,15 +18,15 @@ fn share_of(z: i32, part: u32) -> i32
     ((z * part as i32 + 32_768_000) as u32 / WHOLE) as i32 - 32768
 }
 
-// A part of 1000 in 2^28ths, rounded up: the upper 16 bits, and the 14 below. Their products with a frame
-// are of numbers of 16 bits, so many are made at once.
+// A share in 2^28ths, rounded up: the upper 16 bits, and the lower 14. Each half times a frame is a product of 16-bit
+// numbers, which vectorizes well.
 #[derive(Clone, Copy)]
 pub(crate) struct FinePart {
     pub(crate) high: i16,
     pub(crate) low: i16,
 }
 
-// A part of 1000, finely.
+// The share of `part` 1000ths in 2^28ths.
 pub(crate) fn fine_part(part: u32) -> FinePart
     requires { part ≤ 1000 }
     ensures high { result.high ≡ pos (fine_of part / 16384) }
@@ -39,7 +39,7 @@ pub(crate) fn fine_part(part: u32) -> FinePart
     }
 }
 
-// What a side gets that has a part of 1000, of which it is told finely.
+// A side's share of a frame, given in 2^28ths.
 #[inline(always)]
 pub(crate) fn finely_panned(z: i16, fine: FinePart) -> i32
     requires high { (pos 0 ≤ℤ fine.high) × (fine.high ≤ℤ pos 16384) }
@@ -51,7 +51,7 @@ pub(crate) fn finely_panned(z: i16, fine: FinePart) -> i32
     (frame * i32::from(fine.high) + rest) >> 14
 }
 
-// What a side gets that has `part` of 1000.
+// A side's share of a frame, `part` 1000ths.
 #[inline(always)]
 #[tactic(auto, using(crate::proofs::SideLaws::side_within))]
 pub(crate) fn panned(z: i32, part: u32) -> i32
@@ -65,10 +65,10 @@ pub(crate) fn panned(z: i32, part: u32) -> i32
     share_of(z, part)
 }
 
-// The part of a side that gets as much of a frame as the other.
+// The share of each side of a centered voice, in 1000ths.
 pub(crate) const HALF: u32 = 500;
 
-// What each side gets of a frame in the middle.
+// Each side's share of a frame of a centered voice.
 #[inline(always)]
 #[tactic(auto, using(crate::proofs::SideLaws::side_within, crate::proofs::SideLaws::half_side))]
 pub(crate) fn halved(z: i32) -> i32

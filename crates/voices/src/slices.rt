@@ -1,4 +1,4 @@
-//! What a sample says at the frames of a stretch: straight runs through the slice in hand.
+//! Interpolated points at the frames of a stretch, read from the cached slice.
 ghost use Rattle.std.specs.Prelude.{◌≡◌, ℕ, ◌+◌, ◌-◌, ◌*◌, ◌/◌, ◌%◌, ◌^◌, ◌≤◌, ◌<◌, ◌≤ℤ◌, pos, negsuc, true, EachIndex, length, slice_index, slice_index_or};
 ghost use Rattle.sample_view.specs.Runs.{IsRunAround};
 ghost use Rattle.sample_view.specs.Words.{words};
@@ -14,8 +14,8 @@ use crate::workspace::LONGEST;
 use sample_view::Points;
 use zone_select::VoiceParameters;
 
-// Point `i` of a slice and the next one, as they stand there: both are read at once, and stay one word, for
-// a struct of two points takes more instructions where several frames are computed at once.
+// Point `i` of a slice and the next one, as one word: with a struct of two points the vectorized loop takes more
+// instructions.
 #[inline(always)]
 #[tactic(auto, using(crate::proofs::SliceLaws::pair_is))]
 fn pair_in(bytes: &[u8], i: usize) -> u32
@@ -30,12 +30,11 @@ fn pair_in(bytes: &[u8], i: usize) -> u32
     ])
 }
 
-// How many frames lie between two points that are read ahead.
+// How many frames lie between two points that are prefetched.
 const APART: usize = 16;
 
-// Reads some of the points before all of them: so memory fetches the parts of a slice side by side, and
-// not each as the run comes to it. All that is read ahead is written again when all are read; it is only
-// written at all so that the compiler keeps the reads, on which the gain rests.
+// Reads some of the points ahead, so that memory fetches the parts of a slice in parallel and not one after another.
+// The reads are stored only so that the compiler keeps them; `read_pairs` overwrites the values.
 #[tactic(auto, using(crate::proofs::PlaceLaws::less_far))]
 fn read_ahead(bytes: &[u8], x: u32, step: u32, pairs: &mut [u32])
     requires short { length pairs.old ≤ LONGEST }
@@ -50,8 +49,8 @@ fn read_ahead(bytes: &[u8], x: u32, step: u32, pairs: &mut [u32])
     }
 }
 
-// The points around places of a slice from `x` on, with `step` more for each frame, four frames at a time:
-// so that each place is one sum away from the first of them. Returns how many frames that are.
+// Reads the pairs of points around positions of a slice, from `x` on with `step` more for each frame, four frames at a
+// time, so that the four positions don't depend on one another. Returns how many frames were read.
 fn read_fours(bytes: &[u8], x: u32, step: u32, pairs: &mut [u32]) -> usize
     requires ends { (k : ℕ) → k < length pairs.old → 2 * ((x + k * step) / 65536) + 3 < length bytes.now }
     requires near { x + length pairs.old * step < 2 ^ 32 }
@@ -71,7 +70,7 @@ fn read_fours(bytes: &[u8], x: u32, step: u32, pairs: &mut [u32]) -> usize
     k
 }
 
-// The points around each place of a slice from `x` on, with `step` more for each frame.
+// Reads the pairs of points around positions of a slice, from `x` on with `step` more for each frame.
 fn read_pairs(bytes: &[u8], x: u32, step: u32, pairs: &mut [u32])
     requires short { length pairs.old ≤ LONGEST }
     requires ends { (k : ℕ) → k < length pairs.old → 2 * ((x + k * step) / 65536) + 3 < length bytes.now }
@@ -86,7 +85,7 @@ fn read_pairs(bytes: &[u8], x: u32, step: u32, pairs: &mut [u32])
     }
 }
 
-// The same, some of them read ahead unless all are near: between the points of each lies what the slice says.
+// Like `read_pairs`, but prefetches unless the points are near.
 fn read_straight(bytes: &[u8], near: bool, x: u32, step: u32, pairs: &mut [u32])
     requires short { length pairs.old ≤ LONGEST }
     requires ends { (k : ℕ) → k < length pairs.old → 2 * ((x + k * step) / 65536) + 3 < length bytes.now }
@@ -100,7 +99,7 @@ fn read_straight(bytes: &[u8], near: bool, x: u32, step: u32, pairs: &mut [u32])
     read_pairs(bytes, x, step, pairs);
 }
 
-// Between two points that stand side by side, at `part` of 65536.
+// Linear interpolation between the two points of a pair, at `part` of 65536.
 #[inline(always)]
 fn between_pair(pair: u32, part: u32) -> i32
     requires { part < 65536 }
@@ -113,7 +112,7 @@ fn between_pair(pair: u32, part: u32) -> i32
     interpolated(here, next, part)
 }
 
-// What lies between the points of each pair, at places from `x` on.
+// Interpolates between the points of each pair, at positions from `x` on.
 fn interpolate(pairs: &[u32], x: u32, step: u32, run: &mut [i16])
     requires long { length pairs.now ≡ length run.old }
     requires near { x + length run.old * step < 2 ^ 32 }
@@ -126,10 +125,10 @@ fn interpolate(pairs: &[u32], x: u32, step: u32, run: &mut [i16])
     }
 }
 
-// The most points of a slice that are read in one go, so that places in it fit 32 bits.
+// The most points of a slice that are read in one pass: positions within them fit in 32 bits.
 const FARTHEST: usize = 32768;
 
-// The slice in hand of a sample's points: its bytes, and the number of its first point.
+// The cached slice of a sample's points: its bytes, and the index of its first point.
 #[derive(Clone, Copy)]
 pub(crate) struct Slice<'a> {
     pub(crate) bytes: &'a [u8],
@@ -137,7 +136,7 @@ pub(crate) struct Slice<'a> {
 }
 
 impl<'a> Slice<'a> {
-    // No slice.
+    // The empty slice.
     pub(crate) fn none() -> Slice<'a>
         ensures { length result.bytes.now ≡ 0 }
     {
@@ -147,7 +146,7 @@ impl<'a> Slice<'a> {
         }
     }
 
-    // The slice in hand if it holds point `i`, and else the one that does.
+    // The cached slice if it contains point `i`; otherwise the slice that does.
     fn around(self, points: &Points<'a>, i: usize) -> Slice<'a>
         requires inside { i < length points.now }
         requires in_hand { IsInHand points.now self }
@@ -166,18 +165,18 @@ impl<'a> Slice<'a> {
     }
 }
 
-// The most points of a loop that a cache holds from one time to the next.
+// The most points of a loop that the processor's cache is expected to keep.
 const SHORT_LOOP: u32 = 8192;
 
-// Whether point `i` is in a loop so short that its points are in a cache.
+// Whether point `i` is in a loop so short that the processor's cache has its points.
 fn is_near(v: &VoiceParameters, looping: bool, i: usize) -> bool
     requires { looping ≡ true → v.now.loop_start < v.now.loop_end }
 {
     looping && v.loop_start as usize <= i && v.loop_end - v.loop_start <= SHORT_LOOP
 }
 
-// Reads the pairs at the front of a run from place `x` on, as far as the slice goes or the loop; returns how many
-// frames that are, and the slice.
+// Reads the pairs of the first frames of a run from position `x` on, up to the end of the slice or the loop. Returns
+// how many frames were read, and the slice.
 fn fill_front<'a>(
     points: &Points<'a>,
     v: &VoiceParameters,
@@ -218,16 +217,16 @@ fn fill_front<'a>(
     }
 }
 
-// The point before which the place stays.
+// The index of the point at which the loop wraps or the sample ends.
 fn limit_of(v: &VoiceParameters, looping: bool) -> u32
     ensures { result ≡ limit v.now looping }
 {
     if looping { v.loop_end } else { v.end }
 }
 
-// The pairs of points around each frame of a stretch, the first of them at place `from`; returns the place of
-// the frame behind them, and the slice that is in hand there. A loop is whole points long: so how far
-// behind its point a frame lies is told from the first place on.
+// Reads the pairs of points around each frame of a stretch, whose first position is `from`. Returns the position of the
+// frame after them, and the slice cached there. A loop is a whole number of points long, so wrapping doesn't change the
+// fraction of a position.
 fn fill_pairs<'a>(
     points: &Points<'a>,
     v: &VoiceParameters,
@@ -259,8 +258,8 @@ fn fill_pairs<'a>(
     (x, slice)
 }
 
-// What the sample says at each frame of a stretch, the first of them at place `from`, by way of pairs of
-// points; returns the place of the frame behind them, and the slice that is in hand there.
+// Computes the interpolated point at each frame of a stretch, whose first position is `from`. Returns the position of
+// the frame after them, and the slice cached there.
 pub(crate) fn fill_points<'a>(
     points: &Points<'a>,
     v: &VoiceParameters,

@@ -1,4 +1,4 @@
-//! The voice of a pair of zones.
+//! Starting the voice of a pair of zones.
 ghost use Rattle.std.specs.Prelude.{◌≡◌, Some, IfOk, IfErr};
 ghost use Rattle.voices.specs.declared.start.VoiceFault.TheVariants as faults;
 ghost use Rattle.voices.specs.Starts.{started, IsStartFault};
@@ -11,7 +11,7 @@ use std::alloc::Global;
 use thiserror::Error;
 use zone_select::params;
 
-/// Why no voice was started.
+/// Why a voice was not started.
 #[derive(Debug, Drop, Clone, Copy, PartialEq, Eq, Error)]
 pub enum VoiceFault {
     /// The note doesn't select the pair of zones.
@@ -31,9 +31,10 @@ impl From<OutOfMemory> for VoiceFault {
 }
 
 impl<'a> Voice<'a> {
-    /// The voice of a pair of zones that the note selects, the number of a preset's zone before that of
-    /// its instrument's, at its first frame. It copies which slices of the file the points are in, and
-    /// not the bank: the bank may change while the voice lives.
+    /// Starts the voice of a pair of zones that the note selects, at its first frame.
+    ///
+    /// The pair is the number of the preset's zone, then that of the instrument's zone. The voice borrows the points
+    /// from the file, not from the bank, so the bank may change while the voice plays.
     pub fn start(
         alloc: Global,
         bank: &Bank<'a>,

@@ -15,8 +15,10 @@ use sample_view::Points;
 use std::marker::Model;
 use zone_select::VoiceParameters;
 
-/// A sample that is played by the numbers of a pair of zones. It holds slices of the file and not the
-/// bank. Contracts see its points, its parameters, and the number of the frame that comes next.
+/// A voice: a sample played with the parameters of a pair of zones.
+///
+/// It borrows the points from the file, not from the bank. Its model is its points, its parameters and the number of
+/// its next frame.
 #[derive(Drop)]
 pub struct Voice<'a> {
     points: Points<'a>,
@@ -39,7 +41,7 @@ impl<'a> Model for Voice<'a> {
 }
 
 impl<'a> Voice<'a> {
-    /// A voice that is at its first frame.
+    /// Creates a voice at its first frame.
     pub fn of(points: Points<'a>, parameters: VoiceParameters) -> Voice<'a>
         requires { IsPlayable (length points) parameters }
         ensures { result ≡ record { value = record { points = points.entry; parameters = parameters }; age = 0 } }
@@ -61,7 +63,7 @@ impl<'a> Voice<'a> {
         self.course.over
     }
 
-    /// The exclusive class of the voice's zones, where they have one (SoundFont 2.04, section 8.1.2, generator 57).
+    /// The exclusive class of the voice's zones, if it isn't 0 (SoundFont 2.04, section 8.1.2, generator 57).
     pub fn exclusive_class(&self) -> Option<i16>
         ensures { result ≡ exclusive_class self.now.value.parameters }
     {
@@ -71,8 +73,9 @@ impl<'a> Voice<'a> {
         Some(self.parameters.class)
     }
 
-    /// The next frame, left and right, each from -32768 to 32767. A voice that is over gives silence
-    /// and counts no more.
+    /// Returns the next frame, left and right, each from -32768 to 32767.
+    ///
+    /// A voice that is over returns silence and doesn't advance.
     #[tactic(auto, using(voice_levels::proofs::PhaseLaws::even_later))]
     pub fn next_frame(&mut self) -> (i32, i32)
         ensures left { result.0 ≡ snd self.old.value true self.old.age }
@@ -92,8 +95,8 @@ impl<'a> Voice<'a> {
         sides
     }
 
-    /// Adds the next frames to sums of both sides, left and right in turn. Each sum has room for one
-    /// more voice: none is further from zero than 65534 voices reach.
+    /// Adds the next frames to interleaved left and right sums, which have space for one more voice: each is within the
+    /// sum of 65534 voices.
     pub fn add_frames(&mut self, work: &mut Workspace, sums: &mut [i32])
         requires even { length sums.old % 2 ≡ 0 }
         requires young { self.old.age + length sums.old < 2 ^ 64 }
@@ -115,8 +118,9 @@ impl<'a> Voice<'a> {
         self.age += sums.len() as u64 / 2;
     }
 
-    /// Adds the next frames as `add_frames` does, but those of a voice in the middle to sums that both sides get: a
-    /// side's sum is its own and that together.
+    /// Adds the next frames like `add_frames`, but those of a centered voice to `middle`, which both sides share.
+    ///
+    /// A side's total is its own sum plus the shared one.
     pub fn add_frames_apart(&mut self, work: &mut Workspace, sums: &mut [i32], middle: &mut [i32])
         requires sums { length sums.old ≡ 2 * length middle.old }
         requires short { length middle.old ≤ LONGEST }
@@ -143,7 +147,7 @@ impl<'a> Voice<'a> {
         self.age += middle.len() as u64;
     }
 
-    /// Goes back by so many frames, as if they had not been given. It takes as long whatever their number.
+    /// Goes back by a number of frames, in constant time.
     pub fn go_back(&mut self, frames: u64)
         requires { frames ≤ self.old.age }
         ensures { self.new ≡ record { value = self.old.value; age = self.old.age - frames } }

@@ -1,18 +1,19 @@
-//! Lists in which a voice computes.
+//! Buffers of a voice.
 
-// The most frames that are computed at once.
+// The most frames that are computed in one pass.
 pub(crate) const LONGEST: usize = 1024;
 
-/// Lists in which a voice computes up to 1,024 frames at once. What stands in them doesn't matter to any call, so one
-/// workspace serves all voices in turn, and is made once.
+/// Buffers in which a voice computes up to 1,024 frames in one pass.
+///
+/// Their contents don't affect any result, so one workspace serves all voices in turn.
 #[derive(Drop)]
 pub struct Workspace {
     pub(crate) stages: Stages,
-    // Frames before they are panned.
+    // The frames before panning.
     pub(crate) run: [i16; LONGEST],
 }
 
-// What is computed of each frame before the frame itself: a word of two points, and two levels.
+// Intermediate values of each frame: a word of two points, and two gains.
 #[derive(Drop)]
 pub(crate) struct Stages {
     pub(crate) words: [u32; LONGEST],
@@ -21,7 +22,7 @@ pub(crate) struct Stages {
 }
 
 impl Workspace {
-    /// A workspace of 10,240 bytes, all of them zero. It takes no memory.
+    /// Creates a workspace of 10,240 bytes, all zero. It allocates nothing.
     pub fn new() -> Workspace {
         Workspace {
             stages: Stages {

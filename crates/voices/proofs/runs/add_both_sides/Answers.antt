@@ -11,7 +11,7 @@ use Rattle.voice_levels.proofs.WriteLaws.{below_set, after_set}
 use Rattle.voices.proofs.RunLaws.{added, is_added, left_side, right_side}
 use Rattle.voices.proofs.runs.add_both_sides.Goals as goal
 
--- what a side gets of a point, however it was read
+-- a side's share of a frame, whichever way it was read
 record Part (z : ℤ) (part : ℕ) (r : ℤ) : Type 0 where
   is : r ≡ side z part
   low : negsuc 32767 ≤ℤ r

@@ -10,7 +10,7 @@ use Rattle.voice_levels.proofs.WriteLaws.{after_set}
 use Rattle.voices.proofs.RunLaws.{added, is_added, silent_added}
 use Rattle.voices.proofs.runs.add_one_side.Goals as goal
 
--- what the side gets of frame k, and the other side nothing
+-- frame k goes to one side, and zero to the other
 its_frame : (run : List ℤ) (k first : ℕ) → first < 2
     → get_or run k (pos 0)
     ≡ cond (nat_eq ((2 * k + first) % 2) first) (get_or run ((2 * k + first) / 2) (pos 0)) (pos 0)
@@ -29,7 +29,7 @@ its_frame run k (suc (suc first)) h = absurd (omega (arith, h))
 nothing : (z : ℤ) (m n : ℕ) → m ≢ n → cond (nat_eq m n) z (pos 0) ≡ pos 0
 nothing z m n h = let e : nat_eq m n ≡ false = grind (arith, nat_tests) in ap (λ b. cond b z (pos 0)) e
 
--- what holds of the sum that is written, and of the others as they were, holds of all before n
+-- a property of each sum before n holds after sum j is written, and the others are unchanged
 written : (P : ℕ → ℤ → Type 0) (xs : List ℤ) (j n : ℕ) (x : ℤ) → j < length xs
     → ((i : ℕ) → i < n → i ≢ j → P i (get_or xs i (pos 0))) → P j x
     → (i : ℕ) → i < n → P i (get_or (set xs j x) i (pos 0))

@@ -9,7 +9,7 @@ use Rattle.voice_levels.proofs.LevelLaws.{shifted_down}
 use Rattle.voices.proofs.SideLaws.{weighed_is, weighed_within, between_within, by_slope}
 use Rattle.voices.proofs.sampled.interpolated.Goals as goal
 
--- what was lost of a product is lost of the sum as well, which fits
+-- wrapping arithmetic is exact where the sum fits
 wrapped_sum : (p q a b c : ℤ) (part : ℕ) → part < 65536 → SFits w16 p → SFits w16 q → a ≡ p → b ≡ q → c ≡ p
     → to_z w32
     ((of_z w32 (to_z w32 (of_z w32 c) *ℤ pos 65536)

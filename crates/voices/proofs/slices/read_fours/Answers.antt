@@ -6,7 +6,7 @@ use Rattle.voices.specs.Runs.{pair_at}
 use Rattle.voice_levels.proofs.WriteLaws.{below_set}
 use Rattle.voices.proofs.slices.read_fours.Goals as goal
 
--- four more frames that lie before the end
+-- four more frames before the end
 record Four (place step long : ℕ) : Type 0 where
   room : place + 4 * step < 4294967296
   first : 2 * (place / 65536) + 3 < long
