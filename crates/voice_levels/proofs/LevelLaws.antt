@@ -1,4 +1,4 @@
--- Bounds of what is scaled.
+-- Bounds of scaled points.
 use Rattle.std.proofs.Common.{◌≡◌, ℕ, ◌+◌, ◌*◌, ◌/◌, ◌<◌, ◌≤◌, suc, ℤ, pos, negsuc, ◌+ℤ◌, ◌-ℤ◌, ◌*ℤ◌, ◌-◌, ◌≤ℤ◌, ap}
 use Rattle.std.proofs.Common.{arith, mul-le-mul_left}
 use Rattle.std.proofs.lemmas.Nat.{div_below, mul-le}
@@ -18,13 +18,13 @@ part_below a f n p h =
     let lt : a * f / n < suc a = div_below (a * f) n (suc a) p (omega arith) in
     omega arith
 
--- a part of a number lies between zero and it
+-- a part of a number lies between zero and the number
 pub part_up : (z : ℤ) (f n : ℕ) → 0 < n → f ≤ n → pos 0 ≤ℤ z
     → (pos 0 ≤ℤ floor_div (z *ℤ pos f) n) × (floor_div (z *ℤ pos f) n ≤ℤ z)
 part_up (pos a) f n p h s = let b : a * f / n ≤ a = part_below a f n p h in (omega (arith, ints), omega (arith, ints))
 part_up (negsuc a) f n p h s = absurd (omega (arith, ints, s))
 
--- minus b, in parts
+-- a part of -b
 negative_part : (b n : ℕ) (z : ℤ) (a : ℕ) → 0 < n → z +ℤ pos b ≡ pos 0 → b ≤ suc a * n
     → (negsuc a ≤ℤ floor_div z n) × (floor_div z n ≤ℤ pos 0)
 negative_part b n (pos c) a p e h =
@@ -59,7 +59,7 @@ part_within z f n p h lo hi =
     (λ s. let b = part_up z f n p h s in (omega (arith, ints, b.0), omega (arith, ints, b.1)))
     (λ s. let b = part_down z f n p h s in (omega (arith, ints, b.0), omega (arith, ints, b.1)))
 
--- and all of it is the number
+-- the whole part of a number is the number
 pub whole_part : (z : ℤ) (n : ℕ) → 0 < n → floor_div (z *ℤ pos n) n ≡ z
 whole_part (pos a) n p = ap pos (mul-div_cancel a p)
 whole_part (negsuc a) n p =
@@ -71,12 +71,12 @@ pub scaled_within : (p : ℤ) (gain : ℕ) → gain ≤ 65536 → negsuc 32767 �
 unfolding scaled_by
 scaled_within p gain h lo hi = part_within p gain 65536 (omega arith) h lo hi
 
--- a level that changes nothing
+-- the full gain changes nothing
 pub full_level : (z : ℤ) → scaled_by z 65536 ≡ z
 unfolding scaled_by
 full_level z = whole_part z 65536 (omega arith)
 
--- a product, read b parts higher
+-- a product, when b is added to its first factor
 pub times_more : (z : ℤ) (a b f : ℕ) → z +ℤ pos b ≡ pos a → z *ℤ pos f +ℤ pos (b * f) ≡ pos (a * f)
 times_more (pos c) a b f e =
     let g : a ≡ c + b = omega (arith, ints, e) in
@@ -94,13 +94,13 @@ faded a b h g =
     let e : a * b ≤ 65536 * 65536 = mul-le a b 65536 65536 h g in
     let q : a * b / 65536 < 65537 = div_below (a * b) 65536 65537 (omega arith) (omega arith) in omega arith
 
--- a product with a number below zero that stands for one of 16 bits takes 65536 times too much
+-- a 16-bit factor read as negative makes a product lower by 65536 times the other factor
 times_wrapped : (z : ℤ) (g b : ℕ) → g + suc b ≡ 65536 → z *ℤ negsuc b +ℤ z *ℤ pos 65536 ≡ z *ℤ pos g
 times_wrapped (pos a) g b e = let h : a * (g + suc b) ≡ a * 65536 = ap (λ x. a * x) e in omega (arith, ints, h)
 times_wrapped (negsuc a) g b e =
     let h : suc a * (g + suc b) ≡ suc a * 65536 = ap (λ x. suc a * x) e in omega (arith, ints, h)
 
--- and its upper half a whole point too much
+-- and its upper half lower by one whole point
 pub wrapped_upper : (p : ℤ) (g b : ℕ) → g + suc b ≡ 65536 → SFits w16 p
     → shr_z (p *ℤ negsuc b) 65536 +ℤ p ≡ scaled_by p g
 unfolding scaled_by
@@ -175,7 +175,7 @@ upper p s from from' f g e h =
       high = u.high;
     }
 
--- a half of 65536 and more is a number below zero, of 16 bits
+-- 16-bit numbers from 32768 on are read as negative
 pub high_signed : (g : ℕ) → 32768 ≤ g → g < 65536 → to_z w16 g ≡ negsuc (65535 - g)
 high_signed g h l =
     ap (to_z w16) (let e : g ≡ 65536 - suc (65535 - g) = omega arith in e) ∙ to_z-neg w16 (65535 - g) (omega arith)

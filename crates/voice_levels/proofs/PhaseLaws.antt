@@ -1,4 +1,4 @@
--- Levels that go on in a straight line, and phases of the envelope.
+-- The phases of the volume envelope, and the linear rise of its attack.
 use Rattle.std.proofs.Common.{◌≡◌, ℕ, zero, suc, ◌+◌, ◌-◌, ◌*◌, ◌/◌, ◌%◌, ◌<◌, ◌≤◌, min, Bool, true, false, cond}
 use Rattle.std.proofs.Common.{nat_lt, refl, sym, ◌∙◌, ap, arith, inl, inr}
 use Rattle.std.proofs.lemmas.Bool.{cases_lt}
@@ -29,7 +29,7 @@ rising_fits whole over rest j h e l =
 pub step_small : (over : ℕ) → 65536 / over ≤ 65536
 step_small over = div-le_self 65536 over
 
--- the frames at which the fall is by so many whole centibels
+-- the frames at which a fall has reached a whole number of centibels
 pub lasts_some : (n over : ℕ) → 0 < over → n < (n / over + 1) * over
 lasts_some n over p =
     let e : n / over * over + n % over ≡ n = div-add-mod' n over in
@@ -47,11 +47,11 @@ lasting over fallen k p h =
     let above : a ≤ 960 * (fallen + k) / over = le-div a (960 * (fallen + k)) over p (omega (arith, e)) in
     omega (arith, below, above)
 
--- of all of the loudness a gain leaves itself
+-- a gain of the full gain is itself
 pub left_of_all : (g : ℕ) → 65536 * g / 65536 ≡ g
 left_of_all g = omega arith
 
--- the decay has come down to the sustain
+-- the decay has reached the sustain
 pub sustained : (s d u w : ℕ) → s * d ≤ 960 * u → u ≤ w
     → gain_at (cond (nat_lt 0 d) (min s (960 * w / d)) s) ≡ gain_at s
 sustained s d u w h l =
@@ -65,7 +65,7 @@ sustained s d u w h l =
           let t : nat_lt 0 d ≡ false = grind (arith, nat_tests) in ap (λ b. gain_at (cond b (min s (960 * w / d)) s)) t
     ]
 
--- the decay has not come down to it
+-- the decay has not yet reached the sustain
 pub decaying : (s d w : ℕ) → 960 * w < s * d
     → gain_at (960 * w / d) ≡ gain_at (cond (nat_lt 0 d) (min s (960 * w / d)) s)
 decaying s zero w h = absurd (omega arith)
@@ -134,7 +134,7 @@ envelope_after v k h =
     let f : nat_lt k v.length ≡ false = grind (arith, nat_tests) in
     ap (λ b. cond b (held v k) (released v (k - v.length))) f
 
--- the release, from numbers that are equal to its own
+-- the release, from equal numbers
 pub released_is : (v : VoiceParameters) (l k at_end over : ℕ) → l ≡ v.length → at_end ≡ held v v.length
     → over ≡ v.release → l ≤ k
     → envelope v k ≡ at_end * gain_at (960 * (k - l) / over) / 65536
@@ -146,7 +146,7 @@ released_is v l k at_end over e f g h =
     ∙ ap (λ y. held v v.length * gain_at (960 * (k - l) / y) / 65536) (sym g)
     ∙ ap (λ y. y * gain_at (960 * (k - l) / over) / 65536) (sym f)
 
--- the frames of one centibel
+-- the frames within one centibel
 pub same_centibel : (over fallen k : ℕ) → 0 < over → fallen ≤ k → k < ((960 * fallen / over + 1) * over + 959) / 960
     → 960 * fallen / over ≡ 960 * k / over
 same_centibel over fallen k p le lt =
@@ -192,7 +192,7 @@ held_decayed v k h =
     let b : nat_lt (k - v.delay) v.attack ≡ false = grind (arith, nat_tests) in
     let d : nat_lt (k - v.delay - v.attack) v.hold ≡ false = grind (arith, nat_tests) in rw (a, b, d) refl
 
--- levels of these phases
+-- the gains of these phases
 pub none_even : (f : ℕ → ℕ) (t : ℕ) (level : Level) → level.until ≡ 0 → IsEven f t level
 none_even f t level e = record { even = λ k le lt. absurd (omega (arith, e, lt)) }
 
@@ -222,7 +222,7 @@ pub sustained_even : (v : VoiceParameters) (t : ℕ) (level : Level) → v.susta
 unfolding decayed
 sustained_even v t level h e = record { even = λ k le lt. sustained v.sustain v.decay t k h le ∙ sym e }
 
--- the rise of the attack, from numbers that are equal to its own
+-- the attack, from equal numbers
 pub attack_is : (v : VoiceParameters) (t k attack delay : ℕ) → attack ≡ v.attack → delay ≡ v.delay → delay ≤ t
     → t - delay + k < attack → t + k < v.length
     → 65536 * (t - delay + k) / attack ≡ envelope v (t + k)
@@ -232,6 +232,6 @@ attack_is v t k attack delay e f h g l =
     ∙ sym (held_rising v (t + k) (omega (arith, f, h)) (omega (arith, e, f, h, g)))
     ∙ envelope_held v (t + k) l
 
--- an even level is so from later on
+-- a gain from frame t on is also one from a later frame on
 pub even_later : (f : ℕ → ℕ) (t s : ℕ) (level : Level) → t ≤ s → IsEven f t level → IsEven f s level
 even_later f t s level l h = record { even = λ k le lt. h.even k (omega (arith, l, le)) lt }

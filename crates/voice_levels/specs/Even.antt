@@ -1,7 +1,7 @@
--- A level, and how long it lasts.
+-- A gain, and how long it stays the same.
 use Rattle.std.specs.Prelude.{ℕ, ◌≡◌, ◌<◌, ◌≤◌}
 use Rattle.voice_levels.specs.declared.phases.Level.{Level}
 
--- from frame t on a loudness stays at a level, up to the frame that is told with it
+-- a function of frames equals a gain from frame t on, up to the frame at which the gain expires
 pub record IsEven (loudness : ℕ → ℕ) (t : ℕ) (level : Level) : Type 0 where
   pub even : (k : ℕ) → t ≤ k → k < level.until → loudness k ≡ level.loud

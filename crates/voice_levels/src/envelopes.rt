@@ -1,11 +1,11 @@
-//! How loud a voice is.
+//! The gain of the volume envelope at a frame.
 ghost use Rattle.std.specs.Prelude.{◌≡◌, ◌≤◌, ◌<◌, ◌+◌, ◌^◌};
 ghost use Rattle.voice_levels.specs.Envelope.{decayed, held, envelope};
 
 use sound_tables::gain;
 use zone_select::VoiceParameters;
 
-// The level so many frames into the decay.
+// The gain of the envelope at a frame of the decay, counted from its start.
 #[tactic(auto, unfolding(crate::specs::Envelope::decayed))]
 fn decayed_at(v: &VoiceParameters, fallen: u64) -> u32
     requires { fallen < 2 ^ 34 }
@@ -18,7 +18,7 @@ fn decayed_at(v: &VoiceParameters, fallen: u64) -> u32
     gain((960 * fallen / u64::from(v.decay)).min(u64::from(v.sustain)) as i64)
 }
 
-/// The level at frame `t` of the note, before its end, of 65536.
+/// Returns the gain of the volume envelope at frame `t` before the note's end, in 65536ths.
 #[tactic(auto, unfolding(crate::specs::Envelope::held))]
 pub fn held_at(v: &VoiceParameters, t: u64) -> u32
     requires { t < 2 ^ 34 }
@@ -42,7 +42,7 @@ pub fn held_at(v: &VoiceParameters, t: u64) -> u32
     decayed_at(v, kept - hold)
 }
 
-/// The level at frame `t`, while the voice isn't over, of 65536.
+/// Returns the gain of the volume envelope at frame `t` while the voice isn't over, in 65536ths.
 #[tactic(auto, using(crate::proofs::LevelLaws::faded), unfolding(crate::specs::Envelope::envelope, crate::specs::Envelope::released))]
 pub fn envelope_at(v: &VoiceParameters, t: u64) -> u32
     requires { t < v.now.length + v.now.release }

@@ -1,9 +1,9 @@
-//! How points are made quieter. Each frame comes here, so the calls are inlined always: a loop over a run then has
-//! none, and is done for several frames at once.
+//! Applying a gain to a point. These functions are always inlined, so that a loop over a run has no calls and is
+//! vectorized.
 ghost use Rattle.std.specs.Prelude.{◌≡◌, ◌≤◌, ◌≤ℤ◌, pos, negsuc};
 ghost use Rattle.voice_levels.specs.Levels.{scaled_by};
 
-/// A point as loud as `gain` of 65536.
+/// Applies a gain, in 65536ths, to a point.
 #[inline(always)]
 #[tactic(auto, using(crate::proofs::LevelLaws::scaled_within), unfolding(crate::specs::Levels::scaled_by))]
 pub fn attenuated(p: i32, gain: u32) -> i32
@@ -17,8 +17,8 @@ pub fn attenuated(p: i32, gain: u32) -> i32
     (p * gain as i32) >> 16
 }
 
-// A point as loud as `gain` of 65536, which is less than all. Both fit 16 bits, a half of all and more as a
-// number below zero, which takes a whole point too much: so many frames are multiplied at once.
+// Applies a gain below 65536 to a point. Both factors are signed 16-bit numbers, which vectorizes well: a gain of at
+// least 32768 becomes negative, so the product's upper half is one whole point too low, which is added again.
 #[inline(always)]
 pub(crate) fn softer(p: i16, gain: u16) -> i16
     ensures { result ≡ scaled_by p gain }

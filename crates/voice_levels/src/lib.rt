@@ -1,4 +1,4 @@
-//! How loud a voice is from frame to frame, and its points made so.
+//! The volume envelope, and applying it to points.
 #![tactic(auto)]
 
 mod envelopes;

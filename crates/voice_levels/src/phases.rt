@@ -1,4 +1,4 @@
-//! How loud a voice is from a frame on, and for how long.
+//! The gain of the volume envelope from a frame on, and how long it stays the same.
 ghost use Rattle.std.specs.Prelude.{◌≡◌, ℕ, ◌+◌, ◌*◌, ◌/◌, ◌%◌, ◌^◌, ◌≤◌, ◌<◌, EachIndex, length, slice_index};
 ghost use Rattle.sound_tables.specs.Tables.{gain_at};
 ghost use Rattle.voice_levels.specs.Even.{IsEven};
@@ -7,18 +7,18 @@ ghost use Rattle.voice_levels.specs.Envelope.{decayed, held, envelope};
 use sound_tables::gain;
 use zone_select::VoiceParameters;
 
-/// A level, and the frame before which it stays so.
+/// A gain of the envelope, and the frame before which it stays the same.
 #[derive(Clone, Copy)]
 pub struct Level {
     pub(crate) loud: u32,
     pub(crate) until: u64,
 }
 
-// A level that has ended.
+// An expired gain.
 const NO_LEVEL: Level = Level { loud: 0, until: 0 };
 
 impl Level {
-    /// A level that has ended.
+    /// Returns an expired gain.
     #[tactic(auto, using(crate::proofs::PhaseLaws::none_even))]
     pub fn ended() -> Level
         ensures { (loudness : ℕ → ℕ) → (t : ℕ) → IsEven loudness t result }
@@ -27,10 +27,11 @@ impl Level {
     }
 }
 
-// No level lasts longer.
+// A frame after the end of any gain.
 const FOREVER: u64 = 1_099_511_627_776;
 
-// The level so many frames into a fall from `level` by 960 centibels: as long as one centibel lasts.
+// The gain at a frame of a fall from `level` by 960 centibels, counted from its start; it lasts as long as its
+// centibel.
 #[tactic(auto, using(crate::proofs::PhaseLaws::lasts_some, crate::proofs::PhaseLaws::lasts_shortly, crate::proofs::LevelLaws::faded))]
 fn falling_from(level: u32, over: u64, fallen: u64) -> Level
     requires most { level ≤ 65536 }
@@ -49,7 +50,7 @@ fn falling_from(level: u32, over: u64, fallen: u64) -> Level
     }
 }
 
-// The level so many frames into the decay.
+// The gain at a frame of the decay, counted from its start.
 #[tactic(auto, using(crate::proofs::PhaseLaws::sustained_even))]
 fn decayed_from(v: &VoiceParameters, fallen: u64) -> Level
     requires near { fallen < 2 ^ 34 }
@@ -68,7 +69,7 @@ fn decayed_from(v: &VoiceParameters, fallen: u64) -> Level
     falling_from(65536, decay, fallen)
 }
 
-// The level at frame `t`, if the note lasts so long; one that has ended by then where the voice rises.
+// The gain at frame `t` before the note's end; an expired one during the attack.
 #[tactic(auto, using(crate::proofs::PhaseLaws::delayed_even, crate::proofs::PhaseLaws::full_even, crate::proofs::PhaseLaws::decayed_even, crate::proofs::PhaseLaws::none_even))]
 fn held_from(v: &VoiceParameters, t: u64) -> Level
     requires near { t < 2 ^ 33 }
@@ -100,8 +101,7 @@ fn held_from(v: &VoiceParameters, t: u64) -> Level
     }
 }
 
-// The level at frame `t`, of a voice that is as loud as `at_end` at its note's end; one that has ended by then
-// where the voice rises.
+// The gain at frame `t`, where `at_end` is the gain at the note's end; an expired one during the attack.
 fn level_from(v: &VoiceParameters, t: u64, at_end: u32) -> Level
     requires unreleased { t < v.now.length + v.now.release }
     requires at_end { (at_end ≡ held v.now v.now.length) × (at_end ≤ 65536) }
@@ -124,7 +124,8 @@ fn level_from(v: &VoiceParameters, t: u64, at_end: u32) -> Level
     }
 }
 
-// Rising to 65536 in so many frames, from `risen` frames on: no frame divides.
+// Fills in the gains of a linear rise to 65536 in `over` frames, from frame `risen` of it on, without a division for
+// each frame.
 #[tactic(auto, using(crate::proofs::PhaseLaws::rising_fits, crate::proofs::PhaseLaws::step_small))]
 fn fill_rising(over: u64, risen: u64, levels: &mut [u16])
     requires divisor { (0 < over) × (over < 2 ^ 32) }
@@ -146,8 +147,7 @@ fn fill_rising(over: u64, risen: u64, levels: &mut [u16])
     }
 }
 
-// The levels of a stretch from `t` on that begins as the voice rises, as far as that goes; returns how many
-// frames that are.
+// Fills in the gains of a stretch from `t` on that begins in the attack, up to the attack's end. Returns how many.
 pub(crate) fn fill_attack(v: &VoiceParameters, t: u64, levels: &mut [u16]) -> usize
     requires some { 0 < length levels.old }
     requires rising { (v.now.delay ≤ t) × (t < v.now.delay + v.now.attack) }
@@ -163,7 +163,7 @@ pub(crate) fn fill_attack(v: &VoiceParameters, t: u64, levels: &mut [u16]) -> us
     n
 }
 
-// The level in hand, or else, where it has ended by frame `t`, that which is next.
+// The current gain or, if it has expired by frame `t`, the next one.
 pub(crate) fn level_at(v: &VoiceParameters, t: u64, hand: Level, at_end: u32) -> Level
     requires unreleased { t < v.now.length + v.now.release }
     requires in_hand { IsEven (envelope v.now) t hand }

@@ -1,4 +1,4 @@
-//! Points made as loud as their voice is: level by level, each as long as it lasts.
+//! Applying the envelope and the attenuation to runs of points, one gain at a time.
 ghost use Rattle.std.specs.Prelude.{◌≡◌, ℕ, ◌+◌, ◌*◌, ◌^◌, ◌≤◌, ◌<◌, pos, EachIndex, length, slice_index, slice_index_or};
 ghost use Rattle.sound_tables.specs.Tables.{gain_of};
 ghost use Rattle.voice_levels.specs.Even.{IsEven};
@@ -9,10 +9,10 @@ use crate::levels::softer;
 use crate::phases::{Level, fill_attack, level_at};
 use zone_select::VoiceParameters;
 
-// A level that changes nothing.
+// The gain that changes nothing.
 const FULL: u32 = 65536;
 
-// One level throughout.
+// Fills in the same gain throughout.
 fn fill_even(level: u16, levels: &mut [u16])
     ensures { EachIndex levels.new (λ k. slice_index levels.new k ≡ level) }
 {
@@ -21,7 +21,7 @@ fn fill_even(level: u16, levels: &mut [u16])
     }
 }
 
-// Makes each point as loud as its level, each of which is less than the full one.
+// Applies to each point its gain, which is below the full gain.
 fn quieten(levels: &[u16], run: &mut [i16])
     requires long { length levels.now ≡ length run.old }
     ensures { EachIndex run.new (λ k. slice_index_or run.new k (pos 0)
@@ -32,7 +32,7 @@ fn quieten(levels: &[u16], run: &mut [i16])
     }
 }
 
-// Makes each point as loud as its level, and then as loud as another: both in one pass over the run.
+// Applies to each point a gain and then another, in one pass over the run.
 fn quieten_twice(levels: &[u16], others: &[u16], run: &mut [i16])
     requires long { length levels.now ≡ length run.old }
     requires others { length others.now ≡ length run.old }
@@ -45,8 +45,7 @@ fn quieten_twice(levels: &[u16], others: &[u16], run: &mut [i16])
     }
 }
 
-// Makes each point as loud as one level, by way of a list that has it for each: the compiler sees of
-// numbers of a list that they fit 16 bits, and of one that stays the same it doesn't.
+// Applies one gain to all points, from a list filled with it: the compiler then knows that it fits in 16 bits.
 #[tactic(auto, using(crate::proofs::LevelLaws::full_level))]
 fn quieten_evenly(level: u32, levels: &mut [u16], run: &mut [i16])
     requires long { length levels.old ≡ length run.old }
@@ -60,7 +59,7 @@ fn quieten_evenly(level: u32, levels: &mut [u16], run: &mut [i16])
     }
 }
 
-// Makes each point as loud as its level, and then as loud as one for all.
+// Applies to each point its gain, and then one gain to all.
 fn quieten_by(levels: &[u16], loudness: u32, others: &mut [u16], run: &mut [i16])
     requires long { length levels.now ≡ length run.old }
     requires others { length others.old ≡ length run.old }
@@ -76,8 +75,8 @@ fn quieten_by(levels: &[u16], loudness: u32, others: &mut [u16], run: &mut [i16]
     }
 }
 
-// The front of the levels from `t` on, as far as one goes or the attack; returns how many these are, none where
-// it is the full one, which fits no 16 bits.
+// Fills in the first gains from `t` on, up to the end of one gain or of the attack. Returns how many: none at the full
+// gain, which doesn't fit in 16 bits.
 fn fill_level(v: &VoiceParameters, t: u64, level: Level, levels: &mut [u16]) -> usize
     requires some { 0 < length levels.old }
     requires held { t < v.now.length → t + length levels.old ≤ v.now.length }
@@ -98,8 +97,7 @@ fn fill_level(v: &VoiceParameters, t: u64, level: Level, levels: &mut [u16]) -> 
     n
 }
 
-// The levels from `t` on, as far as they are less than the full one; returns how many these are, and the level
-// that is in hand behind them.
+// Fills in the gains from `t` on, up to the first full gain. Returns how many, and the gain that follows.
 fn fill_levels(
     v: &VoiceParameters,
     t: u64,
@@ -131,8 +129,8 @@ fn fill_levels(
     (at, level)
 }
 
-// Makes the front of a stretch from `t` on as loud as the voice is then, as far as the levels are less than the
-// full one, or else as far as that goes; returns how many frames that are, and the level.
+// Applies the envelope and the attenuation to the first points of a stretch from `t` on: those before the first full
+// gain or, if there are none, those at the full gain. Returns how many, and the gain that follows.
 fn soften_front(
     v: &VoiceParameters,
     t: u64,
@@ -173,9 +171,10 @@ fn soften_front(
     (n, level)
 }
 
-/// Makes the points of a stretch as loud as the voice is, from the level in hand on, by way of as many levels
-/// twice; returns the level that is in hand behind it. The note's end ends a stretch. The voice is as loud as
-/// `at_end` at it, and its attenuation leaves `loudness` of 65536.
+/// Applies the envelope and the attenuation to the points of a stretch, and returns the gain that follows.
+///
+/// A stretch ends at the latest where the note ends. `at_end` is the envelope's gain at the note's end, `loudness` the
+/// gain of the attenuation, both in 65536ths. `levels` and `others` are buffers.
 pub fn soften(
     v: &VoiceParameters,
     t: u64,

@@ -7,7 +7,7 @@ use Rattle.voice_levels.proofs.LevelLaws.{Within, scaled_within, low_product, wr
 use Rattle.voice_levels.proofs.levels.softer.Goals as goal
 use Rattle.voice_levels.proofs.levels.softer.Goals.{Joined-gain-lt32768, then-gain-lt32768, else-gain-lt32768}
 
--- the upper half of the product, and with the whole point or none, is as loud
+-- the upper half of the product, plus the whole point if the gain is negative
 record Softened (upper whole loud : ℤ) : Type 0 where
   half : Within upper
   sum : upper +ℤ whole ≡ loud
