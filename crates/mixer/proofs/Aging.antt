@@ -1,4 +1,4 @@
--- Voices that a block makes older, one after the other.
+-- Voices that a block advances, one after another.
 use Rattle.std.proofs.Common.{◌≡◌, ℕ, ◌+◌, ◌-◌, ◌/◌, ◌<◌, ◌≤◌, ℤ, pos, ◌+ℤ◌, List, [], ◌∷◌, ◌++◌, map, take, drop}
 use Rattle.std.proofs.Common.{length, get_or, refl, sym, ap, ◌∙◌, subst, arith}
 use Rattle.std.proofs.lemmas.List.{take_more, map-append, drop-drop, append_assoc}
@@ -14,7 +14,7 @@ use Rattle.mixer.specs.Events.{aged, total_at}
 use Rattle.mixer.specs.KeptVoices.{AllYounger}
 use Rattle.mixer.proofs.Sums.{sum_of-append, add_z-zero, add_z-assoc}
 
--- the element that the loop comes to is as it was
+-- the element at the loop's index is unchanged
 pub still : {X : Type 0} (f : X → X) (xs ys : List X) (i : ℕ) (d : X) → i < length xs
     → ys ≡ map f (take i xs) ++ drop i xs → get_or ys i d ≡ get_or xs i d
 still f xs ys i d h e = grind (arith, common_steps)
@@ -51,7 +51,7 @@ pub total_none : (k : ℕ) → total_at [] k ≡ pos 0
 unfolding total_at sum_of
 total_none k = refl
 
--- one more added
+-- one more voice is added
 pub added : (new was first before this : ℤ) → new ≡ was +ℤ this → was ≡ first +ℤ before
     → new ≡ first +ℤ (before +ℤ this)
 added new was first before this e h = e ∙ ap (λ (z : ℤ). z +ℤ this) h ∙ add_z-assoc first before this
@@ -59,7 +59,7 @@ added new was first before this e h = e ∙ ap (λ (z : ℤ). z +ℤ this) h ∙
 pub added_on : (new was before this : ℤ) → new ≡ was +ℤ this → was ≡ before → new ≡ before +ℤ this
 added_on new was before this e h = e ∙ ap (λ (z : ℤ). z +ℤ this) h
 
--- after the first i
+-- the list after the first i elements
 front : {X : Type 0} (f : X → X) (xs ys : List X) (i : ℕ) → i ≤ length xs → ys ≡ map f (take i xs) ++ drop i xs
     → take i ys ≡ map f (take i xs)
 front f xs ys i h e = grind (arith, common_steps)
@@ -79,7 +79,7 @@ young_part f xs ys i n m h e young =
     let y : Playing → Type 0 = λ p. p.voice.age < m in
     subst P (sym (part_is xs ys i n (back f xs ys i h e))) (All-take y n (drop i xs) (All-drop y i xs young))
 
--- n further
+-- the list after n more elements
 pub part_live : {X : Type 0} (f : X → X) (xs ys mid : List X) (i n : ℕ) → i + n ≤ length xs
     → ys ≡ map f (take i xs) ++ drop i xs → mid ≡ map f (take (i + n - i) (drop i ys))
     → take i ys ++ (mid ++ drop (i + n - i) (drop i ys)) ≡ map f (take (i + n) xs) ++ drop (i + n) xs

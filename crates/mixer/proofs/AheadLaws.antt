@@ -1,4 +1,4 @@
--- Sums that are ahead.
+-- The sums of frames mixed ahead.
 use Rattle.std.proofs.Common.{◌≡◌, ℕ, ◌+◌, ◌-◌, ◌*◌, ◌/◌, ◌<◌, ◌≤◌, ◌^◌, ℤ, pos, ◌+ℤ◌, List, ◌++◌, map, filter}
 use Rattle.std.proofs.Common.{false, not, take, drop, length, get_or, inl, inr, sym, ap, ◌∙◌, subst, arith}
 use Rattle.std.specs.List.{All, list_any}
@@ -20,7 +20,7 @@ use Rattle.mixer.proofs.Parts.{filter_all}
 use Rattle.mixer.proofs.Rewinding.{rewound-none, rewound-aged, rewound-fewer, unsilenced-rewound, sounding_later}
 use Rattle.mixer.proofs.Rewinding.{next_sounding, total_later}
 
--- ---- how far sums go
+-- ---- bounds of sums
 
 pub within_more : (m n : ℕ) (a : Ahead) → m ≤ n → AreWithin m a → AreWithin n a
 within_more m n a le h = record {
@@ -35,7 +35,7 @@ written : (n k : ℕ) (xs ys zs : List ℤ) → n ≤ length xs → k < length y
     → get_or (take n xs ++ (ys ++ zs)) (n + k) (pos 0) ≡ get_or ys k (pos 0)
 written n k xs ys zs h l = grind (arith, common_steps)
 
--- what is written there is read there
+-- a value written there is read there
 pub sides_written : (left : ℕ) (xs ys zs : List ℤ) (i : ℕ) → left ≤ 256 → length xs ≡ 512 → i < length ys
     → get_or (take (2 * (256 - left)) xs ++ (ys ++ zs)) (512 - 2 * left + i) (pos 0) ≡ get_or ys i (pos 0)
 sides_written left xs ys zs i le size l =
@@ -47,7 +47,7 @@ pub middle_written : (left : ℕ) (xs ys zs : List ℤ) (k : ℕ) → left ≤ 2
     → get_or (take (256 - left) xs ++ (ys ++ zs)) (256 - left + k) (pos 0) ≡ get_or ys k (pos 0)
 middle_written left xs ys zs k le size l = written (256 - left) k xs ys zs (omega (arith, le, size)) l
 
--- the ends as they are lent
+-- the lengths of the ends, as they are borrowed
 pub length-sides : (left : ℕ) (xs : List ℤ) → left ≤ 256 → length xs ≡ 512
     → length (take (512 - 2 * (256 - left)) (drop (2 * (256 - left)) xs)) ≡ 2 * left
 length-sides left xs le size =
@@ -78,7 +78,7 @@ pub middle_lent : (left : ℕ) (xs : List ℤ) (k : ℕ) → left ≤ 256 → k 
     → get_or (take (256 - (256 - left)) (drop (256 - left) xs)) k (pos 0) ≡ get_or xs (256 - left + k) (pos 0)
 middle_lent left xs k le l = lent (256 - left) (256 - (256 - left)) k xs (omega (arith, le, l))
 
--- ---- where none are left
+-- ---- without remaining frames
 
 pub none_within : (n : ℕ) (a : Ahead) → a.left ≡ 0 → AreWithin n a
 none_within n a e =
@@ -101,7 +101,7 @@ none_ahead a ps e young = record {
   few = λ h. absurd (omega (arith, e, h));
 }
 
--- the sums of a player's voices fit
+-- the sums of a player's voices fit in their integers
 pub room_of : (a : Ahead) (ps : List Playing) → IsAhead a ps → AreWithin 32767 a
 room_of a ps h = elim (cases_lt 0 a.left) [
   | inl some ↦
@@ -111,7 +111,7 @@ room_of a ps h = elim (cases_lt 0 a.left) [
   | inr none ↦ none_within 32767 a (omega (arith, none))
 ]
 
--- ---- voices that are young
+-- ---- the ages of voices
 
 pub younger_more : (m n : ℕ) (ps : List Playing) → m ≤ n → AllYounger m ps → AllYounger n ps
 younger_more m n ps le young = λ k d l. let g : (get_or ps k d).voice.age < m = young k d l in omega (arith, g, le)
@@ -122,7 +122,7 @@ total-append : (ps qs : List Playing) (i : ℕ) → total_at (ps ++ qs) i ≡ to
 unfolding total_at
 total-append ps qs i = sum_of-append _ ps qs
 
--- one list is those that are left of another with more in them
+-- the remaining frames of one list plus those of more voices
 pub joined : (a b : Ahead) (ps qs : List Playing) → b.left ≡ a.left
     →
     ((i : ℕ) → i < 2 * a.left
@@ -154,7 +154,7 @@ joined a b ps qs left sums sides middle h =
 
 -- ---- later frames
 
--- m frames were given
+-- m frames have been written
 pub given_later : (a b : Ahead) (ps : List Playing) (m : ℕ) → b.sides ≡ a.sides → b.middle ≡ a.middle
     → b.left + m ≡ a.left → AreSums a ps → AreSums b (map (aged m) ps)
 given_later a b ps m sides middle left h =
@@ -188,7 +188,7 @@ given_later a b ps m sides middle left h =
           ∙ sym (total_later m i ps);
     }
 
--- of a player
+-- the invariant of a player after m frames
 pub ahead_later : (a b : Ahead) (ps : List Playing) (m : ℕ) → b.left + m ≡ a.left
     → ((qs : List Playing) → AreSums a qs → AreSums b (map (aged m) qs)) → IsAhead a ps → IsAhead b ps
 ahead_later a b ps m left sums h = record {
@@ -213,7 +213,7 @@ pub none_playing : (a : Ahead) (ps : List Playing) → a.left ≡ 0 → playing_
 unfolding playing_now
 none_playing a ps e = ap (λ n. filter is_sounding (map (rewound n) ps)) e ∙ ap (filter is_sounding) (rewound-none ps)
 
--- all voices went back
+-- all voices have gone back
 young_behind : (n m : ℕ) (ps : List Playing) → AllYounger m ps → AllYounger m (map (rewound n) ps)
 unfolding rewound
 young_behind n m ps young =
@@ -229,7 +229,7 @@ pub gone_back_playing : (a b : Ahead) (ps : List Playing) → b.left ≡ 0
 unfolding playing_now
 gone_back_playing a b ps e = none_playing b (map (rewound a.left) ps) e
 
--- some were silenced, or none where frames are left
+-- some voices are dropped, or none if frames remain
 pub silenced_ahead : (a : Ahead) (ps new : List Playing) → (0 < a.left → list_any has_class new ≡ false)
     → IsAhead a ps → IsAhead a (unsilenced new ps)
 unfolding unsilenced
@@ -245,7 +245,7 @@ pub silenced_playing : (a : Ahead) (ps new : List Playing)
 unfolding playing_now
 silenced_playing a ps new = sym (unsilenced-rewound new a.left ps)
 
--- new voices joined
+-- new voices have joined
 given_all : (n : ℕ) (ps : List Playing) → All (λ (p : Playing). n ≤ p.voice.age) (map (aged n) ps)
 unfolding aged
 given_all n ps = All-map (λ (p : Playing). n ≤ p.voice.age) (aged n) ps (λ k d l. omega arith)
@@ -286,7 +286,7 @@ started_playing a b ps new left all =
     ∙ filter-append is_sounding (map (rewound a.left) ps) new
     ∙ ap (λ l. filter is_sounding (map (rewound a.left) ps) ++ l) (filter_all new all)
 
--- frames of all voices were summed
+-- frames of all voices have been summed
 pub filled_ahead : (a : Ahead) (ps : List Playing) → length ps ≤ 32767 → AllYounger (2 ^ 33) ps → AreSums a ps
     → IsAhead a (map (aged a.left) ps)
 filled_ahead a ps few young h = record {
@@ -300,20 +300,20 @@ pub filled_playing : (a : Ahead) (ps : List Playing) → AllSounding ps → play
 unfolding playing_now
 filled_playing a ps all = ap (filter is_sounding) (rewound-aged a.left ps) ∙ filter_all ps all
 
--- what is given first
+-- the first of the remaining frames
 pub heard_first : (a : Ahead) (ps : List Playing) (k : ℕ)
     → next_side (map (rewound a.left) ps) k ≡ next_side (playing_now a ps) k
 unfolding playing_now
 heard_first a ps k = sym (next_sounding (map (rewound a.left) ps) k)
 
--- those that are over were dropped
+-- voices that are over have been dropped
 pub dropped_playing : (a : Ahead) (ps : List Playing) → a.left ≡ 0
     → playing_now a (filter is_sounding ps) ≡ playing_now a ps
 dropped_playing a ps e =
     none_playing a (filter is_sounding ps) e ∙ filter_all (filter is_sounding ps) (filter_passes is_sounding ps)
     ∙ sym (none_playing a ps e)
 
--- all of them sound
+-- none of them is over
 pub playing_sounds : (a : Ahead) (ps : List Playing) → AllSounding (playing_now a ps)
 unfolding playing_now
 playing_sounds a ps = filter_passes is_sounding (map (rewound a.left) ps)

@@ -1,4 +1,4 @@
--- Banks that give each note the same voices sound the same.
+-- Banks that give each note the same voices render identically.
 use Rattle.std.proofs.Common.{◌≡◌, ℕ, ◌+◌, ◌-◌, ◌*◌, ◌/◌, ℤ, pos, ◌+ℤ◌, Bool, cond, nat_le, ◌&&◌, ◌||◌, max, List}
 use Rattle.std.proofs.Common.{[], ◌∷◌, map, refl, sym, ap, ◌∙◌}
 use Rattle.std.specs.List.{range_with_len}
@@ -29,7 +29,7 @@ silences-permuted : (ps qs : List Playing) → IsPermutation ps qs → (p : Play
 unfolding silences
 silences-permuted ps qs h p = list_any-IsPermutation (λ q. excludes q p) ps qs h
 
--- equal at each element, in another order
+-- functions that are equal at each element, and lists that are permutations
 sum_of-alike : (f g : Playing → ℤ) (ps qs : List Playing) → ((p : Playing) → f p ≡ g p) → IsPermutation ps qs
     → sum_of f ps ≡ sum_of g qs
 sum_of-alike f g ps qs e h = sum_of-same f g e ps ∙ sum_of-permuted g ps qs h

@@ -1,4 +1,4 @@
--- The blocks of a player are what is heard.
+-- A player's blocks are the frames of its note starts.
 use Rattle.std.proofs.Common.{◌≡◌, ℕ, ◌+◌, ◌-◌, ◌*◌, ◌/◌, ◌<◌, ◌≤◌, ℤ, pos, ◌+ℤ◌, Bool, true, false, cond, not}
 use Rattle.std.proofs.Common.{nat_le, ◌||◌, ◌&&◌, List, [], ◌∷◌, ◌++◌, map, filter, refl, sym, ap, subst, ◌∙◌, arith}
 use Rattle.std.proofs.Common.{add_assoc, nat_eq, ◌%◌}
@@ -20,7 +20,7 @@ use Rattle.mixer.specs.Events.{after_start, aged, after_block, total_at, next_si
 use Rattle.mixer.proofs.Ranges.{map_range-same, map_range-split}
 use Rattle.mixer.proofs.Sums.{zero-add_z, add_z-zero, add_z-assoc, sum_of-append, sum_of-same, sum_of-map, sum_of-kept}
 
--- over stays over, so that a voice that is over is silent from then on
+-- a voice that is over is silent from then on
 pub over_is_silent : (p : Playing) (left : Bool) (u : ℕ) → is_sounding p ≡ false
     → snd p.voice.value left (p.voice.age + u) ≡ pos 0
 unfolding is_sounding snd
@@ -30,7 +30,7 @@ over_is_silent p left u h =
     ap (λ (b : Bool). cond b (pos 0) (side (sound_at p.voice.value (p.voice.age + u)) (part_of v left)))
     (over_stays v p.voice.age (p.voice.age + u) (omega arith) now)
 
--- the same at frame t, whatever stops it
+-- the same at frame t, whatever silences it
 over_at : (later : List Start) (from t : ℕ) (left : Bool) (p : Playing) → is_sounding p ≡ false
     → voice_at later from left t p ≡ pos 0
 unfolding voice_at
@@ -39,7 +39,7 @@ over_at later from t left p h =
     let at : (b : Bool) → P b = elim [ true ↦ refl | false ↦ over_is_silent p left (t - from) h ] in
     at (is_silenced later t p)
 
--- a block later, the same voice is m frames older
+-- after a block, the same voice is m frames older
 older : (later : List Start) (from m t : ℕ) (left : Bool) → from + m ≤ t → (p : Playing)
     → voice_at later (from + m) left t (aged m p) ≡ voice_at later from left t p
 unfolding voice_at aged is_silenced silences excludes
@@ -47,7 +47,7 @@ older later from m t left h p =
     let e : p.voice.age + m + (t - (from + m)) ≡ p.voice.age + (t - from) = omega arith in
     ap (λ (a : ℕ). cond (is_silenced later t p) (pos 0) (snd p.voice.value left a)) e
 
--- a voice in front of later starts, the first of which stands at `from`
+-- a voice before later starts, the first of which is at `from`
 next_silences : (later : List Start) (new : List Playing) (from t : ℕ) (left : Bool) → from ≤ t → (p : Playing)
     → voice_at (record { frame = from; voices = new } ∷ later) from left t p
     ≡ cond (not (silences new p)) (voice_at later from left t p) (pos 0)
@@ -66,7 +66,7 @@ next_silences later new from t left h p =
     let at : (c : Bool) → Q c = elim [ true ↦ refl | false ↦ refl ] in
     subst P (sym now) (at (silences new p))
 
--- what is over adds nothing
+-- voices that are over add nothing
 sounding_alone : (later : List Start) (from t : ℕ) (left : Bool) (ps : List Playing)
     → sum_of (voice_at later from left t) ps ≡ sum_of (voice_at later from left t) (filter is_sounding ps)
 sounding_alone later from t left ps =
@@ -83,7 +83,7 @@ started_at s later left t h =
     let now : nat_le s.frame t ≡ true = grind (arith, nat_tests) in
     ap (λ (b : Bool). cond b (sum_of (voice_at later s.frame left t) s.voices) (pos 0) +ℤ sum_at later left t) now
 
--- a start joins the voices that play
+-- a start adds its voices to those that play
 joins : (ps new : List Playing) (later : List Start) (from t : ℕ) (left : Bool) → from ≤ t
     → sum_at (record { frame = from; voices = ps } ∷ record { frame = from; voices = new } ∷ later) left t
     ≡ sum_at (record { frame = from; voices = after_start ps new } ∷ later) left t
@@ -104,7 +104,7 @@ joins ps new later from t left h =
     ∙ ap (λ (z : ℤ). z +ℤ sum_at later left t) (sym joined)
     ∙ sym (started_at (record { frame = from; voices = after_start ps new }) later left t h)
 
--- a block makes the voices that play older
+-- a block advances the voices that play
 outlives : (ps : List Playing) (later : List Start) (from m t : ℕ) (left : Bool) → from + m ≤ t
     → sum_at (record { frame = from; voices = ps } ∷ later) left t
     ≡ sum_at (record { frame = from + m; voices = after_block ps m } ∷ later) left t
@@ -131,7 +131,7 @@ half-more from m i = omega arith
 is_left-more : (m i : ℕ) → is_left (2 * m + i) ≡ is_left i
 is_left-more m i = ap (λ a. nat_eq a 0) (let e : (2 * m + i) % 2 ≡ i % 2 = omega arith in e)
 
--- where nothing has silenced it
+-- a voice that nothing has silenced
 heard_alone : (later : List Start) (from u : ℕ) (left : Bool) (p : Playing) → is_silenced later (from + u) p ≡ false
     → voice_at later from left (from + u) p ≡ snd p.voice.value left (p.voice.age + u)
 unfolding voice_at
@@ -139,7 +139,7 @@ heard_alone later from u left p h =
     let e : p.voice.age + (from + u - from) ≡ p.voice.age + u = omega arith in
     λ j. cond (h j) (pos 0) (snd p.voice.value left (e j))
 
--- before its first start nothing is heard, and nothing silenced
+-- before its first start nothing sounds, and nothing is silenced
 not_yet : (b : Parts) (from t : ℕ) (es : List Event) (left : Bool) → t < from → sum_at (starts b from es) left t ≡ pos 0
 unfolding starts sum_at start_at
 not_yet b from t [] left h = refl
@@ -162,7 +162,7 @@ none_yet b from t (Started n ∷ es) p h =
     ap (λ (x : Bool). (x && silences (fresh b n) p) || is_silenced (starts b from es) t p) no ∙ none_yet b from t es p h
 none_yet b from t (Given m ∷ es) p h = none_yet b (from + m) t es p (omega arith)
 
--- the numbers of a block are those of its frames
+-- the values of a block are those of its frames
 block_is : (b : Parts) (ps : List Playing) (from m : ℕ) (es : List Event) (i : ℕ) → i < 2 * m
     → side_at (record { frame = from; voices = ps } ∷ starts b (from + m) es) from i ≡ next_side ps i
 unfolding side_at next_side total_at
@@ -181,7 +181,7 @@ block_is b ps from m es i h =
     +ℤ not_yet b (from + m) (from + i / 2) es (is_left i) early j)
     ∙ add_z-zero (sum_of (λ p. snd p.voice.value (is_left i) (p.voice.age + i / 2)) ps))
 
--- no voice adds nothing
+-- no voices add nothing
 nobody : (later : List Start) (left : Bool) (t : ℕ)
     → sum_at (record { frame = 0; voices = [] } ∷ later) left t ≡ sum_at later left t
 unfolding sum_of
@@ -200,7 +200,7 @@ block_all b ps from m es =
     (2 * m)
     (λ i _ h. block_is b ps from m es i (omega arith))
 
--- m frames and then k
+-- m frames and then k frames
 frames-split : (ss : List Start) (from m k : ℕ) → frames ss from (m + k) ≡ frames ss from m ++ frames ss (from + m) k
 unfolding frames side_at
 frames-split ss from m k =

@@ -1,4 +1,4 @@
--- Notes in the order of their starts.
+-- Notes sorted by start.
 use Rattle.std.proofs.Common.{◌≡◌, ℕ, ◌<◌, ◌≤◌, suc, Bool, true, false, cond, not, ◌&&◌, nat_eq, nat_le, List, []}
 use Rattle.std.proofs.Common.{◌∷◌, filter, length, get_or, refl, sym, ap, ◌∙◌, arith, inl, inr}
 use Rattle.std.proofs.lemmas.Bool.{cases_lt}
@@ -28,7 +28,7 @@ apart k n m l e =
     let all : (a c : Bool) → P a c = elim [ true ↦ first | false ↦ second ] in
     all (nat_eq k m.start) (nat_eq k n.start) refl refl
 
--- stays in its place among equal ones
+-- a note keeps its index among those that start with it
 starting-placed : (k : ℕ) (n : Numbers) (ms : List Numbers) → starting k (placed n ms) ≡ starting k (n ∷ ms)
 unfolding placed
 starting-placed k n [] = refl
@@ -104,7 +104,7 @@ cut_heads k m n xs ys e h =
     let at : (b : Bool) → P b = elim [ true ↦ λ g. rest_is m n xs ys g | false ↦ λ g. g ] in
     at (nat_eq k m.start) (h ∙ ap (λ (x : Numbers). cond (nat_eq k x.start) (n ∷ ys) ys) (sym e))
 
--- an element whose start is not among the starts of notes in order
+-- a start that is not among those of sorted notes
 starting-none : (k t : ℕ) (ns : List Numbers) → k < t → IsRising t ns → starting k ns ≡ []
 starting-none k t [] h r = refl
 starting-none k t (n ∷ ns) h r =
@@ -112,7 +112,7 @@ starting-none k t (n ∷ ns) h r =
     (let e : nat_eq k n.start ≡ false = differs k n.start (omega (arith, h, r.0)) in e)
     ∙ starting-none k n.start ns (omega (arith, h, r.0)) r.1
 
--- notes in order are settled by the lists of equal starts
+-- sorted notes are determined by the lists of equal starts
 same_order : (t u : ℕ) (ms ns : List Numbers) → IsRising t ms → IsRising u ns
     → ((k : ℕ) → starting k ms ≡ starting k ns) → ms ≡ ns
 same_order t u [] [] r s h = refl
@@ -149,7 +149,7 @@ rising_from t (n ∷ ns) h up = (
 ties_are : (a b : ℕ) → not (is_lt (nat_cmp a b)) && not (is_lt (nat_cmp b a)) ≡ nat_eq a b
 ties_are a b = grind (arith, nat_tests)
 
--- what a stable sort leaves
+-- the result of a stable sort
 pub sorted_is : (ns ms : List Numbers) → IsNonDecreasingBy (λ n. n.start) ms
     → IsStableByKey (λ (n : Numbers). n.start) nat_cmp ns ms → ms ≡ in_order ns
 sorted_is ns ms up stable =

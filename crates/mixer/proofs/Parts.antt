@@ -71,7 +71,7 @@ filter_all (p ∷ ps) all =
     ap (λ b. cond b (p ∷ filter is_sounding ps) (filter is_sounding ps)) (all 0 p (omega arith))
     ∙ ap (λ l. p ∷ l) (filter_all ps (λ k d h. all (suc k) d (omega (arith, h))))
 
--- where all sound, a block of no frames changes nothing
+-- if no voice is over, a block of no frames changes nothing
 pub nothing_given : (ps : List Playing) → AllSounding ps → after_block ps 0 ≡ ps
 unfolding after_block
 nothing_given ps all = ap (filter is_sounding) (sym (aged-none ps)) ∙ filter_all ps all
@@ -83,7 +83,7 @@ block_none : (ps : List Playing) → [] ≡ block ps 0
 unfolding block
 block_none ps = refl
 
--- where there is no frame, a block is given already
+-- an empty block is complete
 pub nothing_heard : (out : List ℤ) (ps : List Playing) → length out ≡ 0 → out ≡ block ps (length out / 2)
 nothing_heard out ps e =
     let P : List ℤ → Type 0 = λ zs. zs ≡ block ps (length zs / 2) in

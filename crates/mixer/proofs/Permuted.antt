@@ -1,4 +1,4 @@
--- What is the same of a list in another order.
+-- What doesn't change when a list is permuted.
 use Rattle.std.proofs.Common.{◌≡◌, ℕ, ◌+◌, suc, ℤ, pos, negsuc, ◌+ℤ◌, ◌-ℤ◌, Bool, true, false, not, nat_le, nat_lt}
 use Rattle.std.proofs.Common.{max, ◌||◌, List, [], ◌∷◌, refl, sym, ap, ◌∙◌, arith}
 use Rattle.std.specs.List.{list_any, sum_by}
@@ -49,7 +49,7 @@ one_more : (r m k : ℕ) (a : Bool) → nat_le m k ≡ not a → nat_le (max r m
 one_more r m k true h = grind (arith, nat_tests)
 one_more r m k false h = grind (arith, nat_tests)
 
--- the last release is by frame k where none is later
+-- the longest release is within k frames if each release is
 released : (k : ℕ) (vs : List Voice)
     → nat_le (last_release vs) k ≡ not (list_any (λ v. nat_lt k v.parameters.release) vs)
 unfolding last_release

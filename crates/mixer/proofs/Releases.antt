@@ -1,4 +1,4 @@
--- The release of a pair's voice, and how long it can be.
+-- The release of a pair's voice, and its bound.
 use Rattle.std.proofs.Common.{◌≡◌, ℕ, ◌+◌, ◌*◌, ◌≤◌, ◌<◌, ◌/◌, ◌%◌, ℤ, pos, negsuc, ◌+ℤ◌, ◌≤ℤ◌, Bool, true, false}
 use Rattle.std.proofs.Common.{cond, leb, Option, Some, None, slice_get, refl, sym, ◌∙◌, subst, arith}
 use Rattle.std.specs.Int.{int_min}

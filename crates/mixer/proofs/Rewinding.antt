@@ -16,9 +16,9 @@ use Rattle.mixer.proofs.Sums.{sum_of-kept, sum_of-map, sum_of-same}
 use Rattle.mixer.proofs.Parts.{aged-more, side_later}
 use Rattle.mixer.proofs.EventLaws.{over_is_silent}
 
--- ---- lists that are filtered
+-- ---- filtered lists
 
--- each element keeps what q says of it when it is sent through f
+-- filtering after a map that keeps the predicate
 pub filter-kept : {X Y : Type 0} (f : X → Y) (p q : Y → Bool) (r : X → Bool) → ((x : X) → q (f x) ≡ r x) → (xs : List X)
     → filter q (filter p (map f xs)) ≡ filter p (map f (filter r xs))
 filter-kept f p q r h [] = refl
@@ -44,7 +44,7 @@ filter-kept f p q r h (x ∷ xs) =
     ] in
     at (p (f x)) (r x) refl refl
 
--- what is left out at first would be left out later
+-- elements that an earlier filter drops would be dropped later
 filter-later : {X Y : Type 0} (f : X → Y) (p : Y → Bool) (r : X → Bool) → ((x : X) → r x ≡ false → p (f x) ≡ false)
     → (xs : List X)
     → filter p (map f (filter r xs)) ≡ filter p (map f xs)
@@ -76,19 +76,19 @@ unfolding rewound
 rewound-none [] = refl
 rewound-none (p ∷ ps) = λ j. with_age p (p.voice.age - 0) p.voice.age (omega arith) j ∷ rewound-none ps j
 
--- of one voice
+-- one voice
 pub rewound_is : (n : ℕ) (p : Playing) (v : Live) → v ≡ record { value = p.voice.value; age = p.voice.age - n }
     → (let q : Playing = record { voice = v; bank = p.bank; number = p.number } in q) ≡ rewound n p
 unfolding rewound
 rewound_is n p v e = λ j. record { voice = e j; bank = p.bank; number = p.number }
 
--- what was given is given back
+-- going back undoes advancing
 pub rewound-aged : (n : ℕ) (ps : List Playing) → map (rewound n) (map (aged n) ps) ≡ ps
 unfolding rewound aged
 rewound-aged n [] = refl
 rewound-aged n (p ∷ ps) = λ j. with_age p (p.voice.age + n - n) p.voice.age (omega arith) j ∷ rewound-aged n ps j
 
--- back by fewer is as far back, and some on from there
+-- going back by k is going back by k + m and advancing by m
 pub rewound-fewer : (n m k : ℕ) (ps : List Playing) → k + m ≡ n → All (λ (p : Playing). n ≤ p.voice.age) ps
     → map (rewound k) ps ≡ map (aged m) (map (rewound n) ps)
 unfolding rewound aged
@@ -98,7 +98,7 @@ rewound-fewer n m k (p ∷ ps) e h =
     λ j. with_age p (p.voice.age - k) (p.voice.age - n + m) (omega (arith, e, given)) j
     ∷ rewound-fewer n m k ps e (λ i d l. h (suc i) d (omega (arith, l))) j
 
--- it is silenced as before
+-- going back doesn't change which voice is silenced
 silences-rewound : (new : List Playing) (n : ℕ) (p : Playing) → silences new (rewound n p) ≡ silences new p
 unfolding silences excludes rewound
 silences-rewound new n p = refl
@@ -120,7 +120,7 @@ over_later m p h =
     (over_stays p.voice.value.parameters p.voice.age (p.voice.age + m) (omega arith)
     (not-false (is_over p.voice.value.parameters p.voice.age) h))
 
--- those that are over may be left out before
+-- voices that are over may be dropped before
 pub sounding_later : (m : ℕ) (ps : List Playing) → after_block (filter is_sounding ps) m ≡ after_block ps m
 unfolding after_block
 sounding_later m ps = filter-later (aged m) is_sounding is_sounding (over_later m) ps
@@ -132,7 +132,7 @@ after_more m n ps =
     filter-later (aged n) is_sounding is_sounding (over_later n) (map (aged m) ps)
     ∙ ap (filter is_sounding) (aged-more m n ps)
 
--- what is over adds nothing
+-- voices that are over add nothing
 pub total_sounding : (ps : List Playing) (i : ℕ) → total_at (filter is_sounding ps) i ≡ total_at ps i
 unfolding total_at
 total_sounding ps i =
@@ -146,7 +146,7 @@ pub next_sounding : (ps : List Playing) (i : ℕ) → next_side (filter is_sound
 unfolding next_side
 next_sounding ps i = ap cut (total_sounding ps i)
 
--- the sums of older voices stand further on
+-- the sums of older voices are those of later frames
 pub total_later : (m i : ℕ) (ps : List Playing) → total_at (map (aged m) ps) i ≡ total_at ps (2 * m + i)
 unfolding total_at aged
 total_later m i ps =
@@ -159,9 +159,9 @@ total_later m i ps =
     ((let e : p.voice.age + m + i / 2 ≡ p.voice.age + (2 * m + i) / 2 = omega arith in e) j))
     ps
 
--- ---- a block, the first of whose frames were given
+-- ---- a block whose first frames are written
 
--- those that are given next stand behind them
+-- the next frames are written after them
 pub written_on : (out new rest : List ℤ) (ps : List Playing) (at n : ℕ) → at ≤ length out → n ≤ length new → at % 2 ≡ 0
     → ((k : ℕ) → k < at → get_or out k (pos 0) ≡ next_side ps k)
     → ((k : ℕ) → k < n → get_or new k (pos 0) ≡ next_side (after_block ps (at / 2)) k)

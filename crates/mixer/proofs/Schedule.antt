@@ -1,4 +1,4 @@
--- Notes in order as events: up to each start a block, and one up to the end.
+-- Sorted notes as events: a block up to each start, and one up to the end.
 use Rattle.std.proofs.Common.{◌≡◌, ℕ, ◌+◌, ◌-◌, ◌*◌, ◌/◌, ◌%◌, ◌<◌, ◌≤◌, ℤ, List, [], ◌∷◌, ◌++◌, map, take, drop}
 use Rattle.std.proofs.Common.{length, get_or, refl, sym, ap, ◌∙◌, subst, arith, append_assoc, append-nil}
 use Rattle.std.proofs.lemmas.List.{at_drop_more, at_drop_all}
@@ -34,7 +34,7 @@ given_scheduled t (n ∷ ns) m h r w =
     ap (λ k. n.start - t + k) (given_scheduled n.start ns m w.0 r.1 w.1)
     ∙ (let e : n.start - t + (m - n.start) ≡ m - t = omega (arith, r.0, w.0) in e)
 
--- the blocks of notes in order are their frames
+-- the blocks of sorted notes are their frames
 pub scheduled : (b : Parts) (ns : List Numbers) (m : ℕ) → IsRising 0 ns → StartWithin m ns
     → blocks b [] (events_from 0 ns m) ≡ frames_of b ns m
 unfolding heard frames_of
@@ -45,7 +45,7 @@ scheduled b ns m r w =
     frames (starts_scheduled b 0 ns m r j) 0
     ((given_scheduled 0 ns m (omega arith) r w ∙ (let e : m - 0 ≡ m = omega arith in e)) j))
 
--- what is written, and what is still to come, is the whole
+-- the frames that are written, and those still to come, are all frames
 pub record IsPlayed (b : Parts) (ps : List Playing) (ns : List Numbers) (now : ℕ) (out all : List ℤ) : Type 0 where
   pub even : now % 2 ≡ 0
   pub within : now ≤ length out
@@ -101,7 +101,7 @@ play_last b ps now out new written all p even new_is written_is =
     (new_is ∙ ap (block ps) half ∙ sym (append-nil (block ps (length out / 2 - now / 2))))
     ∙ p.is
 
--- the note that the loop comes to
+-- the note at the loop's index
 pub played_next : (b : Parts) (ps : List Playing) (ns : List Numbers) (i now : ℕ) (n : Numbers) (out all : List ℤ)
     → i < length ns → n ≡ get_or ns i n
     → IsPlayed b ps (drop i ns) now out all → IsPlayed b ps (n ∷ drop (i + 1) ns) now out all

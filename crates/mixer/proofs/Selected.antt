@@ -15,11 +15,11 @@ use Rattle.mixer.specs.declared.playing.Playing.{Playing}
 use Rattle.mixer.specs.Heard.{playing, fresh}
 use Rattle.mixer.specs.Render.{last_release}
 
--- those of pairs
+-- the voices of pairs
 abbrev pub voices_of : Parts → Numbers → List (ℕ × ℕ) → List Voice
 voices_of b n qs = flat_map (λ q. listed (voice_by b n q)) qs
 
--- ---- as they start
+-- ---- their starts
 
 pub fresh_first : (b : Parts) (n : Numbers) (qs : List (ℕ × ℕ)) (ps : List Playing) → ps ≡ [] → qs ≡ pairs b n
     → ps ++ map (playing n) (voices_of b n qs) ≡ fresh b n

@@ -1,4 +1,4 @@
--- Notes in order sound as in any order.
+-- Sorting notes by start doesn't change how they render.
 use Rattle.std.proofs.Common.{◌≡◌, ℕ, ◌+◌, ◌*◌, ◌/◌, ◌<◌, ◌≤◌, ℤ, pos, ◌+ℤ◌, Bool, true, false, cond, nat_le, ◌&&◌}
 use Rattle.std.proofs.Common.{◌||◌, List, [], ◌∷◌, map, refl, sym, ap, ◌∙◌, arith}
 use Rattle.std.specs.List.{list_any, range_with_len}
@@ -12,7 +12,7 @@ use Rattle.mixer.specs.Render.{frame_count, silenced_from, note_with, note_at, n
 use Rattle.mixer.specs.Order.{placed, in_order, start_of, frames_of, IsRising}
 use Rattle.mixer.proofs.Orders.{rising-in_order}
 
--- notes in order, behind others
+-- sorted notes that follow others
 unfoldable sorted_at : Parts → List Numbers → List Numbers → Bool → ℕ → ℤ
 sorted_at b before [] left t = pos 0
 sorted_at b before (n ∷ after) left t = note_at b before after n left t +ℤ sorted_at b before after left t
@@ -33,7 +33,7 @@ below_of a b h = grind (arith, nat_tests)
 above_of : (a b : ℕ) → nat_le a b ≡ true → a ≤ b
 above_of a b h = grind (arith, nat_tests)
 
--- all start late enough
+-- all notes start late enough
 all_later : (b : Parts) (k t : ℕ) (q : Playing) (ms : List Numbers) → IsRising k ms
     → silenced_from b k t q ms ≡ is_silenced (map (start_of b) ms) t q
 unfolding silenced_from is_silenced start_of
@@ -68,7 +68,7 @@ unfolding in_order
 any-in_order f [] = refl
 any-in_order f (n ∷ ns) = any-placed f n (in_order ns) ∙ ap (λ x. f n || x) (any-in_order f ns)
 
--- one that starts before them all silences none
+-- a note that starts no later than the others silences none of them
 not_before : (b : Parts) (n : Numbers) (before ms : List Numbers) (left : Bool) (t : ℕ) → IsRising n.start ms
     → sorted_at b (n ∷ before) ms left t ≡ sorted_at b before ms left t
 unfolding sorted_at note_at silenced_from
@@ -91,7 +91,7 @@ three false y z = refl
 swap_sums : (a c s : ℤ) → a +ℤ (c +ℤ s) ≡ c +ℤ (a +ℤ s)
 swap_sums a c s = omega (arith, ints)
 
--- one that starts before n hears of n, wherever n stands
+-- a note that starts before n is silenced by the same notes wherever n is in the list
 earlier : (b : Parts) (n m : Numbers) (before ms : List Numbers) (left : Bool) (t : ℕ) → m.start < n.start
     → note_at b (n ∷ before) ms m left t ≡ note_at b before (placed n ms) m left t
 unfolding note_at silenced_from
@@ -108,7 +108,7 @@ earlier b n m before ms left t h =
     any-placed (λ k. nat_le m.start k.start && (nat_le k.start t && silences (fresh b k) p)) n ms in
     first ∙ three rest x y ∙ sym last ∙ ap (λ z. x || z) (sym placed_is)) j) m left t
 
--- one that starts before n doesn't silence it
+-- a note that starts before n doesn't silence n
 unheard : (b : Parts) (n m : Numbers) (before ms : List Numbers) (left : Bool) (t : ℕ) → m.start < n.start
     → note_at b before (m ∷ ms) n left t ≡ note_at b before ms n left t
 unfolding note_at silenced_from

@@ -1,4 +1,4 @@
--- Frames that a player has summed before they are asked for.
+-- Frames that a player has summed before they are requested.
 use Rattle.std.specs.Prelude.{◌≡◌, ℕ, ◌+◌, ◌-◌, ◌*◌, ◌/◌, ◌<◌, ◌≤◌, ℤ, pos, ◌+ℤ◌, List, All, filter, length, map}
 use Rattle.std.specs.Prelude.{slice_index_or}
 use Rattle.voices.specs.Within.{IsWithin}
@@ -9,32 +9,32 @@ use Rattle.mixer.specs.declared.playing.Playing.{Playing}
 use Rattle.mixer.specs.Events.{is_sounding, total_at}
 use Rattle.mixer.specs.KeptVoices.{AllYounger, lifetime}
 
--- n frames younger
+-- a voice, n frames earlier
 unfoldable pub rewound : ℕ → Playing → Playing
 rewound n p = record p { voice = record { value = p.voice.value; age = p.voice.age - n } }
 
 -- ---- the sums
 
--- number i of the sides that are left
+-- value i of the remaining frames, without the shared sum
 abbrev pub side_left : Ahead → ℕ → ℤ
 side_left a i = slice_index_or a.sides (SIDES - 2 * a.left + i) (pos 0)
 
--- what both sides get at frame k of those that are left
+-- the shared sum at frame k of the remaining frames
 abbrev pub middle_left : Ahead → ℕ → ℤ
 middle_left a k = slice_index_or a.middle (MOST_AHEAD - a.left + k) (pos 0)
 
--- the sums that are left are of n voices at most
+-- the remaining sums are possible sums of n voices
 pub record AreWithin (n : ℕ) (a : Ahead) : Type 0 where
   pub most : a.left ≤ MOST_AHEAD
   pub sides : (i : ℕ) → i < 2 * a.left → IsWithin n (side_left a i)
   pub middle : (k : ℕ) → k < a.left → IsWithin n (middle_left a k)
 
--- they are the sums of these voices from their next frames on
+-- the remaining sums are those of these voices from their next frames on
 pub record AreSums (a : Ahead) (ps : List Playing) : Type 0 where
   pub within : AreWithin (length ps) a
   pub sums : (i : ℕ) → i < 2 * a.left → side_left a i +ℤ middle_left a (i / 2) ≡ total_at ps i
 
--- ---- the voices, which have given the frames that are left
+-- ---- the voices, which have advanced past the remaining frames
 
 pub record IsAhead (a : Ahead) (ps : List Playing) : Type 0 where
   pub sums : AreSums a (map (rewound a.left) ps)
@@ -42,6 +42,6 @@ pub record IsAhead (a : Ahead) (ps : List Playing) : Type 0 where
   pub young : AllYounger (lifetime + MOST_AHEAD) ps
   pub few : 0 < a.left → length ps ≤ GROUP
 
--- those that sound at the frame that comes next, as they are then
+-- the voices that aren't over at the player's next frame, as they are then
 unfoldable pub playing_now : Ahead → List Playing → List Playing
 playing_now a ps = filter is_sounding (map (rewound a.left) ps)

@@ -1,4 +1,4 @@
--- Banks that give each note the same voices sound the same.
+-- Banks that give each note the same voices render identically.
 use Rattle.std.specs.Prelude.{◌≡◌, List, [], ◌∷◌}
 use Rattle.bank_parts.specs.declared.parts.Parts.{Parts}
 use Rattle.note_list.specs.Notes.{Numbers}
@@ -9,13 +9,13 @@ use Rattle.mixer.specs.Render.{render}
 
 -- ---- notes
 
--- banks that are alike render all notes the same
+-- banks with the same voices for each note render all notes identically
 abbrev pub AlikeRender : Type 0
 AlikeRender = (b c : Parts) → AreAlike b c → (ns : List Numbers) → render b ns ≡ render c ns
 
 -- ---- events
 
--- each edit leaves a bank that is like the one before it
+-- each edit keeps the voices of each note
 abbrev pub LeaveAlike : Parts → List Event → Type 0
 LeaveAlike b [] = Unit {0}
 LeaveAlike b (Edited c ∷ es) = AreAlike b c × LeaveAlike c es
@@ -29,11 +29,11 @@ without_edits (Edited c ∷ es) = without_edits es
 without_edits (Started n ∷ es) = Started n ∷ without_edits es
 without_edits (Given m ∷ es) = Given m ∷ without_edits es
 
--- such edits are not heard
+-- such edits change none of the frames
 abbrev pub AlikeHeard : Type 0
 AlikeHeard = (b : Parts) (es : List Event) → LeaveAlike b es → heard b es ≡ heard b (without_edits es)
 
--- nor are they in the blocks of a player, whatever it plays when the first of the events comes
+-- such edits change no block of a player, whatever it plays at first
 abbrev pub AlikeBlocks : Type 0
 AlikeBlocks =
     (b : Parts) (ps : List Playing) (es : List Event) → LeaveAlike b es

@@ -1,4 +1,4 @@
--- What is heard of a player, and what its calls do to the voices that it plays.
+-- The frames of a player, and what its calls do to its voices.
 use Rattle.std.specs.Prelude.{◌≡◌, ℕ, ◌+◌, ◌*◌, ◌/◌, ℤ, Bool, not, List, [], ◌∷◌, ◌++◌, map, filter}
 use Rattle.std.specs.List.{range_with_len}
 use Rattle.bank_parts.specs.declared.parts.Parts.{Parts}
@@ -9,29 +9,29 @@ use Rattle.mixer.specs.declared.playing.Playing.{Playing}
 use Rattle.mixer.specs.Sums.{sum_of}
 use Rattle.mixer.specs.Heard.{Start, fresh, silences, frames, cut, is_left}
 
--- ---- what is heard
+-- ---- the frames
 
--- an edit, with the bank that it leaves, which may be any; a note's start that was done; a block of so many frames
+-- an edit, with the bank after it, which may be any; a successful note start; a block of a number of frames
 pub data Event : Type 0 where
   Edited : Parts → Event
   Started : Numbers → Event
   Given : ℕ → Event
 
--- the starts, with each bank as it is then; b is the bank, and t the frame that comes next
+-- the starts, each with the bank at that time; b is the bank, and t the next frame
 unfoldable pub starts : Parts → ℕ → List Event → List Start
 starts b t [] = []
 starts b t (Edited c ∷ es) = starts c t es
 starts b t (Started n ∷ es) = record { frame = t; voices = fresh b n } ∷ starts b t es
 starts b t (Given m ∷ es) = starts b (t + m) es
 
--- how many frames are given
+-- how many frames the blocks have
 unfoldable pub given : List Event → ℕ
 given [] = 0
 given (Edited c ∷ es) = given es
 given (Started n ∷ es) = given es
 given (Given m ∷ es) = m + given es
 
--- all frames that are given, wherever the blocks are cut
+-- all frames of the blocks, from the note starts alone
 unfoldable pub heard : Parts → List Event → List ℤ
 heard b es = frames (starts b 0 es) 0 (given es)
 
@@ -41,31 +41,31 @@ heard b es = frames (starts b 0 es) 0 (given es)
 unfoldable pub is_sounding : Playing → Bool
 is_sounding p = not (is_over p.voice.value.parameters p.voice.age)
 
--- those that new voices don't silence
+-- the voices that new ones don't silence
 unfoldable pub unsilenced : List Playing → List Playing → List Playing
 unsilenced new ps = filter (λ q. not (silences new q)) ps
 
--- after a note's start
+-- the voices after a note's start
 unfoldable pub after_start : List Playing → List Playing → List Playing
 after_start ps new = unsilenced new ps ++ filter is_sounding new
 
--- m frames older
+-- a voice, m frames later
 unfoldable pub aged : ℕ → Playing → Playing
 aged m p = record p { voice = record { value = p.voice.value; age = p.voice.age + m } }
 
--- after a block of m frames
+-- the voices after a block of m frames
 unfoldable pub after_block : List Playing → ℕ → List Playing
 after_block ps m = filter is_sounding (map (aged m) ps)
 
--- the voices' sum for number i of the next sides
+-- the sum of the voices for value i of the next frames
 unfoldable pub total_at : List Playing → ℕ → ℤ
 total_at ps i = sum_of (λ p. snd p.voice.value (is_left i) (p.voice.age + i / 2)) ps
 
--- number i of the next sides
+-- value i of the next frames
 unfoldable pub next_side : List Playing → ℕ → ℤ
 next_side ps i = cut (total_at ps i)
 
--- the next m frames, left and right in turn
+-- the next m frames, left and right interleaved
 unfoldable pub block : List Playing → ℕ → List ℤ
 block ps m = map (next_side ps) (range_with_len 0 (2 * m))
 
@@ -81,7 +81,7 @@ blocks b ps (Given m ∷ es) = block ps m ++ blocks b (after_block ps m) es
 abbrev pub BlocksAreHeard : Type 0
 BlocksAreHeard = (b : Parts) (es : List Event) → blocks b [] es ≡ heard b es
 
--- a block that is cut in two gives the same frames
+-- splitting a block in two doesn't change its frames
 abbrev pub CutsAreFree : Type 0
 CutsAreFree =
     (b : Parts) (es fs : List Event) (m n : ℕ)

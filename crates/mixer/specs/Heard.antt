@@ -1,4 +1,4 @@
--- What is heard of notes that start one after another.
+-- The frames of notes that start one after another.
 use Rattle.std.specs.Prelude.{ℕ, ◌+◌, ◌-◌, ◌*◌, ◌/◌, ◌%◌, ℤ, pos, negsuc, ◌+ℤ◌, Bool, cond, not, nat_eq, nat_le}
 use Rattle.std.specs.Prelude.{◌&&◌, List, [], ◌∷◌, map}
 use Rattle.std.specs.List.{list_any, range_with_len}
@@ -11,7 +11,7 @@ use Rattle.voices.specs.Sound.{snd}
 use Rattle.mixer.specs.declared.playing.Playing.{Playing}
 use Rattle.mixer.specs.Sums.{sum_of}
 
--- a note's start: its frame, and the note's voices
+-- a note start: its frame, and the note's voices
 pub record Start : Type 0 where
   pub frame : ℕ
   pub voices : List Playing
@@ -24,17 +24,17 @@ playing n v = record { voice = record { value = v; age = 0 }; bank = n.bank; num
 unfoldable pub fresh : Parts → Numbers → List Playing
 fresh b n = map (playing n) (selected b n)
 
--- a class of 0 is none
+-- class 0 means none
 abbrev pub has_class : Playing → Bool
 has_class p = not (int_eq p.voice.value.parameters.class (pos 0))
 
--- one that starts silences another: both have one exclusive class, but not 0, and one preset's numbers
+-- p, starting, silences q: both have the same exclusive class, not 0, and the same bank and preset number
 unfoldable pub excludes : Playing → Playing → Bool
 excludes p q =
     has_class p && (int_eq p.voice.value.parameters.class q.voice.value.parameters.class
     && (nat_eq p.bank q.bank && nat_eq p.number q.number))
 
--- one of the voices that start silences q
+-- one of the starting voices silences q
 unfoldable pub silences : List Playing → Playing → Bool
 silences ps q = list_any (λ p. excludes p q) ps
 
@@ -42,31 +42,31 @@ silences ps q = list_any (λ p. excludes p q) ps
 unfoldable pub is_silenced : List Start → ℕ → Playing → Bool
 is_silenced later t q = list_any (λ s. nat_le s.frame t && silences s.voices q) later
 
--- the left or the right side, at frame t, of a voice that plays from a frame on
+-- the left or the right side, at frame t, of a voice that plays from frame `from` on
 unfoldable pub voice_at : List Start → ℕ → Bool → ℕ → Playing → ℤ
 voice_at later from left t p = cond (is_silenced later t p) (pos 0) (snd p.voice.value left (p.voice.age + (t - from)))
 
--- the same of all voices of a start
+-- the sum of all voices of a start
 unfoldable pub start_at : List Start → Start → Bool → ℕ → ℤ
 start_at later s left t = cond (nat_le s.frame t) (sum_of (voice_at later s.frame left t) s.voices) (pos 0)
 
--- the same of all starts, each before those that come later
+-- the sum of all starts, each followed by those that come later
 unfoldable pub sum_at : List Start → Bool → ℕ → ℤ
 sum_at [] left t = pos 0
 sum_at (s ∷ later) left t = start_at later s left t +ℤ sum_at later left t
 
--- to 16 bits
+-- a sum, clipped to 16 bits
 abbrev pub cut : ℤ → ℤ
 cut z = int_max (negsuc 32767) (int_min z (pos 32767))
 
--- left and right stand in turn
+-- left and right values are interleaved
 abbrev pub is_left : ℕ → Bool
 is_left i = nat_eq (i % 2) 0
 
--- number i of the sides from frame t on: the sum of all voices, cut once
+-- value i of the frames from t on: the sum of all voices, clipped once
 unfoldable pub side_at : List Start → ℕ → ℕ → ℤ
 side_at ss t i = cut (sum_at ss (is_left i) (t + i / 2))
 
--- m frames from frame t on, left and right in turn
+-- m frames from frame t on, left and right interleaved
 unfoldable pub frames : List Start → ℕ → ℕ → List ℤ
 frames ss t m = map (side_at ss t) (range_with_len 0 (2 * m))

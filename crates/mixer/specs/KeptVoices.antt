@@ -3,11 +3,11 @@ use Rattle.std.specs.Prelude.{◌≡◌, ℕ, ◌<◌, ◌^◌, true, List, All}
 use Rattle.mixer.specs.declared.playing.Playing.{Playing}
 use Rattle.mixer.specs.Events.{is_sounding}
 
--- a voice that has given so many frames is over, whatever its numbers
+-- a voice of this age is over, whatever its parameters
 abbrev pub lifetime : ℕ
 lifetime = 2 ^ 33
 
--- no voice has given n frames
+-- each voice is younger than n frames
 abbrev pub AllYounger : ℕ → List Playing → Type 0
 AllYounger n ps = All (λ p. p.voice.age < n) ps
 

@@ -1,4 +1,4 @@
-//! Frames that are summed ahead of short blocks.
+//! Frames that are mixed ahead of short blocks.
 ghost use Rattle.std.specs.Prelude.{◌≡◌, ℕ, ◌+◌, ◌*◌, ◌/◌, ◌%◌, ◌<◌, ◌≤◌, ◌^◌, ◌++◌, ◌+ℤ◌, List, [], false, pos, EachIndex, length, map, slice_index_or, vec_len};
 ghost use Rattle.std.specs.List.{list_any};
 ghost use Rattle.std.specs.Vec.{vec_capacity};
@@ -13,20 +13,20 @@ use crate::blocks::{GROUP, add_voices, cut_both};
 use crate::playing::{Playing, drop_over, drop_silenced, go_back, have_class};
 use voices::Workspace;
 
-// The most frames that are summed ahead.
+// The most frames that are mixed ahead.
 pub(crate) const MOST_AHEAD: usize = 256;
 
-// The sides of these.
+// The most values that are mixed ahead, two for each frame.
 const SIDES: usize = 2 * MOST_AHEAD;
 
-// The sums of the frames that come next, so many as are left, at the end of each list. Short blocks take theirs from them: so
-// what it costs to call all voices comes once in several blocks.
+// The sums of the next frames, at the end of each list. Short blocks are filled from them, so that the voices are
+// called once for several blocks.
 #[derive(Drop)]
 pub(crate) struct Ahead {
     sides: [i32; SIDES],
     middle: [i32; MOST_AHEAD],
     pub(crate) left: usize,
-    // How many are summed next where fewer are asked for: twice as many as before, for they may have been in vain.
+    // How many frames to sum next if fewer are asked for: twice as many as before, since a start may discard them.
     reach: usize,
 }
 
@@ -43,7 +43,7 @@ impl Ahead {
         }
     }
 
-    // So many frames in which nothing sounds.
+    // Replaces the frames by `count` silent ones.
     fn clear(&mut self, count: usize)
         requires { count ≤ MOST_AHEAD }
         ensures left { self.new.left ≡ count }
@@ -55,7 +55,7 @@ impl Ahead {
         self.left = count;
     }
 
-    // Adds the frames of further voices to those that are left. Each voice gets as many frames older.
+    // Adds the frames of further voices to the remaining ones, and advances these voices by as many frames.
     pub(crate) fn join(&mut self, voices: &mut [Playing], work: &mut Workspace)
         requires few { 0 < self.old.left → length voices.old ≤ GROUP }
         requires young { AllYounger (2 ^ 63 + 2 ^ 34) voices.old }
@@ -76,7 +76,7 @@ impl Ahead {
         );
     }
 
-    // Sums frames of all voices, where none are left: so many as are asked for, or more.
+    // Sums the next frames of all voices when none remain: as many as asked for, or more.
     pub(crate) fn fill(&mut self, asked: usize, voices: &mut [Playing], work: &mut Workspace)
         requires some { 0 < asked }
         requires few { length voices.old ≤ GROUP }
@@ -91,7 +91,7 @@ impl Ahead {
         self.join(voices, work);
     }
 
-    // Gives the frames that come next, all of which are left.
+    // Writes the next frames, all of which must be summed already.
     pub(crate) fn give(&mut self, out: &mut [i16])
         requires even { length out.old % 2 ≡ 0 }
         requires enough { length out.old ≤ 2 * self.old.left }
@@ -107,7 +107,7 @@ impl Ahead {
     }
 }
 
-// The sums from a frame on, as 16 bits.
+// Writes the sums from a frame on, clipped to 16 bits.
 fn cut_from(sides: &[i32], middle: &[i32], first: usize, out: &mut [i16])
     requires even { length out.old % 2 ≡ 0 }
     requires sides { 2 * first + length out.old ≤ length sides.now }
@@ -125,8 +125,8 @@ fn cut_from(sides: &[i32], middle: &[i32], first: usize, out: &mut [i16])
     );
 }
 
-// Sums frames of all voices ahead for a short block, as many as are asked for or more, unless some are left. Where none
-// are left then, the voices are those that sound.
+// Sums frames of all voices ahead for a short block, unless some remain: as many as asked for, or more. If none remain
+// then, voices that are over have been dropped.
 pub(crate) fn sum_ahead<'a>(
     voices: &mut Vec<Playing<'a>>,
     ahead: &mut Ahead,
@@ -150,8 +150,9 @@ pub(crate) fn sum_ahead<'a>(
     }
 }
 
-// Drops the frames that are left where they don't hold beside new voices: where these may silence others, which were
-// summed, or where the sums have no room for them. The voices go back by as many.
+// Discards the remaining frames if new voices invalidate them: if a new voice has an exclusive class, and so may
+// silence a voice that is part of them, or if the sums have no space for the new voices. The voices go back by as many
+// frames.
 fn drop_ahead<'a>(voices: &mut Vec<Playing<'a>>, ahead: &mut Ahead, new: &[Playing<'a>])
     requires { IsAhead ahead.old voices.old.items }
     ensures ahead { IsAhead ahead.new voices.new.items }

@@ -1,4 +1,4 @@
-//! Blocks of frames: the sum of voices, a part of a block at a time, cut once.
+//! Blocks of frames: the sum of the voices, computed in parts and clipped once.
 ghost use Rattle.std.specs.Prelude.{◌≡◌, ℕ, ◌+◌, ◌*◌, ◌/◌, ◌%◌, ◌<◌, ◌≤◌, ◌^◌, ◌+ℤ◌, pos, EachIndex, length, map, slice_index_or};
 ghost use Rattle.voices.specs.Within.{AllWithin};
 ghost use Rattle.mixer.specs.Heard as heard;
@@ -8,17 +8,17 @@ ghost use Rattle.mixer.specs.KeptVoices.{AllYounger};
 use crate::playing::Playing;
 use voices::Workspace;
 
-// The frames that are summed in one pass.
+// The most frames that are summed in one pass.
 const PART: usize = 1024;
 
-// The sides of these frames.
+// The values of these frames, two for each.
 pub(crate) const PART_SIDES: usize = 2 * PART;
 
-// The most voices of which two sums together fit 32 bits.
+// The most voices for which two sums together fit in 32 bits.
 pub(crate) const GROUP: usize = 32767;
 
-// What the frames of a part are computed in, whatever stands there: what voices compute in, the sums of the sides, and
-// the sums that both sides get.
+// Buffers for the frames of a part, with arbitrary contents: those of the voices, the sums of each side, and the sums
+// that both sides share.
 #[derive(Drop)]
 pub(crate) struct MixBuffers {
     pub(crate) work: Workspace,
@@ -36,8 +36,8 @@ impl MixBuffers {
     }
 }
 
-// Adds the next frames of all voices to sums in two parts: of those in the middle to sums that both sides get, and of the
-// others to those of the sides. Each voice gets as many frames older.
+// Adds the next frames of all voices: those of centered voices to `middle`, which both sides share, and the others to
+// `sides`. Each voice advances by as many frames.
 pub(crate) fn add_voices(
     voices: &mut [Playing],
     work: &mut Workspace,
@@ -61,7 +61,7 @@ pub(crate) fn add_voices(
     }
 }
 
-// The sums of all voices of a group.
+// Computes the sums of all voices of a group.
 fn sum_group(voices: &mut [Playing], work: &mut Workspace, sides: &mut [i32], middle: &mut [i32])
     requires sides { length sides.old ≡ 2 * length middle.old }
     requires few { length voices.old ≤ GROUP }
@@ -92,7 +92,7 @@ fn widen(sides: &[i32], middle: &[i32], totals: &mut [i128])
     }
 }
 
-// The sum of each side, and of what both sides get, as 16 bits.
+// Writes each side's sum plus the shared one, clipped to 16 bits.
 pub(crate) fn cut_both(sums: &[i32], middle: &[i32], out: &mut [i16])
     requires sums { length sums.now ≡ length out.old }
     requires middle { length out.old ≡ 2 * length middle.now }
@@ -107,7 +107,7 @@ pub(crate) fn cut_both(sums: &[i32], middle: &[i32], out: &mut [i16])
     }
 }
 
-// Each total as 16 bits.
+// Writes each total, clipped to 16 bits.
 fn cut_totals(totals: &[i128], out: &mut [i16])
     requires { length totals.now ≡ length out.old }
     ensures { EachIndex out.new (λ i. slice_index_or out.new i (pos 0) ≡ heard.cut (slice_index_or totals.now i (pos 0))) }
@@ -171,7 +171,7 @@ fn add_all(voices: &mut [Playing], buffers: &mut MixBuffers, totals: &mut [i128]
     }
 }
 
-// A part of a block of no more voices than a group has.
+// Mixes a part of a block of at most one group of voices.
 #[tactic(auto, unfolding(crate::specs::Events::next_side))]
 fn mix_group(
     voices: &mut [Playing],
@@ -194,7 +194,7 @@ fn mix_group(
     cut_both(sides, middle, out);
 }
 
-// A part of a block of any number of voices.
+// Mixes a part of a block of any number of voices.
 #[tactic(auto, unfolding(crate::specs::Events::next_side))]
 fn mix_groups(voices: &mut [Playing], buffers: &mut MixBuffers, out: &mut [i16])
     requires young { AllYounger (2 ^ 63 + 2 ^ 34) voices.old }
@@ -209,7 +209,7 @@ fn mix_groups(voices: &mut [Playing], buffers: &mut MixBuffers, out: &mut [i16])
     cut_totals(&totals[..n], out);
 }
 
-// A part of a block. The voices are left as they are then, those that are over among them.
+// Mixes a part of a block. Each voice advances; those that are over are not dropped.
 pub(crate) fn mix_part(voices: &mut [Playing], buffers: &mut MixBuffers, out: &mut [i16])
     requires young { AllYounger (2 ^ 63 + 2 ^ 34) voices.old }
     requires short { length out.old ≤ 2 * PART }

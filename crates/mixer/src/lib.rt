@@ -1,5 +1,6 @@
-//! The sum of voices: a player of notes that start as it plays, and all frames of a list of notes. Both
-//! give samples of 16 bits of the left and the right side in turn, 44,100 frames a second.
+//! The sum of voices: a player of notes that start as it plays, and all frames of a list of notes.
+//!
+//! Both return 16-bit values, left and right interleaved, 44,100 frames a second.
 #![tactic(auto)]
 
 mod ahead;

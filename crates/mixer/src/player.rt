@@ -13,18 +13,20 @@ use sf_base::OutOfMemory;
 use std::alloc::Global;
 use std::marker::Model;
 
-/// Plays notes that are started between its blocks. It holds slices of the file and no bank: a bank may
-/// be edited or dropped while its notes play on. Contracts see the list of the voices that are neither
-/// over nor silenced, each with its age in frames and the bank and preset numbers of its note.
+/// Plays notes that are started between its blocks.
+///
+/// It borrows from the file, not from a bank: a bank may be edited or dropped while its notes play on. Its model is the
+/// list of the voices that are neither over nor silenced, each with its age in frames and the bank and preset number of
+/// its note.
 pub struct Player<'a> {
-    // In front, so that their lists lie as the player does: words of several frames are slower across lines of the cache.
+    // First, so that the lists are aligned like the player: vector loads that cross cache lines are slower.
     buffers: MixBuffers,
     ahead: Ahead,
-    // Behind the frames that are ahead.
+    // The voices, advanced past the frames in `ahead`.
     voices: Vec<Playing<'a>>,
 }
 
-// Not derived: a derived drop is written out, and proved, wherever a value is dropped; this one is a call.
+// Not derived: a derived drop is inlined, and proved, wherever a value is dropped; this one is a call.
 impl Drop for Player<'_> {
     fn drop(self) {
         let Player {
@@ -48,7 +50,8 @@ impl<'a> Model for Player<'a> {
 }
 
 impl<'a> Player<'a> {
-    /// A player of no voices, with room of its own for the sums of 1,024 frames and of 256 ahead: 25 kilobytes. It takes no memory.
+    /// Creates a player without voices. Its buffers, for the sums of 1,024 frames and of 256 mixed ahead, are part of
+    /// it: 25 kilobytes. It allocates nothing.
     pub fn new(alloc: Global) -> Player<'a>
         ensures { result ≡ [] }
     {
@@ -59,17 +62,18 @@ impl<'a> Player<'a> {
         }
     }
 
-    /// Starts all voices of a note at the frame that comes next; the note's own start isn't looked at.
-    /// Before that it silences the voices of earlier starts whose exclusive class one of the new voices
-    /// has, if they have the note's bank and preset numbers (SoundFont 2.04, section 8.1.2, generator
-    /// 57; a class of 0 is none). When out of memory, nothing is started and nothing silenced.
+    /// Starts all voices of a note at the next frame; the note's own start is ignored.
+    ///
+    /// First it silences the voices of earlier starts that have the note's bank and preset numbers and the exclusive
+    /// class of one of the new voices (SoundFont 2.04, section 8.1.2, generator 57; class 0 means none). If it returns
+    /// `OutOfMemory`, nothing is started or silenced.
     pub fn start(&mut self, alloc: Global, bank: &Bank<'a>, note: &Note) -> Result<(), OutOfMemory>
         ensures done { OnOk result (self.new ≡ after_start self.old (heard.fresh bank.now note.now)) }
         ensures refused { OnErr result (self.new ≡ self.old) }
     {
         let mut new = fresh(alloc, bank, note)?;
         self.voices.try_reserve(new.len())?;
-        // Nothing is refused from here on.
+        // No allocation from here on.
         make_way(&mut self.voices, &mut self.ahead, new.as_slice());
         drop_over(&mut new);
         self.ahead.join(new.as_mut_slice(), &mut self.buffers.work);
@@ -79,13 +83,15 @@ impl<'a> Player<'a> {
         }
     }
 
-    /// The next frames, the left and the right side in turn: sums of all voices, each cut once to 16 bits. It takes
-    /// no memory. Its work is that of the voices' own frames, and to clear twelve bytes for each frame. A long
-    /// block is mixed in parts of 1,024 frames: the work in a part is that of the voices that aren't over at the
-    /// part's start. For a block of fewer than 256 frames up to so many are summed, and the blocks that follow take
-    /// theirs from these; a start of a voice with an exclusive class, whether or not it silences one, discards
-    /// those that are left, and then fewer are summed ahead at first. Where there are more than 32,767 voices, 32
-    /// kilobytes more are cleared for each 1,024 frames or what is left. For no frame it does nothing.
+    /// Fills `out` with the next frames, left and right interleaved: the sum of all voices, clipped once to 16 bits.
+    ///
+    /// It allocates nothing. With an empty slice it does nothing.
+    ///
+    /// The work is that of the voices' frames, plus twelve bytes to clear for each frame. A long block is mixed in
+    /// parts of 1,024 frames; voices that are over are dropped after each part. For a block of fewer than 256 frames,
+    /// up to 256 frames are summed ahead, and the next blocks are filled from them; starting a voice with an exclusive
+    /// class discards them, and then fewer are summed ahead at first. With more than 32,767 voices, 32 kilobytes more
+    /// are cleared for each part.
     pub fn block(&mut self, out: &mut [i16])
         requires { length out.old % 2 ≡ 0 }
         ensures heard { out.new ≡ block self.old (length out.old / 2) }
@@ -95,14 +101,14 @@ impl<'a> Player<'a> {
         self.block_with_progress(out, &mut Unheard);
     }
 
-    // The same, and the frames are told as they are done.
+    // Like `block`, and reports the frames as they are done.
     pub(crate) fn block_with_progress<P: Progress>(&mut self, out: &mut [i16], progress: &mut P)
         requires { length out.old % 2 ≡ 0 }
         ensures heard { out.new ≡ block self.old (length out.old / 2) }
         ensures live { self.new ≡ after_block self.old (length out.old / 2) }
         ensures none { length out.old ≡ 0 → self.new ≡ self.old }
     {
-        // (They sound, and so they are left as they are by a block of no frame.)
+        // For the proof, which needs the voices here: none is over, so a block of no frames changes nothing.
         let _voices = &self.voices;
         // The rest of a long block isn't summed ahead, however short it is: a later start could discard those frames.
         let is_short = out.len() < 2 * MOST_AHEAD;
@@ -112,8 +118,8 @@ impl<'a> Player<'a> {
         }
     }
 
-    // Gives the first of the frames that are asked for, and returns how many numbers these have: such as are ahead, or
-    // else at most 1,024 frames, after which the voices that are over are dropped.
+    // Writes the first of the requested frames, and returns how many values it wrote: frames that are summed ahead, or
+    // else at most 1,024 frames, after which voices that are over are dropped.
     fn give_part<P: Progress>(&mut self, out: &mut [i16], is_short: bool, progress: &mut P) -> usize
         requires even { length out.old % 2 ≡ 0 }
         requires some { 0 < length out.old }

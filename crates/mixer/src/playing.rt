@@ -1,4 +1,4 @@
-//! Voices that play, and which of them an exclusive class silences.
+//! The playing voices, and which of them an exclusive class silences.
 ghost use Rattle.std.specs.Prelude.{◌≡◌, ◌≤◌, ◌<◌, ◌++◌, All, filter, map, IfOk, OnOk, vec_len};
 ghost use Rattle.std.specs.Bool.{OnTrue};
 ghost use Rattle.std.specs.List.{list_any};
@@ -16,7 +16,7 @@ use std::alloc::Global;
 use voices::{Voice, VoiceFault};
 use zone_select::matches;
 
-// A voice, and the two numbers of its preset.
+// A voice, with the bank and preset number of its note.
 #[derive(Drop)]
 pub(crate) struct Playing<'a> {
     pub(crate) voice: Voice<'a>,
@@ -32,7 +32,7 @@ impl<'a> Playing<'a> {
     }
 }
 
-// Whether the first voice, as it starts, silences the second.
+// Whether the first voice silences the second when it starts.
 #[tactic(auto, unfolding(crate::specs::Heard::excludes))]
 fn excludes(new: &Playing, old: &Playing) -> bool
     ensures { result ≡ heard.excludes new.now old.now }
@@ -44,7 +44,7 @@ fn excludes(new: &Playing, old: &Playing) -> bool
     class == other && new.bank == old.bank && new.number == old.number
 }
 
-// Whether one of the voices that start silences another. A voice without a class asks none of them.
+// Whether one of the starting voices silences a playing one. A playing voice without a class needs no search.
 #[tactic(auto, using(crate::proofs::Classes::none_silences), unfolding(crate::specs::Heard::silences))]
 fn silences(new: &[Playing], old: &Playing) -> bool
     ensures { result ≡ heard.silences new.now old.now }
@@ -62,7 +62,7 @@ pub(crate) fn have_class(voices: &[Playing]) -> bool
     voices.iter().any(|p| p.has_class())
 }
 
-// Makes all voices so many frames younger, which they have given.
+// Takes all voices back by a number of frames that they have played.
 pub(crate) fn go_back(voices: &mut [Playing], frames: usize)
     requires given { All (λ p. frames ≤ p.voice.age) voices.old }
     ensures live { voices.new ≡ map (rewound frames) voices.old }
@@ -72,7 +72,7 @@ pub(crate) fn go_back(voices: &mut [Playing], frames: usize)
     }
 }
 
-// Drops the voices that new ones silence. New voices without a class look at no other.
+// Drops the voices that new ones silence. New voices without a class need no search.
 pub(crate) fn drop_silenced<'a>(voices: &mut Vec<Playing<'a>>, new: &[Playing<'a>])
     ensures items { voices.new.items ≡ unsilenced new.now voices.old.items }
     ensures bound { vec_len voices.new ≤ vec_len voices.old }
@@ -118,7 +118,7 @@ pub(crate) fn fresh<'a>(
     Ok(voices)
 }
 
-// Adds the voice of a pair of zones.
+// Adds the voice of a pair of zones, if the note selects the pair.
 fn add_voice<'a>(
     alloc: Global,
     bank: &Bank<'a>,

@@ -15,11 +15,12 @@ use sf_base::OutOfMemory;
 use std::alloc::Global;
 use zone_select::{matches, params};
 
-/// All frames of notes in any order, 44,100 a second, the left and the right side in turn: the sum of
-/// all voices of all notes, each from its note's start on, cut once to 16 bits. Notes end other notes'
-/// voices by their exclusive classes as in [`Player::start`]; of notes that start together, the later in
-/// the list starts later. There are as many frames as the notes and the releases of all their voices
-/// need, at most 104,480,284. None are left out for notes that can't be heard.
+/// Renders all frames of notes in any order, left and right interleaved, 44,100 a second: the sum of all voices of all
+/// notes, each from its note's start on, clipped once to 16 bits.
+///
+/// Notes silence other notes' voices by their exclusive classes as in [`Player::start`]; of notes that start together,
+/// the later in the list starts later. There are as many frames as the notes and the releases of all their voices need,
+/// at most 104,480,284, also for notes that are silent.
 pub fn render(alloc: Global, bank: &Bank<'_>, notes: &[Note]) -> Result<Vec<i16>, OutOfMemory>
     ensures value { IfOk result (λ sides. sides.items ≡ whole.render bank.now notes.now) }
     ensures fits { IfOk result (λ sides. IsRendered sides.items) }
@@ -27,7 +28,7 @@ pub fn render(alloc: Global, bank: &Bank<'_>, notes: &[Note]) -> Result<Vec<i16>
     render_with_progress(alloc, bank, notes, &mut Unheard)
 }
 
-/// The same frames; as they are done, it is told how far they are.
+/// Like [`render`], and reports its progress.
 pub fn render_with_progress<P: Progress>(
     alloc: Global,
     bank: &Bank<'_>,
@@ -47,7 +48,7 @@ pub fn render_with_progress<P: Progress>(
     Ok(out)
 }
 
-// The notes in the order of their starts.
+// The notes, sorted by start.
 fn in_order(alloc: Global, notes: &[Note]) -> Result<Vec<Note>, OutOfMemory>
     ensures { IfOk result (λ sorted. sorted.items ≡ order.in_order notes.now) }
 {
@@ -56,7 +57,7 @@ fn in_order(alloc: Global, notes: &[Note]) -> Result<Vec<Note>, OutOfMemory>
     Ok(sorted)
 }
 
-// Plays notes that are in order, one after the other, each from its start on.
+// Plays sorted notes, each from its start on.
 fn play<'a, P: Progress>(
     alloc: Global,
     bank: &Bank<'a>,
@@ -81,7 +82,7 @@ fn play<'a, P: Progress>(
     Ok(())
 }
 
-// The release of a pair's voice.
+// The release of a pair's voice, in frames.
 fn release_of(bank: &Bank<'_>, note: &Note, pair: (u32, u32)) -> u32
     ensures value { result ≡ whole.last_release (listed (voice_by bank.now note.now pair)) }
     ensures most { result ≤ 4480284 }
@@ -92,7 +93,7 @@ fn release_of(bank: &Bank<'_>, note: &Note, pair: (u32, u32)) -> u32
     }
 }
 
-// The last release of a note's voices.
+// The longest release of a note's voices, in frames.
 fn last_release(bank: &Bank<'_>, note: &Note) -> u32
     ensures value { result ≡ whole.last_release (selected bank.now note.now) }
     ensures most { result ≤ 4480284 }

@@ -3,7 +3,7 @@ use Rattle.mixer.specs.Heard as heard
 use Rattle.mixer.proofs.Selected.{voices_of}
 use Rattle.mixer.proofs.playing.fresh.Given as goal
 
--- with the voices of the pairs that are left they are all
+-- with the voices of the remaining pairs they are all
 abbrev pub invariant-loop-pair : goal.invariant-loop-pair
 invariant-loop-pair l = record {
   can_next : (goal.iterator-loop-pair).can_next l.pair-iterator;

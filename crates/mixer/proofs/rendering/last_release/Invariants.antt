@@ -4,7 +4,7 @@ use Rattle.mixer.specs.Render as whole
 use Rattle.mixer.proofs.Selected.{voices_of}
 use Rattle.mixer.proofs.rendering.last_release.Given as goal
 
--- of this and the pairs that are left the last is that of all
+-- the maximum of this and the releases of the remaining pairs is the longest release
 abbrev pub invariant-loop-pair : goal.invariant-loop-pair
 invariant-loop-pair l = record {
   can_next : (goal.iterator-loop-pair).can_next l.pair-iterator;
