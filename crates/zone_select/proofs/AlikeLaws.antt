@@ -1,4 +1,4 @@
--- Banks whose zones give the same for each note: from the samples up, where the zones of one owner are changed.
+-- Banks whose zones have the same voices for each note: from the samples up, where the zones of one owner change.
 use Rattle.std.proofs.Common.{◌≡◌, ℕ, ◌==◌, ◌&&◌, Option, Some, None, List, slice_get, refl, ap, subst}
 use Rattle.std.specs.List.{find}
 use Rattle.std.specs.List.Sorted.{IsPermutation}
@@ -28,7 +28,7 @@ Instrument = WithZones (List ℕ)
 abbrev Preset : Type 0
 Preset = WithZones Head
 
--- no voice tells them apart
+-- the samples have the same voices
 abbrev pub SoundSame : Sample → Sample → Type 0
 SoundSame s t = (n : Numbers) (v u : Taken) → voice_of n v u s ≡ voice_of n v u t
 
@@ -44,13 +44,13 @@ same_voices n u v (Some x) (Some y) h = ap (λ a. Some a) (h n v u)
 
 -- ---- an owner
 
--- its zones sent through f, with its global zone
+-- the bank after f changes an owner's zones
 abbrev pub owner_changed : Parts → Owner → (GlobalZone → List Zone → List Zone) → Parts
 owner_changed b (owner.Preset k) f = record b { presets = changed b.presets k (λ x. with_zones (f x.global x.zones) x) }
 owner_changed b (owner.Inst k) f =
     record b { instruments = changed b.instruments k (λ x. with_zones (f x.global x.zones) x) }
 
--- P of its global zone and its zones, if there is such an owner
+-- P holds of an owner's global zone and zones, if the owner exists
 abbrev pub OfOwner : Parts → Owner → (GlobalZone → List Zone → Type 0) → Type 0
 OfOwner b (owner.Preset k) P = (x : Preset) → slice_get b.presets k ≡ Some x → P x.global x.zones
 OfOwner b (owner.Inst k) P = (x : Instrument) → slice_get b.instruments k ≡ Some x → P x.global x.zones
@@ -101,7 +101,7 @@ module _ {X : Type 0} (g : Option Voice → List X) where
         p.global p.zones,
   )
 
-  -- the same instruments over samples that sound the same
+  -- the same instruments over samples with the same voices
   same_instruments : (b c : Parts) → ((t : ℕ) → MatchedOption SoundSame (slice_get b.samples t) (slice_get c.samples t))
       → (i : Instrument) → InstrumentsAlike b c i i
   unfolding instrument_given
@@ -109,9 +109,9 @@ module _ {X : Type 0} (g : Option Voice → List X) where
       voices_of-same (sample_given g b n u) (sample_given g c n u) (λ v t. sample_given-alike b c t t (h t) n u v) n
       i.global i.zones
 
-  -- ---- what is changed in its place
+  -- ---- one member replaced
 
-  -- an instrument by one that is alike
+  -- an instrument replaced by one that is alike
   instrument_changed-alike : (b : Parts) (k : ℕ) (f : Instrument → Instrument)
       →
       (let c : Parts =
@@ -129,7 +129,7 @@ module _ {X : Type 0} (g : Option Voice → List X) where
       (matched-changed (InstrumentsAlike b c) same f b.instruments k h)))
       b.presets)
 
-  -- a preset by one that is alike
+  -- a preset replaced by one that is alike
   preset_changed-alike : (b : Parts) (k : ℕ) (f : Preset → Preset)
       →
       (let c : Parts =

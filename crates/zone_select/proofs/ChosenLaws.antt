@@ -1,4 +1,4 @@
--- What a pair chooses, by what a bank tells of its zones.
+-- The zones of a pair, from the queries of a bank.
 use Rattle.std.proofs.Common.{◌≡◌, ℕ, Bool, true, false, cond, List, [], Option, Some, None, slice_get, unwrap_or}
 use Rattle.std.proofs.Common.{refl, sym, ap, ◌∙◌}
 use Rattle.std.specs.FinMap.{get}
@@ -19,7 +19,7 @@ use Rattle.zone_select.specs.Select.{is_called}
 use Rattle.zone_select.specs.Pairs.{Chosen, instrument_zone_chosen, preset_chosen, chosen_by}
 use Rattle.zone_select.specs.At.{taken_at, target_held, chosen_at}
 
--- what is taken of a zone, if it is there
+-- the settings of a zone, if it exists
 abbrev taken_with : GlobalZone → Option Zone → Taken
 taken_with global o = record {
   settings =
@@ -31,7 +31,7 @@ taken_with global o = record {
   inherited = global.mods;
 }
 
--- of zone k of an owner, if it is there
+-- the settings of zone k of an owner, if it exists
 abbrev taken_by : {H : Type 0} → ℕ → Option (WithZones H) → Taken
 taken_by k o = record {
   settings =
@@ -50,7 +50,7 @@ taken_there : {H : Type 0} (owners : List (WithZones H)) (i k : ℕ) (x : WithZo
 unfolding taken setting
 taken_there owners i k x z e f = ap (taken_by k) e ∙ ap (taken_with x.global) f
 
--- by a zone of an instrument
+-- the zones of a pair within an instrument
 abbrev chosen_inside : Parts → Taken → ℕ → ℕ → ℕ → Chosen
 chosen_inside b u i l s = record { instrument_zone = taken_at b (owner.Inst i) l; preset_zone = u; sample = s }
 
@@ -78,7 +78,7 @@ inside b n u i l (Some x) e = zone (slice_get x.zones l) refl
             (sym (taken_there b.instruments i l x z e f)))
         held false h = rw (e, f, h) refl
 
--- by a zone of a preset, whose target is an instrument
+-- the zones of a pair whose preset's zone targets an instrument
 abbrev through : Parts → Numbers → ℕ → ℕ × ℕ → ℕ → Option Chosen
 through b n p q i =
     option_and_then (instrument_zone_chosen n (taken_at b (owner.Preset p) q.0) q.1) (slice_get b.instruments i)
@@ -105,7 +105,7 @@ outside b n p q (Some x) e = zone (slice_get x.zones q.0) refl
             (sym (taken_there b.presets p q.0 x z e f)))
         held false h = rw (e, f, h) refl
 
--- by the numbers of all four
+-- the zones of a pair by all four numbers
 abbrev numbered : Parts → ℕ → ℕ × ℕ → ℕ → ℕ → Chosen
 numbered b p q i s =
     chosen_at b

@@ -1,5 +1,5 @@
--- Two banks whose zones give the same for each note, or that have the same pairs: both give each note the same voices,
--- and their pairs correspond.
+-- Two banks whose zones have the same voices for each note, or that have the same pairs: each note has the same voices
+-- in both, and the pairs correspond.
 use Rattle.std.proofs.Common.{◌≡◌, ℕ, zero, suc, Option, List, [], ◌∷◌, map, slice_set, slice_index_or, refl}
 use Rattle.std.proofs.Common.{sym, ap, subst, ◌∙◌}
 use Rattle.std.specs.List.{swap, flat_map}
@@ -13,7 +13,7 @@ use Rattle.zone_select.specs.Alike.{AreAlike, HavePairsAlike, HaveSamePairs}
 use Rattle.zone_select.proofs.Given.{given, GivenAlike}
 use Rattle.zone_select.proofs.PairLaws.{selected_is, selected_by_pairs, voices_by_pairs}
 
--- ---- a list whose images come in another order
+-- ---- a list whose images are permuted
 
 module _ {X Y : Type 0} (f : X → Y) where
   index_or-map : (xs : List X) (k : ℕ) (d : X) → slice_index_or (map f xs) k (f d) ≡ f (slice_index_or xs k d)
@@ -36,7 +36,7 @@ module _ {X Y : Type 0} (f : X → Y) where
   map-swaps xs [] = refl
   map-swaps xs (p ∷ moves) = map-swap (apply_swaps xs moves) p.0 p.1 ∙ ap (λ l. swap l p.0 p.1) (map-swaps xs moves)
 
-  -- the members can come in that order too
+  -- the members can be permuted in the same way
   pub ordered_as : (xs : List X) (ys : List Y) → IsPermutation (map f xs) ys
       → (zs : List X) × IsPermutation xs zs × (ys ≡ map f zs)
   ordered_as xs ys h = (
@@ -49,14 +49,14 @@ module _ {X Y : Type 0} (f : X → Y) where
     h.is ∙ sym (map-swaps xs h.moves),
   )
 
--- ---- two banks whose zones give the same
+-- ---- two banks whose zones have the same voices
 
 pub alike : (b c : Parts) → GivenAlike listed b c → AreAlike b c
 alike b c h n =
     subst (λ vs. IsPermutation vs (selected c n)) (selected_is b n)
     (subst (IsPermutation (given listed b n)) (selected_is c n) (h n))
 
--- a sample's voice, or none where there is no such sample
+-- a sample's voice, or none if the sample doesn't exist
 abbrev pub one : Option Voice → List (Option Voice)
 one o = o ∷ []
 

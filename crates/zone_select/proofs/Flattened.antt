@@ -1,5 +1,4 @@
--- What the members of a list give, one after the other, once a member is moved, two stand in the place of one, or
--- one in the place of two.
+-- A flattened list after a member is moved, replaced by two, or joined with the next.
 use Rattle.std.proofs.Common.{◌≡◌, ℕ, ◌+◌, suc, zero, Some, None, List, [], ◌∷◌, ◌++◌, slice_set, slice_get, insert}
 use Rattle.std.proofs.Common.{remove, take, drop, refl, sym, ap, subst, ◌∙◌, append_assoc, add-one, take-append-drop}
 use Rattle.std.specs.List.{flat_map}

@@ -1,4 +1,4 @@
--- What the zones of a note give, where a sample's voice, or none where there is no such sample, gives g of it.
+-- The lists that g makes of the voices of a note's zones, one after another; g gets `None` for a missing sample.
 use Rattle.std.specs.Prelude.{ℕ, List, [], Option, slice_get}
 use Rattle.std.specs.List.{find}
 use Rattle.std.specs.List.Sorted.{IsPermutation}
@@ -27,6 +27,6 @@ preset_given g b n p = voices_of (number_given g b n) n p.global p.zones
 unfoldable pub given : {X : Type 0} → (Option Voice → List X) → Parts → Numbers → List X
 given g b n = option_map_or (preset_given g b n) (find (is_called n) b.presets) []
 
--- banks whose zones give the same for each note, in some order
+-- banks in which g makes the same lists for each note, in some order
 abbrev pub GivenAlike : {X : Type 0} → (Option Voice → List X) → Parts → Parts → Type 0
 GivenAlike g b c = (n : Numbers) → IsPermutation (given g b n) (given g c n)

@@ -1,4 +1,4 @@
--- A zone's two halves hold what it holds, each note in one of them, and give the same voices.
+-- The two parts of a split zone contain the notes of the zone, each in one part, and have the same voices.
 use Rattle.std.proofs.Common.{◌≡◌, ℕ, ◌-◌, ◌<◌, ◌≤◌, Bool, true, false, cond, nat_le, ◌&&◌, List, [], ◌++◌, refl}
 use Rattle.std.proofs.Common.{sym, ap, subst, ◌∙◌, inl, inr, arith, append-nil}
 use Rattle.std.proofs.lemmas.Bool.{cases_lt}
@@ -15,7 +15,7 @@ use Rattle.zone_select.specs.Ranges.{within, holds}
 use Rattle.zone_select.specs.Taken.{Taken, taken}
 use Rattle.zone_select.proofs.RangeLaws.{taken-with, range-with, other-with, within_ends}
 
--- of a test t of the whole, the tests of the halves
+-- a test t of the whole range, and the tests of its two parts
 pub data Halved (t lower upper : Bool) : Type 0 where
   in_lower : lower ≡ t → upper ≡ false → Halved t lower upper
   in_upper : lower ≡ false → upper ≡ t → Halved t lower upper
@@ -100,7 +100,7 @@ halves-hold n global z Vel m h small =
     (halved_second (within w n.velocity) (within lower n.velocity) (within upper n.velocity)
     (within (range_of Key global z) n.key) (halved w m n.velocity h.above h.within small))
 
--- what the zone's target gives, the one half gives and the other doesn't
+-- one part has the voices of the zone's target, and the other has none
 pub halves-give : {X : Type 0} (inside : Taken → ℕ → List X) (n : Numbers) (global : GlobalZone) (z : Zone)
     (axis : Axis) (m : ℕ)
     → IsSplitAt axis m global z → m < 256

@@ -1,4 +1,4 @@
--- A zone joined of two gives what the two give.
+-- A zone joined from two has the voices of the two.
 use Rattle.std.proofs.Common.{◌≡◌, ◌≢◌, ℕ, ◌+◌, ◌≤◌, cond, nat_le, ◌&&◌, unwrap_or, List, [], ◌++◌, false, refl, sym}
 use Rattle.std.proofs.Common.{ap, subst, ◌∙◌, inl, inr, arith}
 use Rattle.std.proofs.lemmas.Bool.{cases_lt}
@@ -20,7 +20,7 @@ use Rattle.zone_select.proofs.RangeLaws.{taken-with, taken-without, range-with, 
 use Rattle.zone_select.proofs.RangeLaws.{other-without, within_ends}
 use Rattle.zone_select.proofs.Halves.{Halved, in_lower, in_upper, halved_first, halved_second, chosen}
 
--- two zones that can be joined, neither of whose own ranges ends before it begins
+-- two zones that can be joined, whose own ranges don't end before they begin
 pub record AreJoinedInOrder (axis : Axis) (keep : Keep) (global : GlobalZone) (y z : Zone) : Type 0 where
   pub both : AreJoined axis keep global y z
   pub rises : low_end both.first ≤ high_end both.first
@@ -37,7 +37,7 @@ ends_halved a b c d x e h g =
           (let p : (nat_le c x && nat_le x d) ≡ (nat_le a x && nat_le x d) = grind (arith, nat_tests) in p)
     ]
 
--- ---- what stays
+-- ---- what doesn't change
 
 other_of_joined : (global : GlobalZone) (y z : Zone) (axis other : Axis) (keep : Keep)
     → range_operator other ≢ range_operator axis
@@ -70,7 +70,7 @@ module _ (axis : Axis) (keep : Keep) (global : GlobalZone) (y z : Zone) (h : Are
     same_target : y.target ≡ z.target
     same_target = ap (λ (x : Zone). x.target) h.both.alike
 
-    -- ---- what the joined zone holds
+    -- ---- the notes that the joined zone contains
 
     joint_is : joint_range (own_amount axis y) (own_amount axis z) ≡ joint_range h.both.first h.both.second
     joint_is = λ i. joint_range (unwrap_or (h.both.own_first i) whole_range) (unwrap_or (h.both.own_second i) whole_range)

@@ -1,4 +1,4 @@
--- The pairs that are left, one after the other.
+-- The remaining pairs, one after another.
 use Rattle.std.proofs.Common.{◌≡◌, ◌==◌, ◌&&◌, ℕ, ◌+◌, false, List, [], ◌∷◌, ◌++◌, map, MatchOption, Option, Some}
 use Rattle.std.proofs.Common.{None, slice_get, refl, sym, ap, ◌∙◌}
 use Rattle.std.proofs.lemmas.Bool.{eq-eqb, ne_eqb}
@@ -17,12 +17,12 @@ use Rattle.zone_select.specs.Left.{owner_held, inside_held, left_of, pairs_left}
 abbrev paired : ℕ → List ℕ → List (ℕ × ℕ)
 paired k ls = map (λ (l : ℕ). let q : ℕ × ℕ = (k, l) in q) ls
 
--- the pairs of the zones that hold the note, from zone k on
+-- the pairs of the zones that contain the note, from zone k on
 abbrev pub pairs_from : Parts → Numbers → ℕ → List ℕ → List (ℕ × ℕ)
 pairs_from b n p ks =
     option_map_or (λ (x : WithZones Head). flat_map (pairs_at b n x.zones) ks) (slice_get b.presets p) []
 
--- what is left, by the zone's own part and the later ones'
+-- the remaining pairs, as those of the zone and those of the later zones
 parts_of : (b : Parts) (n : Numbers) (p k l : ℕ)
     → pairs_left b n p (Some k) l
     ≡ paired k (inside_held b n p k l) ++ pairs_from b n p (owner_held b n (owner.Preset p) (k + 1))
@@ -51,7 +51,7 @@ parts_of b n p k l =
           [ None ↦ refl | Some z ↦ refl ]
     ]
 
--- a zone's pairs from the start, and those of the later zones, are those of all from it on
+-- all pairs of a zone, and those of the later zones, are those from the zone on
 from_zone : (b : Parts) (n : Numbers) (p k : ℕ) (ks : List ℕ)
     → pairs_from b n p (k ∷ ks) ≡ paired k (inside_held b n p k 0) ++ pairs_from b n p ks
 from_zone b n p k ks =
@@ -82,7 +82,7 @@ nothing_from b n p =
     option_map_or (λ (x : WithZones Head). flat_map (pairs_at b n x.zones) []) o [] ≡ [])
     [ None ↦ refl | Some x ↦ refl ]
 
--- the first of some numbers, behind which stand those that come later
+-- the first of a list of numbers, and the later ones after it
 abbrev pub IsFirst : List ℕ → (ℕ → List ℕ) → Option ℕ → Type 0
 IsFirst ks later o = MatchOption o (ks ≡ []) (λ k. ks ≡ k ∷ later (k + 1))
 
@@ -93,7 +93,7 @@ begun b n p (Some k) ks e =
     parts_of b n p k 0 ∙ sym (from_zone b n p k (owner_held b n (owner.Preset p) (k + 1)))
     ∙ sym (ap (pairs_from b n p) e)
 
--- no more pair of the zone: the later zones' are left
+-- a zone without remaining pairs leaves those of the later zones
 pub no_more : (b : Parts) (n : Numbers) (p k l : ℕ) (o : Option ℕ) → inside_held b n p k l ≡ []
     → IsFirst (owner_held b n (owner.Preset p) (k + 1)) (owner_held b n (owner.Preset p)) o
     → pairs_left b n p o 0 ≡ pairs_left b n p (Some k) l
@@ -103,7 +103,7 @@ no_more b n p k l o e f =
     (parts_of b n p k l
     ∙ ap (λ (ls : List ℕ). paired k ls ++ pairs_from b n p (owner_held b n (owner.Preset p) (k + 1))) e)
 
--- all pairs of a note, by the first preset of its numbers
+-- all pairs of a note, by the first preset with its numbers
 pub all_pairs : (b : Parts) (n : Numbers) (p : ℕ) (o : Option ℕ)
     → find (is_called n) b.presets ≡ slice_get b.presets p
     → IsFirst (owner_held b n (owner.Preset p) 0) (owner_held b n (owner.Preset p)) o

@@ -1,4 +1,4 @@
--- Parts that are rounded down, and what linear modulators add.
+-- Fractions rounded down, and the contributions of linear modulators.
 use Rattle.std.proofs.Common.{◌≡◌, ◌≤◌, ◌<◌, ℕ, suc, ◌*◌, ◌/◌, ◌+◌, ◌-◌, ℤ, pos, negsuc, ◌+ℤ◌, ◌-ℤ◌, ◌*ℤ◌, ◌≤ℤ◌}
 use Rattle.std.proofs.Common.{List, length, map, take, get_or, SFits, unsigned_abs, lit<, refl, sym, ap, ◌∙◌, arith}
 use Rattle.std.specs.Int.{int_div_euclid, int_rem_euclid, cast_signed, w16, w32}
@@ -27,7 +27,7 @@ pub euclid_is_mod : (z : ℤ) (n : ℕ) → int_rem_euclid z (pos n) ≡ pos (fl
 euclid_is_mod (pos a) n = refl
 euclid_is_mod (negsuc a) n = refl
 
--- ---- parts of an amount
+-- ---- fractions of an amount
 
 abs_below : (z : ℤ) (b : ℕ) → pos 0 ≤ℤ (z +ℤ pos b) → z ≤ℤ pos b → unsigned_abs z ≤ b
 abs_below (pos a) b lo hi = omega (arith, ints, lo, hi)
@@ -69,7 +69,7 @@ part_within a x w h al ah xl xh =
     let f : floor_div (a *ℤ x) w +ℤ pos 65536 ≡ pos (m.0 / w) = floor_div_is (a *ℤ x) 65536 w m.0 h is in
     (omega (arith, ints, f, q), omega (arith, ints, f, q))
 
--- ---- the exclusive class is the instrument's alone
+-- ---- only an instrument sets the exclusive class
 
 added_none : (z : ℤ) → z +ℤ pos 0 ≡ z
 added_none (pos a) = omega (arith, ints)

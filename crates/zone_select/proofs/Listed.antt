@@ -1,4 +1,4 @@
--- What stands in a list.
+-- The members of lists.
 use Rattle.std.proofs.Common.{◌≡◌, ◌⊎◌, inl, inr, ◌≤◌, ◌<◌, ◌+◌, ℕ, zero, suc, Bool, true, false, cond, List, []}
 use Rattle.std.proofs.Common.{◌∷◌, ◌++◌, map, refl, sym, ap, subst, ◌∙◌, arith}
 use Rattle.std.proofs.lemmas.Bool.{cases_order}
@@ -35,7 +35,7 @@ module _ {X : Type 0} (x : X) where
   in_either (z ∷ zs) ys (inl e) = inl (inl e)
   in_either (z ∷ zs) ys (inr h) = elim (in_either zs ys h) [ inl a ↦ inl (inr a) | inr a ↦ inr a ]
 
-  -- ---- in those that pass a test
+  -- ---- in a filtered list
 
   passed : (test : X → Bool) (y : X) (ys : List X) (t : Bool) → test y ≡ t
       → (IsIn x (filter test ys) → IsIn x ys × (test x ≡ true)) → IsIn x (cond t (y ∷ filter test ys) (filter test ys))
@@ -57,7 +57,7 @@ module _ {X : Type 0} (x : X) where
   filter_in test (y ∷ ys) (inl e) t = let here : test y ≡ true = ap test e ∙ t in rw here (inl e)
   filter_in test (y ∷ ys) (inr h) t = kept y (filter test ys) (test y) (filter_in test ys h t)
 
--- ---- numbers in a row
+-- ---- in a range of numbers
 
 pub in_row : (a n k : ℕ) → a ≤ k → k < a + n → IsIn k (range_with_len a n)
 in_row a zero k low high = absurd (omega (arith, low, high))
@@ -73,10 +73,10 @@ in_row a (suc n) k low high = elim (least a k low) [
       | inr (inr gt) ↦ absurd (omega (arith, gt, h))
     ]
 
--- ---- what the members of a list give
+-- ---- in a flattened list
 
 module _ {X Y : Type 0} (f : X → List Y) (y : Y) where
-  -- the member that gives it
+  -- the member whose image it is in
   pub record GivenBy (xs : List X) : Type 0 where
     pub member : X
     pub there : IsIn member xs

@@ -1,4 +1,4 @@
--- Lists and options whose members are related one by one, and what is taken from them.
+-- Lists and options whose members are related one by one, and functions of them.
 use Rattle.std.proofs.Common.{◌≡◌, ℕ, suc, zero, Bool, true, false, cond, Option, Some, None, List, [], ◌∷◌, map}
 use Rattle.std.proofs.Common.{slice_set, slice_get, length, refl, sym, ap, subst}
 use Rattle.std.specs.List.{find, AllByRecursion}

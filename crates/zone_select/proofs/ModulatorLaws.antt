@@ -1,4 +1,4 @@
--- The modulators of a place.
+-- The modulators of a zone or global zone.
 use Rattle.std.proofs.Common.{◌≡◌, ◌≤◌, ◌<◌, ℕ, zero, suc, ◌+◌, true, false, cond, List, [], ◌∷◌, ◌++◌, length, take}
 use Rattle.std.proofs.Common.{Option, Some, None, unwrap_or, slice_get, Fits, w32, refl, ap, ◌∙◌, arith}
 use Rattle.std.specs.List.{find}
@@ -22,7 +22,7 @@ use Rattle.bank_changes.specs.Members.{mods_of, mod_at}
 use Rattle.zone_select.specs.Amounts.{last_like}
 use Rattle.zone_select.specs.At.{mods_at}
 
--- ---- no place has more than all of its level together
+-- ---- no zone has more modulators than its whole level
 
 global_few : {H : Type 0} (owners : List (WithZones H)) (i : ℕ) (o : Option (WithZones H)) → slice_get owners i ≡ o
     → length (unwrap_or (option_map (λ (x : WithZones H). x.global.mods) o) []) ≤ owner_total mod_count owners
@@ -68,7 +68,7 @@ mods_few b (owner.Inst i) place.Global s =
 mods_few b (owner.Inst i) (place.Zone k) s =
     let h = own_few b.instruments i k _ refl in let m = s.valid.limits.instrument_mods in omega (arith, h, m)
 
--- ---- one after the other
+-- ---- one after another
 
 at_is : (o : Option (List Modulator)) (j : ℕ)
     → option_and_then (λ (mods : List Modulator). slice_get mods j) o ≡ slice_get (unwrap_or o []) j

@@ -46,7 +46,7 @@ use Rattle.zone_select.proofs.ZoneVoices.{CanSplit, CanJoin, voices_of-moved, vo
 use Rattle.zone_select.proofs.AlikeLaws.{SoundSame, sound_same, owner_changed-alike}
 use Rattle.zone_select.proofs.SameLaws.{samples-same, head-same, samples_renumbered-same, instruments_renumbered-same}
 
--- a sample found under a new number, its own link renumbered too
+-- a sample found under a new number; its own link is renumbered too
 sent_found : (xs ys : List Sample) (f : Sample → Sample) (t q : ℕ) → ((s : Sample) → SoundSame s (f s))
     → slice_get ys q ≡ slice_get xs t → MatchedOption SoundSame (slice_get xs t) (slice_get (map f ys) q)
 sent_found xs ys f t q h e =
@@ -62,7 +62,7 @@ can_split_there owners i k axis m x h e z f =
     split_at axis m x.global z
     (sym (there_split axis m owners i k (record { member = x; there = e; zone = z; zone_there = f })) ∙ h)
 
--- the own range of a valid zone, where it has one, is in order
+-- the own range of a valid zone, if it has one, is in order
 rises : (at : Level) (axis : Axis) (z : Zone) (w : ℕ) → AreGenerators at z.gens → own_range axis z ≡ Some w
     → low_end w ≤ high_end w
 rises at axis z w v e =
@@ -87,7 +87,7 @@ can_join_there name_of at targets owners i k axis keep x v h e y z f g =
           both.own_second;
     }
 
--- ---- no zone has another number: R holds of two banks with the same pairs and voices
+-- ---- no zone gets another number: R holds for two banks with the same pairs and voices
 
 module _ (R : Parts → Parts → Type 0) (same : (b c : Parts) → HaveSamePairs b c → R b c) where
   -- ---- samples
@@ -169,7 +169,7 @@ module _ (R : Parts → Parts → Type 0) (same : (b c : Parts) → HaveSamePair
   unfolding pairs chosen_by
   info_set_alike b id text = same b _ (λ n. (refl, λ q. refl))
 
--- ---- zones have other numbers: R holds of two banks whose zones give the same for each note
+-- ---- zones get other numbers: R holds for two banks whose zones have the same voices for each note
 
 module _ {X : Type 0} (g : Option Voice → List X) (R : Parts → Parts → Type 0)
     (h : (b c : Parts) → GivenAlike g b c → R b c) where

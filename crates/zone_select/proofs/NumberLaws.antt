@@ -1,4 +1,4 @@
--- Numbers that pass a test, in rising order.
+-- Numbers that pass a test, in ascending order.
 use Rattle.std.proofs.Common.{◌≡◌, ◌≤◌, ◌<◌, ℕ, zero, suc, ◌+◌, ◌-◌, ◌⊎◌, inl, inr, get_or, Bool, true, false, cond}
 use Rattle.std.proofs.Common.{List, [], ◌∷◌, ◌++◌, length, drop, Option, Some, None, slice_get, refl, sym, ap, ◌∙◌}
 use Rattle.std.proofs.Common.{arith}
@@ -7,7 +7,7 @@ use Rattle.std.specs.Option.{option_map_or}
 use Rattle.std.proofs.lemmas.Option.{slice_get_cases}
 use Rattle.std.proofs.lemmas.List.Concat.{flat_map-append}
 
--- those from a on, below c
+-- those from a to below c
 abbrev pub numbers : (ℕ → Bool) → ℕ → ℕ → List ℕ
 numbers test a c = filter test (range_with_len a (c - a))
 
@@ -52,7 +52,7 @@ first_miss {X} test xs k l h =
         past (inr r) f = let e = r.0 in omega (arith, l, e)
     from (Some x) f h = first_at test xs k x f ∙ rw h refl
 
--- ---- by numbers or by the members themselves
+-- ---- by numbers, or by the members themselves
 
 joined : {Z : Type 0} (b : Bool) (x y r s : List Z) → (b ≡ true → x ≡ y) → r ≡ s → cond b (x ++ r) r ≡ cond b y [] ++ s
 joined true x y r s e f = ap (λ l. l ++ r) (e refl) ∙ ap (λ l. y ++ l) f

@@ -1,5 +1,4 @@
--- What the zones of a note give is what its pairs give, in their order: the voices that are selected are those of
--- the pairs.
+-- The voices of a note's zones are those of its pairs, in order.
 use Rattle.std.proofs.Common.{◌≡◌, ℕ, ◌+◌, ◌-◌, true, false, cond, List, [], ◌∷◌, length, map, Option, Some, None}
 use Rattle.std.proofs.Common.{slice_get, refl, ap, ◌∙◌, arith}
 use Rattle.std.specs.List.{flat_map, find, filter, range_with_len}
@@ -22,7 +21,7 @@ use Rattle.zone_select.specs.Pairs.{voice_by, listed}
 use Rattle.zone_select.proofs.NumberLaws.{by_number, flat_map-flat_map}
 use Rattle.zone_select.proofs.Given.{sample_given, instrument_given, number_given, preset_given, given}
 
--- zones that hold the note, by their numbers
+-- zones that contain the note, by their numbers
 held_by_number : {Z : Type 0} (g : ℕ → List Z) (h : Zone → List Z) (n : Numbers) (global : GlobalZone)
     (zones : List Zone)
     → ((k : ℕ) (z : Zone) → slice_get zones k ≡ Some z → holds n global z ≡ true → g k ≡ h z)
@@ -41,7 +40,7 @@ is_held : (n : Numbers) (global : GlobalZone) (zones : List Zone) (k : ℕ) (z :
 is_held n global zones k z e p = rw (e, p) refl
 
 module _ {X : Type 0} (g : Option Voice → List X) where
-  -- what a pair gives
+  -- the images of a pair
   abbrev of_chosen : Parts → Numbers → Option Chosen → List X
   of_chosen b n o = g (option_and_then (chosen_voice b n) o)
 
@@ -140,7 +139,7 @@ selected_is b n = λ j.
 pub selected_by_pairs : (b : Parts) (n : Numbers) → flat_map (λ q. listed (voice_by b n q)) (pairs b n) ≡ selected b n
 selected_by_pairs b n = given_by_pairs listed b n ∙ selected_is b n
 
--- the voices of the pairs, or none where a sample is not there
+-- the voices of the pairs, or none if a sample doesn't exist
 pub voices_by_pairs : (b : Parts) (n : Numbers) → map (voice_by b n) (pairs b n) ≡ given (λ o. o ∷ []) b n
 voices_by_pairs b n = one_by_one (voice_by b n) (pairs b n) ∙ given_by_pairs (λ o. o ∷ []) b n
   where

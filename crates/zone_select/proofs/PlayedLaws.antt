@@ -1,4 +1,4 @@
--- A pair is among the pairs of a note exactly where it has a voice.
+-- A pair is among the pairs of a note exactly if it has a voice.
 use Rattle.std.proofs.Common.{◌≡◌, ◌↔◌, ◌<◌, ◌-◌, ℕ, Bool, true, false, true≢false, cond, List, [], map, length}
 use Rattle.std.proofs.Common.{Option, Some, None, IsSome, slice_get, refl, sym, ap, subst, ◌∙◌, arith}
 use Rattle.std.specs.Prelude.{is_some}
@@ -29,7 +29,7 @@ some_of : {X : Type 0} (o : Option X) → IsSome o → (x : X) × (o ≡ Some x)
 some_of None h = absurd (true≢false (sym h))
 some_of (Some x) h = (x, refl)
 
--- ---- a zone that holds the note
+-- ---- a zone that contains the note
 
 record Held (n : Numbers) (global : GlobalZone) (zones : List Zone) (k : ℕ) : Type 0 where
   zone : Zone
@@ -96,7 +96,7 @@ module _ (n : Numbers) (u : Taken) (l : ℕ) (i : WithZones (List ℕ)) where
       from None e h = absurd (true≢false (sym h))
       from (Some z) e h = held_in n i.global i.zones l (held_some n i.global i.zones l (ap is_some e))
 
--- those of the instrument of a preset's zone
+-- the zones of the instrument of a preset's zone
 module _ (b : Parts) (n : Numbers) (global : GlobalZone) (l : ℕ) (z : Zone) where
   zone_some : IsIn l (held_inside b n z.target 0) → IsSome (zone_chosen b n global l z)
   zone_some =
@@ -157,7 +157,7 @@ module _ (b : Parts) (n : Numbers) (q : ℕ × ℕ) (p : WithZones Head) where
           (option_map_or (λ (z : Zone). map (paired q.0) (held_inside b n z.target 0)) o [])) (sym f.0)
           (map_in (paired q.0) q.1 (held_inside b n z.target 0) (zone_in b n p.global q.1 z h)))
 
--- ---- of a note
+-- ---- the pairs of a note
 
 module _ (b : Parts) (n : Numbers) (q : ℕ × ℕ) where
   pairs_some : IsIn q (pairs b n) → IsSome (chosen_by b n q)
@@ -190,7 +190,7 @@ pub pairs_are_chosen : PairsAreChosen
 pairs_are_chosen b n q =
     (λ c. pairs_some b n q (in_of_contains q (pairs b n) c), λ h. contains_of_in q (pairs b n) (pairs_in b n q h))
 
--- ---- in a valid bank the sample is there
+-- ---- in a valid bank the sample exists
 
 module _ (b : Parts) (n : Numbers) (v : IsValid b) where
   abbrev Named : Option Chosen → Type 0
@@ -250,14 +250,14 @@ pairs_have_voices b n q v =
     let voice = voiced b n v (chosen_by b n q) (chosen_named b n v q) in
     (λ c. voice.0 (chosen.0 c), λ h. chosen.1 (voice.1 h))
 
--- ---- what the code answers
+-- ---- the result of the code
 
 module _ {V : Type 0} (b : Parts) (n : Numbers) (q : ℕ × ℕ) where
-  -- nothing where nothing is chosen, something where something is
+  -- it is `None` or `Some` as the pair's zones are
   pub there_by : (r : Option V) → is_some r ≡ is_some (chosen_by b n q) → IsSome r ↔ Contains (pairs b n) q
   there_by r e = let chosen = pairs_are_chosen b n q in (λ s. chosen.1 (sym e ∙ s), λ c. e ∙ chosen.0 c)
 
--- what is chosen is there
+-- the sample of a pair exists
 pub never_lost : (b : Parts) (n : Numbers) (q : ℕ × ℕ) (c : Chosen) → IsValid b → chosen_by b n q ≡ Some c
     → slice_get b.samples c.sample ≡ None → ⊥
 never_lost b n q c v e f =

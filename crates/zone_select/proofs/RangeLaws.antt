@@ -1,5 +1,4 @@
--- A zone with or without a range of its own: all that a voice takes of it is the same, and so is the range on the
--- other axis.
+-- A zone with or without its own range: all other settings are the same, and so is the range on the other axis.
 use Rattle.std.proofs.Common.{◌≡◌, ◌≢◌, ℕ, ◌<◌, true, false, cond, nat_le, ◌&&◌, Some, None, unwrap_or, refl, sym}
 use Rattle.std.proofs.Common.{ap, ◌∙◌, arith}
 use Rattle.std.specs.FinMap.{get, insert, remove}
@@ -26,13 +25,13 @@ get-insert_other m op w q n = get-insert_any m op w q ∙ ap (λ b. cond b (Some
 get-remove_other : (m : Gens) (op q : ℕ) → q ≢ op → get (remove m op) q ≡ get m q
 get-remove_other m op q n = get-remove_any m op q ∙ ap (λ b. cond b None (get m q)) (untied q op n)
 
--- ---- what a voice takes
+-- ---- the settings of a zone
 
 no_range : (axis : Axis) (op : ℕ) → is_range_operator op ≡ false → op ≢ range_operator axis
 no_range Key op e = grind (arith, nat_tests)
 no_range Vel op e = grind (arith, nat_tests)
 
--- gens that say the same of all but the range
+-- generators that agree except for the range
 setting_at : (global : GlobalZone) (z : Zone) (gens : Gens) (axis : Axis)
     → ((op : ℕ) → op ≢ range_operator axis → get gens op ≡ get z.gens op) → (op : ℕ)
     → setting global z op ≡ setting global (record z { gens = gens }) op

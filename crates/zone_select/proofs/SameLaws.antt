@@ -1,5 +1,5 @@
--- Banks with the same pairs, each with the same voice: the zones of their instruments and presets are the same but for
--- the numbers that they target. From the samples up, with one member changed, and with other numbers.
+-- Banks with the same pairs, each with the same voice: the zones of their instruments and presets are the same except
+-- for their targets. From the samples up, with one member changed, and with other numbers.
 use Rattle.std.proofs.Common.{◌≡◌, ℕ, ◌-◌, ◌==◌, ◌&&◌, Bool, true, false, cond, Option, Some, None, List, []}
 use Rattle.std.proofs.Common.{length, map, slice_get, refl, sym, ap, subst, ◌∙◌}
 use Rattle.std.specs.List.{flat_map, find, filter, range_with_len}
@@ -33,13 +33,13 @@ Instrument = WithZones (List ℕ)
 abbrev Preset : Type 0
 Preset = WithZones Head
 
--- two zones that are the same but for their targets, which T relates
+-- two zones that are the same except for their targets, which T relates
 record ZonesSame (T : ℕ → ℕ → Type 0) (z w : Zone) : Type 0 where
   gens : z.gens ≡ w.gens
   mods : z.mods ≡ w.mods
   target : T z.target w.target
 
--- two presets or instruments with the same zones but for their targets
+-- two presets or instruments with the same zones except for their targets
 record OwnersSame {H : Type 0} (T : ℕ → ℕ → Type 0) (x y : WithZones H) : Type 0 where
   global : x.global ≡ y.global
   zones : Matched (ZonesSame T) x.zones y.zones
@@ -80,7 +80,7 @@ module _ (T : ℕ → ℕ → Type 0) (n : Numbers) (a d : GlobalZone) (e : a �
 
 -- ---- the voice of a pair
 
--- that of an instrument's zone, for what is taken of a preset's
+-- the voice of an instrument's zone, with the settings of a preset's
 abbrev voice_inside : Parts → Numbers → Taken → ℕ → Instrument → Option Voice
 voice_inside b n u l i = option_and_then (chosen_voice b n) (instrument_zone_chosen n u l i)
 
@@ -119,7 +119,7 @@ same_inside b c n u v l i j e s =
         (same_holds (SamplesAt b c) n i.global j.global s.global z w m)
         ∙ tested (holds n j.global w) z w m
 
--- that of a preset's pair
+-- the voice of a preset's pair
 abbrev voice_outside : Parts → Numbers → ℕ × ℕ → Preset → Option Voice
 voice_outside b n q p = option_and_then (chosen_voice b n) (preset_chosen b n q p)
 
@@ -202,7 +202,7 @@ have_same b c m n =
     voices q (Some p) None h = absurd h
     voices q (Some p) (Some r) h = same_outside b c n q p r h.2
 
--- ---- with themselves
+-- ---- reflexivity
 
 owner_same : {H : Type 0} (T : ℕ → ℕ → Type 0) → ((t : ℕ) → T t t) → (x : WithZones H) → OwnersSame T x x
 owner_same T h x = record {
@@ -211,7 +211,7 @@ owner_same T h x = record {
       matched-same (ZonesSame T) (λ z. record { gens = refl; mods = refl; target = h z.target }) x.zones;
 }
 
--- each target has a new number
+-- each target gets a new number
 owner_renumbered-same : {H : Type 0} (T : ℕ → ℕ → Type 0) (by : Renumbering) (x : WithZones H)
     → OfTargets (λ t. T t (renumbered by t)) x.zones → OwnersSame T x (owner_renumbered by x)
 owner_renumbered-same T by x h = record {
@@ -231,9 +231,9 @@ instrument_same b c h = owner_same (SamplesAt b c) h
 same_presets : (b c : Parts) → ((t : ℕ) → InstrumentsAt b c t t) → (p : Preset) → PresetsSame b c p p
 same_presets b c h p = (refl, refl, owner_same (InstrumentsAt b c) h p)
 
--- ---- what is changed in its place
+-- ---- one member replaced
 
--- samples that sound the same
+-- samples with the same voices
 pub samples-same : (b : Parts) (samples : List Sample) → Matched SoundSame b.samples samples
     → HaveSamePairs b (record b { samples = samples })
 samples-same b samples h =
@@ -245,7 +245,7 @@ samples-same b samples h =
     (instrument_same b c (λ k. matched-get SoundSame b.samples samples k h)) (slice_get b.instruments t)))
     b.presets)
 
--- an instrument with other words at its head
+-- an instrument with another name
 pub head-same : (b : Parts) (k : ℕ) (f : Instrument → Instrument)
     → ((i : Instrument) → (i.global ≡ (f i).global) × (i.zones ≡ (f i).zones))
     → HaveSamePairs b (record b { instruments = changed b.instruments k f })
@@ -264,9 +264,9 @@ head-same b k f h =
     }))))
     b.presets)
 
--- ---- numbers
+-- ---- other numbers
 
--- samples with other numbers, which the zones follow
+-- samples with other numbers, which zones follow
 pub samples_renumbered-same : (b : Parts) (by : Renumbering) (samples : List Sample)
     → OfOwners (λ t. MatchedOption SoundSame (slice_get b.samples t) (slice_get samples (renumbered by t)))
     b.instruments
@@ -282,7 +282,7 @@ samples_renumbered-same b by samples h =
     (λ i. owner_renumbered-same (SamplesAt b c) by i) b.instruments h))))
     b.presets)
 
--- instruments with other numbers, which the zones follow
+-- instruments with other numbers, which zones follow
 pub instruments_renumbered-same : (b : Parts) (by : Renumbering) (instruments : List Instrument)
     → OfOwners (λ t. slice_get instruments (renumbered by t) ≡ slice_get b.instruments t) b.presets
     → HaveSamePairs b (record b { instruments = instruments; presets = map (owner_renumbered by) b.presets })

@@ -1,4 +1,4 @@
--- The loop of a voice, and the ranges in which its parameters lie.
+-- The loop of a voice, and the ranges of its parameters.
 use Rattle.std.proofs.Common.{◌≡◌, ◌≤◌, ◌<◌, ◌/◌, ◌%◌, ◌+◌, ◌*◌, ℕ, ℤ, pos, negsuc, ◌+ℤ◌, ◌≤ℤ◌, Bool, true, false}
 use Rattle.std.proofs.Common.{cond, ◌&&◌, length, Option, Some, None, slice_get, unwrap_or, IfSome, min, max, refl}
 use Rattle.std.proofs.Common.{sym, ap, arith}
@@ -40,7 +40,7 @@ pub not_asked : (v u : Taken) (s : Sample) → asks_for_loop v u ≡ false → N
 unfolding loop_of is_looped
 not_asked v u s e = rw e refl
 
--- both ends, if they are in order and lie in what is played
+-- both ends, if they are in order and lie within the points that are played
 abbrev pub ends_within : ℤ → ℤ → ℕ → ℕ → Option (ℕ × ℕ)
 ends_within first after start end =
     cond (int_le (pos start) first && int_lt first after && int_le after (pos end))

@@ -13,7 +13,7 @@ use Rattle.zone_select.specs.Amounts.{linear_sources, linear_from}
 listed : (n : ℕ) (ns : List ℕ) → list_any (λ m. n == m) ns ≡ true → Contains ns n
 listed n ns e = Contains-from_any (λ x y e. (Decides-eqb x y).0 e) n ns e
 
--- by bits 8 and 9
+-- sources by bits 8 and 9
 of_index : (high : ℕ) (index : ℕ) → high < 4 → (index ≡ 2) ⊎ (index ≡ 3) → Contains linear_sources (256 * high + index)
 of_index zero index h (inl e) = rw e (listed 2 linear_sources refl)
 of_index zero index h (inr e) = rw e (listed 3 linear_sources refl)
@@ -25,7 +25,7 @@ of_index (suc (suc (suc zero))) index h (inl e) = rw e (listed 770 linear_source
 of_index (suc (suc (suc zero))) index h (inr e) = rw e (listed 771 linear_sources refl)
 of_index (suc (suc (suc (suc k)))) index h i = absurd (omega (arith, h))
 
--- no bit but 8, 9 and those of the index
+-- a linear source has no bits but 8, 9 and those of the index
 by_bits : (source : ℕ) → curve_of source ≡ 0 → flag_of source ≡ 0 → source ≡ 256 * (source / 128 / 2) + index_of source
 by_bits source c f = omega (arith, c, f, div-add-mod' source 128, div-add-mod' (source / 128) 2)
 
@@ -41,7 +41,7 @@ pub linear_summed : (m : Modulator) → IsLinear m
     → Contains linear_sources m.source × SameIdentity m (linear_from m.source m.dest)
 linear_summed m h = (source_summed m h, record { source = refl; dest = refl; amount_source = h.alone })
 
--- ---- the other way round
+-- ---- the converse
 
 record IsSource (source : ℕ) : Type 0 where
   general : flag_of source ≡ 0

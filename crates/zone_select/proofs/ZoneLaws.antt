@@ -1,4 +1,4 @@
--- Zones by what a bank tells of them.
+-- Zones, from the queries of a bank.
 use Rattle.std.proofs.Common.{◌≡◌, ◌≤◌, ◌<◌, ◌⊎◌, inl, inr, get_or, ◌&&◌, ◌↔◌, IsTrue, nat_le, Fits, w32, ℕ, ◌+◌}
 use Rattle.std.proofs.Common.{Bool, true, false, List, [], ◌∷◌, length, Option, Some, None, IsSomeAnd, slice_get}
 use Rattle.std.proofs.Common.{unwrap_or, refl, sym, ap, ◌∙◌, arith}
@@ -24,7 +24,7 @@ use Rattle.zone_select.specs.Pairs.{holds_at, held}
 use Rattle.zone_select.specs.Left.{zones_in, owner_holds, owner_held}
 use Rattle.zone_select.proofs.NumberLaws.{numbers, numbers_end, numbers_hit, numbers_miss}
 
--- ---- an owner has no more zones than all of its level together
+-- ---- an owner has no more zones than its whole level
 
 few_in : {H : Type 0} (owners : List (WithZones H)) (i : ℕ) (o : Option (WithZones H)) → slice_get owners i ≡ o
     → option_map_or (λ (x : WithZones H). length x.zones) o 0 ≤ owner_total zone_count owners
@@ -56,9 +56,9 @@ zone_count_few b o n s e =
 pub fits_field : (n : ℕ) → n ≤ 65535 → Fits w32 n
 fits_field n h = omega (arith, h)
 
--- ---- whether a zone holds the note
+-- ---- whether a zone contains the note
 
--- a zone that is there, by the two ranges that a bank tells of it
+-- an existing zone, by its two ranges from the queries of a bank
 pub record Told (n : Numbers) (keys velocities : Option ℕ) (holding : Bool) : Type 0 where
   pub key : ℕ
   pub velocity : ℕ
@@ -138,7 +138,7 @@ pub counted : (o : Option ℕ) (k : ℕ) → k < unwrap_or o 0 → IsSomeAnd o (
 counted None k h = absurd (omega (arith, h))
 counted (Some n) k h = h
 
--- ---- the numbers of the zones that hold it
+-- ---- the numbers of the zones that contain the note
 
 held_in : {H : Type 0} (owners : List (WithZones H)) (n : Numbers) (i k : ℕ)
     → option_map_or (λ (x : WithZones H). held n x.global x.zones k) (slice_get owners i) []

@@ -1,5 +1,5 @@
--- What the zones of a preset or an instrument give: by targets that give the same, by zones in another order, and
--- by two zones in the place of one.
+-- The voices of a preset's or an instrument's zones: with targets that have the same voices, with zones in another
+-- order, and with two zones in place of one.
 use Rattle.std.proofs.Common.{◌≡◌, ℕ, ◌+◌, ◌<◌, Bool, true, false, cond, Option, Some, None, List, [], ◌∷◌}
 use Rattle.std.proofs.Common.{slice_get, refl, subst}
 use Rattle.std.specs.List.{flat_map}
@@ -21,7 +21,7 @@ use Rattle.zone_select.proofs.Flattened.{flat_map-moved, flat_map-parted, flat_m
 use Rattle.zone_select.proofs.Halves.{halves-give}
 use Rattle.zone_select.proofs.Joins.{AreJoinedInOrder, joined_gives}
 
--- what a target gives
+-- the voices, or their images, of a target
 abbrev pub Inside : Type 0 → Type 0
 Inside X = Taken → ℕ → List X
 
@@ -30,7 +30,7 @@ given_same : {X : Type 0} (t : Bool) (xs ys : List X) → IsPermutation xs ys
 given_same true xs ys h = h
 given_same false xs ys h = IsPermutation-refl []
 
--- each target gives the same
+-- each target has the same voices
 pub voices_of-same : {X : Type 0} (inside other : Inside X)
     → ((v : Taken) (t : ℕ) → IsPermutation (inside v t) (other v t))
     → (n : Numbers) (global : GlobalZone) (zones : List Zone)
@@ -49,7 +49,7 @@ unfolding voices_of
 voices_of-moved inside n global zones i j =
     flat_map-moved (λ (z : Zone). cond (holds n global z) (inside (taken global z) z.target) []) zones i j
 
--- zone k can be split, if it is there
+-- zone k can be split, if it exists
 abbrev pub CanSplit : Axis → ℕ → GlobalZone → List Zone → ℕ → Type 0
 CanSplit axis m global zones k = (z : Zone) → slice_get zones k ≡ Some z → IsSplitAt axis m global z
 
@@ -74,7 +74,7 @@ voices_of-split {X} inside n axis m global zones k small h =
     ] in
     subst (IsPermutation (flat_map give zones)) (at (slice_get zones k) refl) (IsPermutation-refl (flat_map give zones))
 
--- zones k and k + 1 can be joined, if they are there
+-- zones k and k + 1 can be joined, if they exist
 abbrev pub CanJoin : Axis → Keep → GlobalZone → List Zone → ℕ → Type 0
 CanJoin axis keep global zones k =
     (y z : Zone) → slice_get zones k ≡ Some y → slice_get zones (k + 1) ≡ Some z

@@ -6,14 +6,14 @@ use Rattle.bank_parts.specs.declared.parts.Parts.{Parts}
 use Rattle.zone_select.specs.Select.{selected}
 use Rattle.zone_select.specs.Pairs.{pairs, voice_by}
 
--- the same voices, in some order
+-- each note has the same voices in both banks, in some order
 abbrev pub AreAlike : Parts → Parts → Type 0
 AreAlike b c = (n : Numbers) → IsPermutation (selected b n) (selected c n)
 
--- each pair that the note selects in b corresponds to one that it selects in c, one to one, with the same voice: the
--- same points and parameters
+-- the pairs that the note selects in b and in c correspond one to one, with the same voice: the same points and
+-- parameters
 pub record PairsCorrespond (b c : Parts) (n : Numbers) : Type 0 where
-  -- the pairs of c, in the order of those of b to which they correspond
+  -- the pairs of c, in the order of the corresponding pairs of b
   pub others : List (ℕ × ℕ)
   pub one_to_one : IsPermutation (pairs c n) others
   pub same_voices : map (voice_by b n) (pairs b n) ≡ map (voice_by c n) others

@@ -1,5 +1,5 @@
--- The amounts of a pair of zones, of which v is taken of the instrument's zone and u of the preset's; and the
--- numbers that a voice plays by.
+-- The amounts of a pair of zones, where v has the settings of the instrument's zone and u those of the preset's; and
+-- the parameters of its voice.
 use Rattle.std.specs.Prelude.{ℕ, ◌==◌, ◌||◌, ◌&&◌, Bool, cond, nat_le, ℤ, pos, negsuc, ◌+ℤ◌, ◌-ℤ◌, ◌*ℤ◌, int_le}
 use Rattle.std.specs.Prelude.{int_lt, List, [], ◌∷◌, length, map, fold, reverse, Option, Some, None, unwrap_or}
 use Rattle.std.specs.Int.{w16, cast_signed, int_max, int_min}
@@ -20,37 +20,37 @@ use Rattle.zone_select.specs.Taken.{Taken}
 
 -- ---- generators
 
--- the instrument's: the zone's, else its global zone's, else the default
+-- the instrument's amount: the zone's, else its global zone's, else the default
 abbrev pub instrument_amount : Taken → ℕ → ℤ
 instrument_amount v op = option_map_or (cast_signed w16) (v.settings op) (unwrap_or (default_of op) (pos 0))
 
--- the preset's, where presets may have the operator: the zone's, else its global zone's, else none
+-- the preset's amount, if presets may set the operator: the zone's, else its global zone's, else zero
 abbrev pub preset_amount : Taken → ℕ → ℤ
 preset_amount u op = cond (is_allowed level.Preset op) (option_map_or (cast_signed w16) (u.settings op) (pos 0)) (pos 0)
 
--- both together
+-- the amount of a pair: the instrument's plus the preset's
 unfoldable pub amount : Taken → Taken → ℕ → ℤ
 amount v u op = instrument_amount v op +ℤ preset_amount u op
 
 -- ---- modulators
 
--- the last with the identity of m
+-- the last modulator with the identity of m
 abbrev pub last_like : Modulator → List Modulator → Option Modulator
 last_like m mods = find (λ x. same_identity x m) (reverse mods)
 
--- of the zone's, else of its global zone's
+-- that modulator of the zone, else of its global zone
 abbrev pub modulator_like : Modulator → Taken → Option Modulator
 modulator_like m t = option_or (last_like m t.mods) (last_like m t.inherited)
 
--- its amount, else this one
+-- the amount of that modulator, else a default
 abbrev pub amount_like : Modulator → Taken → ℤ → ℤ
 amount_like m t default = option_map_or (λ (x : Modulator). x.amount) (modulator_like m t) default
 
--- the instrument's and the preset's together
+-- the amount of a modulator: the instrument's plus the preset's
 unfoldable pub modulator_amount : Modulator → Taken → Taken → ℤ → ℤ
 modulator_amount m v u default = amount_like m v default +ℤ amount_like m u (pos 0)
 
--- the sources that linear modulators have: velocity or key, rising or falling, of one polarity or two
+-- the sources of linear modulators: velocity or key, increasing or decreasing, unipolar or bipolar
 abbrev pub linear_sources : List ℕ
 linear_sources = 2 ∷ 3 ∷ 258 ∷ 259 ∷ 514 ∷ 515 ∷ 770 ∷ 771 ∷ []
 
@@ -58,7 +58,7 @@ linear_sources = 2 ∷ 3 ∷ 258 ∷ 259 ∷ 514 ∷ 515 ∷ 770 ∷ 771 ∷ []
 abbrev pub linear_from : ℕ → ℕ → Modulator
 linear_from source op = record { source = source; dest = op; amount = pos 0; amount_source = 0; transform = 0 }
 
--- what it adds to the generator, rounded down once for the whole amount
+-- its contribution to the generator, rounded down once
 abbrev pub linear_part : ℕ → ℕ → Taken → Taken → ℕ → ℕ → ℤ
 linear_part key velocity v u op source =
     option_map_or (λ x. floor_div (modulator_amount (linear_from source op) v u (pos 0) *ℤ x) 128)
@@ -67,22 +67,22 @@ linear_part key velocity v u op source =
 abbrev pub sum_of : List ℤ → ℤ
 sum_of zs = fold (λ s z. s +ℤ z) (pos 0) zs
 
--- the amount of a generator that linear modulators move
+-- the amount of a generator with its linear modulators
 unfoldable pub moved_amount : ℕ → ℕ → Taken → Taken → ℕ → ℤ
 moved_amount key velocity v u op = amount v u op +ℤ sum_of (map (linear_part key velocity v u op) linear_sources)
 
--- ---- the numbers that a voice plays by
+-- ---- the parameters of a voice
 
--- a number from 0 to 127, else the other one
+-- the first number if it is from 0 to 127, else the second
 abbrev pub chosen : ℤ → ℕ → ℕ
 chosen (pos x) y = cond (nat_le x 127) x y
 chosen (negsuc x) y = y
 
--- cut to low..high
+-- clamped to low..high
 abbrev pub cut : ℕ → ℕ → ℤ → ℕ
 cut low high z = above_zero (int_min (int_max z (pos low)) (pos high))
 
--- an offset in points: the fine one, and the coarse one in steps of 32,768
+-- an offset in points: the fine one, plus the coarse one in units of 32,768
 abbrev pub offset : Taken → Taken → ℕ → ℕ → ℤ
 offset v u fine coarse = amount v u fine +ℤ pos 32768 *ℤ amount v u coarse
 
@@ -92,21 +92,21 @@ key_of n v u = chosen (amount v u 46) n.key
 abbrev pub velocity_of : Numbers → Taken → Taken → ℕ
 velocity_of n v u = chosen (amount v u 47) n.velocity
 
--- the key at which the sample sounds as recorded: the zone's, else its own, else 60
+-- the root key: the zone's, else the sample's, else 60
 abbrev pub root_of : Taken → Taken → Sample → ℕ
 root_of v u s = chosen (amount v u 58) (cond (nat_le s.key 127) s.key 60)
 
--- generators that may be moved, at the key and the velocity that the voice has
+-- the amount of a generator that may be modulated, at the key and velocity of the voice
 abbrev pub moved : Numbers → Taken → Taken → ℕ → ℤ
 moved n v u op = moved_amount (key_of n v u) (velocity_of n v u) v u op
 
--- the pitch above the sample's own, in cents
+-- the pitch relative to the recorded one, in cents
 abbrev pub cents_of : Numbers → Taken → Taken → Sample → ℤ
 cents_of n v u s =
     amount v u 56 *ℤ (pos (key_of n v u) -ℤ pos (root_of v u s)) +ℤ pos 100 *ℤ amount v u 51 +ℤ moved n v u 52
     +ℤ s.correction
 
--- the generator's, and that of the velocity by its default modulator
+-- the generator's attenuation, plus that of the velocity by its default modulator
 abbrev pub attenuation_of : Numbers → Taken → Taken → ℤ
 attenuation_of n v u =
     moved n v u 48
@@ -126,14 +126,14 @@ loop_start_of v u s = option_map_or (λ l. pos l.0) s.looped (pos 0) +ℤ offset
 abbrev pub loop_end_of : Taken → Taken → Sample → ℤ
 loop_end_of v u s = option_map_or (λ l. pos l.1) s.looped (pos 0) +ℤ offset v u 3 50
 
--- the low two bits
+-- the low two bits of sampleModes
 abbrev pub mode_of : Taken → Taken → ℕ
 mode_of v u = floor_mod (amount v u 54) 4
 
 abbrev pub asks_for_loop : Taken → Taken → Bool
 asks_for_loop v u = mode_of v u == 1 || mode_of v u == 3
 
--- the zone asks for a loop, the sample has one, and it lies in what is played
+-- the sample mode has a loop, the sample has one, and it lies within the points that are played
 unfoldable pub is_looped : Taken → Taken → Sample → Bool
 is_looped v u s =
     asks_for_loop v u && is_some s.looped
@@ -144,7 +144,7 @@ is_looped v u s =
 unfoldable pub loop_of : Taken → Taken → Sample → Option (ℕ × ℕ)
 loop_of v u s = cond (is_looped v u s) (Some (above_zero (loop_start_of v u s), above_zero (loop_end_of v u s))) None
 
--- all of them, for a sample; the ends of a loop are 0 where there is none
+-- the parameters of the voice of a sample; the ends of a loop are 0 without a loop
 unfoldable pub parameters_of : Numbers → Taken → Taken → Sample → VoiceParameters
 parameters_of n v u s = record {
   start = start_of v u s;

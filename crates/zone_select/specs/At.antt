@@ -1,4 +1,4 @@
--- What is taken of the zones of a pair, by what a bank tells of them.
+-- The settings of the zones of a pair, from the queries of a bank.
 use Rattle.std.specs.Prelude.{ℕ, List, [], Option, None, cond, unwrap_or}
 use Rattle.std.specs.Option.{option_or}
 use Rattle.generators.specs.Ranges.{is_range_operator}
@@ -16,11 +16,11 @@ use Rattle.zone_select.specs.Taken.{Taken}
 use Rattle.zone_select.specs.Pairs.{Chosen}
 use Rattle.zone_select.specs.Left.{owner_holds}
 
--- the modulators of a place; none where there is no such place
+-- the modulators of a zone or global zone; none if it doesn't exist
 abbrev pub mods_at : Parts → Owner → Place → List Modulator
 mods_at b o at = unwrap_or (mods_of b o at) []
 
--- of zone k of an owner
+-- the settings of zone k of an owner
 abbrev pub taken_at : Parts → Owner → ℕ → Taken
 taken_at b o k = record {
   settings =
@@ -39,11 +39,11 @@ preset_zone_at b at = taken_at b (owner.Preset at.preset) at.preset_zone
 
 -- ---- a pair
 
--- the target of zone k of an owner, if the zone holds the note
+-- the target of zone k of an owner, if the zone contains the note
 abbrev pub target_held : Parts → Numbers → Owner → ℕ → Option ℕ
 target_held b n o k = cond (owner_holds b n o k) (target_of b o k) None
 
--- what is taken of both zones, and the sample's number
+-- the settings of both zones, and the number of the sample
 abbrev pub chosen_at : Parts → ChosenAt → Chosen
 chosen_at b c =
     record

@@ -1,5 +1,5 @@
--- The edits that change no sound, form by form: each statement is that the changed bank is R of the bank, for a
--- relation R of banks, as that both give each note the same voices, or that their pairs of zones correspond.
+-- The edits that change no sound, form by form. Each statement is that a relation R holds between the bank before and
+-- after the edit: for example that each note has the same voices in both, or that its pairs of zones correspond.
 use Rattle.std.specs.Prelude.{◌≡◌, ◌≤◌, ◌<◌, ◌^◌, ℕ, List, length, true, false}
 use Rattle.std.specs.List.{list_any}
 use Rattle.bank_parts.specs.declared.texts.InfoId.{InfoId}
@@ -18,17 +18,17 @@ use Rattle.bank_changes.specs.Instruments.{instrument_renamed, instrument_added,
 use Rattle.bank_changes.specs.Zones.{zone_moved, zone_split, zone_joined, can_split, can_join}
 use Rattle.bank_changes.specs.Texts.{info_set}
 
--- no zone of these presets, or instruments, targets the number
+-- no zone of these presets or instruments targets the number
 abbrev pub IsUntargeted : {H : Type 0} → List (WithZones H) → ℕ → Type 0
 IsUntargeted owners number = list_any (targets number) owners ≡ false
 
 -- ---- samples
 
--- whatever the sample is
+-- the sample may be any
 abbrev pub SampleAdded : (Parts → Parts → Type 0) → Type 0
 SampleAdded R = (b : Parts) (i : ℕ) (s : Sample) → i ≤ length b.samples → R b (sample_added b i s)
 
--- links to it don't matter
+-- samples that link to it don't matter
 abbrev pub SampleRemoved : (Parts → Parts → Type 0) → Type 0
 SampleRemoved R = (b : Parts) (i : ℕ) → IsUntargeted b.instruments i → R b (sample_removed b i)
 
@@ -43,7 +43,7 @@ KindSet R = (b : Parts) (i : ℕ) (kind : Kind) → R b (kind_set b i kind)
 
 -- ---- instruments
 
--- whatever the instrument is
+-- the instrument may be any
 abbrev pub InstrumentAdded : (Parts → Parts → Type 0) → Type 0
 InstrumentAdded R = (b : Parts) (i : ℕ) (x : WithZones (List ℕ)) → i ≤ length b.instruments
     → R b (instrument_added b i x)

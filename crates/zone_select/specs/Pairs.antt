@@ -1,4 +1,4 @@
--- The same by pairs of zone numbers.
+-- The voices of a note by pairs of zone numbers.
 use Rattle.std.specs.Prelude.{◌≡◌, ℕ, Bool, false, List, [], ◌∷◌, length, map, Option, Some, None, cond, slice_get, ◌-◌}
 use Rattle.std.specs.List.{flat_map, find, filter, range_with_len}
 use Rattle.std.specs.Option.{option_map_or, option_map, option_and_then}
@@ -14,40 +14,40 @@ use Rattle.zone_select.specs.Select.{Voice, voice_of, is_called, selected}
 
 -- ---- the pairs
 
--- there is a zone of this number, and it holds the note
+-- zone k exists and contains the note
 abbrev pub holds_at : Numbers → GlobalZone → List Zone → ℕ → Bool
 holds_at n global zones k = option_map_or (holds n global) (slice_get zones k) false
 
--- the numbers of the zones that hold the note, from k on, in rising order
+-- the numbers of the zones that contain the note, from k on, in ascending order
 abbrev pub held : Numbers → GlobalZone → List Zone → ℕ → List ℕ
 held n global zones k = filter (holds_at n global zones) (range_with_len k (length zones - k))
 
--- those of the instrument of a number
+-- those numbers for the zones of an instrument
 abbrev pub held_inside : Parts → Numbers → ℕ → ℕ → List ℕ
 held_inside b n number k =
     option_map_or (λ (i : WithZones (List ℕ)). held n i.global i.zones k) (slice_get b.instruments number) []
 
--- the pairs of which zone k of the preset is the first
+-- the pairs of zone k of the preset
 abbrev pub pairs_at : Parts → Numbers → List Zone → ℕ → List (ℕ × ℕ)
 pairs_at b n zones k =
     option_map_or (λ (z : Zone). map (λ (l : ℕ). let q : ℕ × ℕ = (k, l) in q) (held_inside b n z.target 0))
     (slice_get zones k) []
 
--- the pairs (a zone of the preset, a zone of its instrument) that hold the note, in rising order
+-- the pairs (a zone of the preset, a zone of its instrument) of zones that contain the note, in ascending order
 unfoldable pub pairs : Parts → Numbers → List (ℕ × ℕ)
 pairs b n =
     option_map_or (λ (p : WithZones Head). flat_map (pairs_at b n p.zones) (held n p.global p.zones 0))
     (find (is_called n) b.presets) []
 
--- ---- what is chosen by a pair
+-- ---- the zones of a pair
 
--- what is taken of its two zones, and the number of its sample
+-- the settings of its two zones, and the number of its sample
 pub record Chosen : Type 0 where
   pub instrument_zone : Taken
   pub preset_zone : Taken
   pub sample : ℕ
 
--- zone k, if it holds the note
+-- zone k, if it contains the note
 abbrev pub zone_held : Numbers → GlobalZone → List Zone → ℕ → Option Zone
 zone_held n global zones k = option_and_then (λ (z : Zone). cond (holds n global z) (Some z) None) (slice_get zones k)
 
@@ -63,11 +63,11 @@ zone_chosen b n global l z =
 abbrev pub preset_chosen : Parts → Numbers → ℕ × ℕ → WithZones Head → Option Chosen
 preset_chosen b n q p = option_and_then (zone_chosen b n p.global q.1) (zone_held n p.global p.zones q.0)
 
--- by a pair that holds the note
+-- the zones of a pair, if both contain the note
 unfoldable pub chosen_by : Parts → Numbers → ℕ × ℕ → Option Chosen
 chosen_by b n q = option_and_then (preset_chosen b n q) (find (is_called n) b.presets)
 
--- the voice of a pair
+-- the voice of a pair: its sample's points, and its parameters
 abbrev pub chosen_voice : Parts → Numbers → Chosen → Option Voice
 chosen_voice b n c = option_map (voice_of n c.instrument_zone c.preset_zone) (slice_get b.samples c.sample)
 
@@ -77,6 +77,6 @@ voice_by b n q = option_and_then (chosen_voice b n) (chosen_by b n q)
 abbrev pub listed : Option Voice → List Voice
 listed o = option_map_or (λ v. v ∷ []) o []
 
--- the voices that are selected are those of the pairs, in their order
+-- the voices that a note selects are those of its pairs, in order
 abbrev pub SelectedByPairs : Type 0
 SelectedByPairs = (b : Parts) (n : Numbers) → flat_map (λ q. listed (voice_by b n q)) (pairs b n) ≡ selected b n

@@ -1,8 +1,8 @@
--- The ranges in which a voice's parameters lie.
+-- The ranges of a voice's parameters.
 use Rattle.std.specs.Prelude.{ℕ, ◌≡◌, ◌≤◌, ◌<◌, pos, negsuc, ◌≤ℤ◌, true}
 use Rattle.zone_select.specs.declared.parameters.VoiceParameters.{VoiceParameters}
 
--- for a sample of so many points
+-- parameters for a sample with `count` points
 pub record IsPlayable (count : ℕ) (v : VoiceParameters) : Type 0 where
   pub inside : v.end ≤ count
   pub ordered : v.looped ≡ true → v.loop_start < v.loop_end

@@ -1,4 +1,4 @@
--- A pair is among the pairs of a note exactly where it has a voice.
+-- A pair is among the pairs of a note exactly if it has a voice.
 use Rattle.std.specs.Prelude.{◌↔◌, ℕ, IsSome}
 use Rattle.std.specs.List.{Contains}
 use Rattle.note_list.specs.Notes.{Numbers}
@@ -6,10 +6,10 @@ use Rattle.bank_parts.specs.declared.parts.Parts.{Parts}
 use Rattle.bank_parts.specs.Valid.{IsValid}
 use Rattle.zone_select.specs.Pairs.{pairs, chosen_by, voice_by}
 
--- both its zones are there and hold the note
+-- both its zones exist and contain the note
 abbrev pub PairsAreChosen : Type 0
 PairsAreChosen = (b : Parts) (n : Numbers) (q : ℕ × ℕ) → Contains (pairs b n) q ↔ IsSome (chosen_by b n q)
 
--- in a valid bank the sample is there too
+-- in a valid bank the sample exists too
 abbrev pub PairsHaveVoices : Type 0
 PairsHaveVoices = (b : Parts) (n : Numbers) (q : ℕ × ℕ) → IsValid b → Contains (pairs b n) q ↔ IsSome (voice_by b n q)

@@ -14,25 +14,25 @@ use Rattle.zone_select.specs.Ranges.{holds}
 use Rattle.zone_select.specs.Taken.{Taken, taken}
 use Rattle.zone_select.specs.Amounts.{parameters_of}
 
--- the points of a voice, and the numbers that it plays by
+-- the points of a voice, and its parameters
 pub record Voice : Type 0 where
   pub points : List ℕ
   pub parameters : VoiceParameters
 
--- the voice of a sample, for what is taken of an instrument's zone and of a preset's
+-- the voice of a sample, with the settings of an instrument's zone and of a preset's
 unfoldable pub voice_of : Numbers → Taken → Taken → Sample → Voice
 voice_of n v u s = record { points = s.points; parameters = parameters_of n v u s }
 
--- of each zone that holds the note, the voices of its target, or whatever is given of it
+-- for each zone that contains the note, the voices of its target
 unfoldable pub voices_of : {X : Type 0} → (Taken → ℕ → List X) → Numbers → GlobalZone → List Zone → List X
 voices_of inside n global zones =
     flat_map (λ (z : Zone). cond (holds n global z) (inside (taken global z) z.target) []) zones
 
--- the voice of a sample's number
+-- the voice of the sample with a number
 unfoldable pub sample_voices : Parts → Numbers → Taken → Taken → ℕ → List Voice
 sample_voices b n u v number = option_map_or (λ (s : Sample). voice_of n v u s ∷ []) (slice_get b.samples number) []
 
--- the voices of an instrument, for what is taken of a preset's zone
+-- the voices of an instrument, with the settings of a preset's zone
 unfoldable pub instrument_voices : Parts → Numbers → Taken → WithZones (List ℕ) → List Voice
 instrument_voices b n u i = voices_of (sample_voices b n u) n i.global i.zones
 
@@ -42,10 +42,10 @@ number_voices b n u number = option_map_or (instrument_voices b n u) (slice_get 
 unfoldable pub preset_voices : Parts → Numbers → WithZones Head → List Voice
 preset_voices b n p = voices_of (number_voices b n) n p.global p.zones
 
--- the note's two numbers are the preset's
+-- the preset has the note's bank and preset number
 unfoldable pub is_called : Numbers → WithZones Head → Bool
 is_called n p = p.head.bank == n.bank && p.head.number == n.number
 
--- the voices of the first preset with the note's numbers
+-- the voices of the first preset with the note's bank and preset number
 unfoldable pub selected : Parts → Numbers → List Voice
 selected b n = option_map_or (preset_voices b n) (find (is_called n) b.presets) []

@@ -6,12 +6,12 @@ use Rattle.modulators.specs.Modulators.{SameIdentity}
 use Rattle.modulators.specs.Linear.{IsLinear, moved_generators}
 use Rattle.zone_select.specs.Amounts.{linear_sources, linear_from}
 
--- a linear modulator has one of the sources, and the identity that is summed for it
+-- a linear modulator has one of the sources, and the identity that is summed for this source
 abbrev pub LinearAreSummed : Type 0
 LinearAreSummed =
     (m : Modulator) → IsLinear m → Contains linear_sources m.source × SameIdentity m (linear_from m.source m.dest)
 
--- from each source to each generator that may be moved there is a linear modulator
+-- there is a linear modulator from each source to each generator that may be modulated
 abbrev pub SummedAreLinear : Type 0
 SummedAreLinear =
     (source op : ℕ) → Contains linear_sources source → Contains moved_generators op

@@ -1,4 +1,4 @@
-//! The amounts of a pair of zones.
+//! The generator and modulator amounts of a pair of zones.
 ghost use Rattle.std.specs.Prelude.{◌≡◌, ◌≤ℤ◌, pos, negsuc, false, unwrap_or, length};
 ghost use Rattle.std.specs.Option.{option_or, option_map};
 ghost use Rattle.generators.specs.Ranges.{is_range_operator};
@@ -12,7 +12,7 @@ use generators::operators::EXCLUSIVE_CLASS;
 use generators::{Level, allowed, default_of};
 use modulators::Modulator;
 
-// A zone of a preset, and a zone of its instrument, each by its own number and its owner's.
+// A zone of a preset and a zone of its instrument, each by its number and its owner's.
 #[derive(Debug, Clone, Copy, PartialEq, Eq)]
 pub(crate) struct PairAt {
     pub(crate) preset: u32,
@@ -21,7 +21,7 @@ pub(crate) struct PairAt {
     pub(crate) instrument_zone: u32,
 }
 
-// The amount of an operator that holds for a zone: its own, else its global zone's.
+// The amount of an operator for a zone: its own, else its global zone's.
 fn amount_at(bank: &Bank<'_>, owner: Owner, zone: u32, operator: u16) -> Option<u16>
     ensures { result ≡ option_or (amount_of bank.now owner (place.Zone zone) operator) (amount_of bank.now owner place.Global operator) }
 {
@@ -31,8 +31,7 @@ fn amount_at(bank: &Bank<'_>, owner: Owner, zone: u32, operator: u16) -> Option<
     }
 }
 
-// The amount of an operator that sets no range: the instrument's, and the preset's where presets
-// may have it.
+// The amount of an operator that isn't a range: the instrument's, plus the preset's if presets may set it.
 #[tactic(auto, unfolding(crate::specs::Amounts::amount))]
 pub(crate) fn amount(bank: &Bank<'_>, at: &PairAt, operator: u16) -> i32
     requires { is_range_operator operator ≡ false }
@@ -58,7 +57,7 @@ pub(crate) fn amount(bank: &Bank<'_>, at: &PairAt, operator: u16) -> i32
     i32::from(of_instrument) + i32::from(of_preset)
 }
 
-// The exclusive class, which is the instrument's alone.
+// The exclusive class, which only an instrument sets.
 #[tactic(auto, using(crate::proofs::LinearLaws::class_is))]
 pub(crate) fn exclusive_class(bank: &Bank<'_>, at: &PairAt) -> i16
     ensures { result ≡ amount (instrument_zone_at bank.now at.now) (preset_zone_at bank.now at.now) 57 }
@@ -74,7 +73,7 @@ pub(crate) fn exclusive_class(bank: &Bank<'_>, at: &PairAt) -> i16
     }
 }
 
-// The last modulator of a place with this identity.
+// The last modulator of a zone or global zone with this identity.
 fn last_like(bank: &Bank<'_>, owner: Owner, place: Place, like: &Modulator) -> Option<Modulator>
     ensures { result ≡ last_like like.now (mods_at bank.now owner place) }
 {
@@ -100,7 +99,7 @@ fn amount_like(bank: &Bank<'_>, owner: Owner, zone: u32, like: &Modulator) -> Op
     }
 }
 
-// The instrument's and the preset's together.
+// The amount of a modulator: the instrument's plus the preset's.
 #[tactic(auto, unfolding(crate::specs::Amounts::modulator_amount))]
 pub(crate) fn modulator_amount(bank: &Bank<'_>, at: &PairAt, like: &Modulator, default: i16) -> i32
     ensures value { result ≡ modulator_amount like.now (instrument_zone_at bank.now at.now) (preset_zone_at bank.now at.now) default }

@@ -1,4 +1,4 @@
-//! The zones of a pair that hold a note.
+//! The zones of a pair that a note selects.
 ghost use Rattle.std.specs.Prelude.{◌≡◌};
 ghost use Rattle.std.specs.Option.{option_map};
 ghost use Rattle.zone_select.specs.At.{target_held, chosen_at};
@@ -10,14 +10,14 @@ use crate::zones::holds;
 use bank_core::{Bank, Owner};
 use note_list::Note;
 
-// Two zones that hold a note, and the number of the sample that is played.
+// Two zones that a note selects, and the number of the instrument zone's sample.
 #[derive(Debug, Clone, Copy, PartialEq, Eq)]
 pub(crate) struct ChosenAt {
     pub(crate) zones: PairAt,
     pub(crate) sample: u32,
 }
 
-// The zones of a pair of numbers, if both are there and hold the note.
+// The zones of a pair of numbers, if both exist and contain the note.
 pub(crate) fn chosen(bank: &Bank<'_>, note: &Note, pair: (u32, u32)) -> Option<ChosenAt>
     ensures { option_map (chosen_at bank.now) result ≡ chosen_by bank.now note.now pair }
 {
@@ -34,7 +34,7 @@ pub(crate) fn chosen(bank: &Bank<'_>, note: &Note, pair: (u32, u32)) -> Option<C
     Some(ChosenAt { zones, sample })
 }
 
-// The target of a zone, if it is there and holds the note.
+// The target of a zone, if the zone exists and contains the note.
 fn held_target(bank: &Bank<'_>, note: &Note, owner: Owner, zone: u32) -> Option<u32>
     ensures { result ≡ target_held bank.now note.now owner zone }
 {

@@ -1,4 +1,4 @@
-//! How loud a voice is, on which side, and its times.
+//! The attenuation, pan, sustain and times of a voice.
 ghost use Rattle.std.specs.Prelude.{◌≡◌, ◌≤ℤ◌, pos, negsuc, false};
 ghost use Rattle.std.specs.Int.{int_max, int_min};
 ghost use Rattle.generators.specs.Ranges.{is_range_operator};
@@ -15,7 +15,7 @@ use modulators::DEFAULT_VELOCITY;
 use note_list::Note;
 use sound_tables::{frames, velatt};
 
-// How much quieter the voice is, in centibels: as its zones say, and as its velocity does.
+// The attenuation of a voice in centibels: that of its zones plus that of its velocity.
 pub(crate) fn attenuation(bank: &Bank<'_>, note: &Note, at: &PairAt) -> i32
     ensures { result ≡ attenuation_of note.now (instrument_zone_at bank.now at.now) (preset_zone_at bank.now at.now) }
 {
@@ -24,21 +24,21 @@ pub(crate) fn attenuation(bank: &Bank<'_>, note: &Note, at: &PairAt) -> i32
     moved(bank, note, at, INITIAL_ATTENUATION) + part_of(most, quieter, 960)
 }
 
-// From -500, all to the left, to 500, all to the right.
+// The pan of a voice, from -500 (left) to 500 (right).
 pub(crate) fn pan(bank: &Bank<'_>, note: &Note, at: &PairAt) -> i32
     ensures { result ≡ int_min (int_max (moved note.now (instrument_zone_at bank.now at.now) (preset_zone_at bank.now at.now) 17) (negsuc 499)) (pos 500) }
 {
     moved(bank, note, at, PAN).max(-500).min(500)
 }
 
-// How far the decay falls, in centibels.
+// The sustain of a voice: how far the decay falls, in centibels.
 pub(crate) fn sustain(bank: &Bank<'_>, note: &Note, at: &PairAt) -> u32
     ensures { result ≡ cut 0 960 (moved note.now (instrument_zone_at bank.now at.now) (preset_zone_at bank.now at.now) 37) }
 {
     moved(bank, note, at, SUSTAIN_VOL_ENV).max(0).min(960) as u32
 }
 
-// The frames of a time that no modulator moves.
+// A time in frames, without modulators.
 pub(crate) fn time(bank: &Bank<'_>, at: &PairAt, operator: u16) -> u32
     requires { is_range_operator operator ≡ false }
     ensures { result ≡ frames_of (amount (instrument_zone_at bank.now at.now) (preset_zone_at bank.now at.now) operator) }
@@ -46,7 +46,7 @@ pub(crate) fn time(bank: &Bank<'_>, at: &PairAt, operator: u16) -> u32
     frames(i64::from(amount(bank, at, operator)))
 }
 
-// The frames of a time that linear modulators may move.
+// A time in frames, with linear modulators.
 pub(crate) fn moved_time(bank: &Bank<'_>, note: &Note, at: &PairAt, operator: u16) -> u32
     requires { is_range_operator operator ≡ false }
     ensures { result ≡ frames_of (moved note.now (instrument_zone_at bank.now at.now) (preset_zone_at bank.now at.now) operator) }

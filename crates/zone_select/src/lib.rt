@@ -1,5 +1,4 @@
-//! Which zones of a bank a note selects (SoundFont 2.04, sections 7 and 9.4), and the numbers that
-//! their voices play by.
+//! Which zones of a bank a note selects (SoundFont 2.04, sections 7 and 9.4), and the parameters of their voices.
 #![tactic(auto)]
 
 mod amounts;

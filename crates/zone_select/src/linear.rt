@@ -1,4 +1,4 @@
-//! The amounts of generators that linear modulators move.
+//! Generator amounts with linear modulators.
 ghost use Rattle.std.specs.Prelude.{◌≡◌, ◌<◌, ◌≤◌, ◌≤ℤ◌, ◌+ℤ◌, ◌*ℤ◌, pos, negsuc, false, map};
 ghost use Rattle.generators.specs.Ranges.{is_range_operator};
 ghost use Rattle.sound_tables.specs.Floor.{floor_div};
@@ -11,10 +11,10 @@ use bank_core::Bank;
 use modulators::{Modulator, linear_value};
 use note_list::Note;
 
-/// The sources of linear modulators: the velocity or the key, rising or falling, of one polarity or two.
+/// The sources of linear modulators: velocity or key, increasing or decreasing, unipolar or bipolar.
 const LINEAR_SOURCES: [u16; 8] = [2, 3, 258, 259, 514, 515, 770, 771];
 
-// So many of `whole` parts of an amount, rounded down.
+// The fraction `parts` of `whole` of an amount, rounded down.
 pub(crate) fn part_of(amount: i32, parts: i32, whole: u32) -> i32
     requires amount { (negsuc 65535 ≤ℤ amount) × (amount ≤ℤ pos 65534) }
     requires parts { (pos 0 ≤ℤ (parts +ℤ pos whole)) × (parts ≤ℤ pos whole) }
@@ -25,7 +25,7 @@ pub(crate) fn part_of(amount: i32, parts: i32, whole: u32) -> i32
     (amount * parts).div_euclid(whole as i32)
 }
 
-// What the linear modulators from a source to a generator add to it.
+// The contribution to a generator of the linear modulator from one source.
 fn linear_part(
     bank: &Bank<'_>,
     at: &PairAt,
@@ -55,7 +55,7 @@ fn linear_part(
     }
 }
 
-// What all linear modulators of a generator add to it.
+// The contribution to a generator of all its linear modulators.
 fn linear_parts(bank: &Bank<'_>, at: &PairAt, key: u8, velocity: u8, operator: u16) -> i32
     requires key { key ≤ 127 }
     requires velocity { velocity ≤ 127 }
@@ -69,7 +69,7 @@ fn linear_parts(bank: &Bank<'_>, at: &PairAt, key: u8, velocity: u8, operator: u
     sum
 }
 
-// The amount of an operator with what linear modulators add to it.
+// The amount of an operator with its linear modulators.
 #[tactic(auto, unfolding(crate::specs::Amounts::moved_amount))]
 pub(crate) fn moved(bank: &Bank<'_>, note: &Note, at: &PairAt, operator: u16) -> i32
     requires { is_range_operator operator ≡ false }

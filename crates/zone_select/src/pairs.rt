@@ -12,14 +12,16 @@ use bank_core::{Bank, List, Owner};
 use note_list::Note;
 use std::marker::Model;
 
-/// The pairs of zones that a note selects, the number of a preset's zone before that of its
-/// instrument's, in rising order; seen as the list of those that are left. It lends from the bank.
+/// Iterates over the pairs of zones that a note selects, in ascending order: the number of the preset's zone, then that
+/// of its instrument's zone.
+///
+/// It borrows the bank. Its model is the list of the remaining pairs.
 #[derive(Drop)]
 pub struct ZonePairs<'b, 'a> {
     bank: &'b Bank<'a>,
     note: Note,
     preset: u32,
-    // The preset's zone of the pairs that come next, and from where to look in its instrument.
+    // The preset's zone of the next pair, and the first zone of its instrument that is still to be checked.
     zone: Option<u32>,
     instrument_zone: u32,
 }
@@ -56,9 +58,11 @@ impl<'b, 'a> Iterator for ZonePairs<'b, 'a> {
     }
 }
 
-/// The pairs of zones that a note selects: of the first preset with its bank number and number, each
-/// zone whose key range and velocity range hold the note's own, with each zone of its instrument that
-/// does the same. A zone without a range has its global zone's, and else takes all.
+/// Returns the pairs of zones that a note selects.
+///
+/// These are, of the first preset with the note's bank and preset number, each zone whose key and velocity ranges
+/// contain the note, with each such zone of its instrument. A zone without a range has its global zone's, and otherwise
+/// the full range.
 pub fn matches<'b, 'a>(bank: &'b Bank<'a>, note: &Note) -> ZonePairs<'b, 'a>
     ensures { result ≡ pairs bank.now note.now }
 {
@@ -80,7 +84,7 @@ pub fn matches<'b, 'a>(bank: &'b Bank<'a>, note: &Note) -> ZonePairs<'b, 'a>
     }
 }
 
-// How many presets a bank has.
+// The number of presets in a bank.
 fn preset_count(bank: &Bank<'_>) -> u32
     ensures count { result ≡ length bank.now.presets }
     ensures few { result ≤ 65535 }
@@ -89,7 +93,7 @@ fn preset_count(bank: &Bank<'_>) -> u32
     bank.count(List::Presets) as u32
 }
 
-// Whether there is a preset of this number, with the note's two numbers.
+// Whether the preset of this number exists and has the note's bank and preset number.
 #[tactic(auto, using(crate::proofs::LeftLaws::called_then, crate::proofs::LeftLaws::called_else, crate::proofs::LeftLaws::not_there))]
 fn is_called(bank: &Bank<'_>, note: &Note, preset: u32) -> bool
     ensures { result ≡ option_map_or (is_called note.now) (slice_get bank.now.presets preset) false }
@@ -100,7 +104,7 @@ fn is_called(bank: &Bank<'_>, note: &Note, preset: u32) -> bool
     }
 }
 
-// The first preset with the note's two numbers.
+// The first preset with the note's bank and preset number.
 pub(crate) fn first_called(bank: &Bank<'_>, note: &Note) -> Option<u32>
     ensures { MatchOption result (find (is_called note.now) bank.now.presets ≡ None) (λ p. find (is_called note.now) bank.now.presets ≡ slice_get bank.now.presets p) }
 {
@@ -115,7 +119,7 @@ pub(crate) fn first_called(bank: &Bank<'_>, note: &Note) -> Option<u32>
     None
 }
 
-// The first pair at or after a place, in the order of pairs.
+// The first pair from `first` and `from` on, in ascending order.
 fn next_pair(
     bank: &Bank<'_>,
     note: &Note,
@@ -139,7 +143,7 @@ fn next_pair(
     None
 }
 
-// The first zone, from a number on, of the instrument of a preset's zone that holds the note.
+// The first zone that contains the note, from a number on, in the instrument of a preset's zone.
 fn next_inside(bank: &Bank<'_>, note: &Note, preset: u32, zone: u32, from: u32) -> Option<u32>
     ensures first { MatchOption result (inside_held bank.now note.now preset zone from ≡ []) (λ l. inside_held bank.now note.now preset zone from ≡ l ∷ inside_held bank.now note.now preset zone (l + 1)) }
     ensures within { IfSome result (λ l. l < 65535) }

@@ -1,4 +1,4 @@
-//! The numbers that the voice of a pair of zones plays by.
+//! The parameters of the voice of a pair of zones.
 ghost use Rattle.std.specs.Prelude.{◌≡◌, ◌<◌, ◌^◌, ◌↔◌, length, IsSome, IfSome};
 ghost use Rattle.std.specs.List.{Contains};
 ghost use Rattle.std.specs.Option.{option_map};
@@ -19,61 +19,62 @@ use generators::operators::{
 };
 use note_list::Note;
 
-/// The numbers that a voice plays by beside the points of its sample (SoundFont 2.04, sections 8.1.2
-/// and 9). Points are counted from the sample's first, times are frames of 1/44100 second.
+/// The parameters of a voice, besides the points of its sample (SoundFont 2.04, sections 8.1.2 and 9). Points are
+/// counted from the sample's first; times are frames of 1/44100 second.
 #[derive(Debug, Clone, Copy, PartialEq, Eq)]
 pub struct VoiceParameters {
-    /// The point at which the voice begins.
+    /// The first point that is played.
     pub start: u32,
-    /// The point before which it ends.
+    /// The point after the last one.
     pub end: u32,
-    /// The first point of the loop; 0 where there is none.
+    /// The first point of the loop; 0 without a loop.
     pub loop_start: u32,
-    /// The point after the loop's last; 0 where there is none.
+    /// The point after the loop's last; 0 without a loop.
     pub loop_end: u32,
-    /// Whether there is a loop.
+    /// Whether the voice loops.
     pub looped: bool,
-    /// Whether the note's end ends the loop too, so that the rest of the sample is heard.
+    /// Whether the loop ends when the note ends, so that the rest of the sample is played.
     pub until_release: bool,
-    /// How far a frame goes on, in 65536ths of a point; at most 73,043,661.
+    /// The phase increment: how far the position advances in a frame, in 65536ths of a point; at most 73,043,661.
     pub step: u32,
     /// Frames of silence before the attack.
     pub delay: u32,
-    /// Frames in which the voice rises to its full level.
+    /// Frames in which the gain rises from 0 to the full gain.
     pub attack: u32,
-    /// Frames at the full level.
+    /// Frames at the full gain.
     pub hold: u32,
-    /// Frames in which the voice would fall by 960 centibels.
+    /// Frames in which the decay would fall by 960 centibels.
     pub decay: u32,
-    /// Frames in which the voice falls by 960 centibels once the note has ended.
+    /// Frames in which the release falls by 960 centibels.
     pub release: u32,
     /// How far the decay falls, in centibels, up to 960.
     pub sustain: u32,
-    /// How much quieter all of it is, in centibels; below zero counts as zero.
+    /// The attenuation of the whole voice, in centibels; a negative one counts as zero.
     pub attenuation: i32,
-    /// From -500, all to the left, to 500, all to the right.
+    /// The pan, from -500 (left) to 500 (right).
     pub pan: i32,
-    /// The frames from the note's start to its end.
+    /// The length of the note in frames.
     pub length: u32,
-    /// The exclusive class; 0 for none.
+    /// The exclusive class; 0 means none.
     pub class: i16,
 }
 
-/// What the voice of a pair of zones plays.
+/// The sample and the parameters of a pair of zones.
 #[derive(Debug, Clone, Copy, PartialEq, Eq)]
 pub struct PairParameters {
-    /// The number of its sample.
+    /// The number of the sample.
     pub sample: u32,
     /// The low two bits of the amount of sampleModes (generator 54): 0 to 3.
     pub mode: u8,
-    /// The numbers that it plays by.
+    /// The parameters of the voice.
     pub voice: VoiceParameters,
 }
 
-/// What the voice of a pair of zones plays, the pair being of the first preset with the note's bank
-/// number and number, and each zone given by its number. None where there are no such zones, or they
-/// don't both hold the note: there is something exactly for the pairs that [`matches`](crate::matches)
-/// gives. It allocates nothing.
+/// Returns the sample and the parameters of a pair of zones: a zone of the first preset with the note's bank and preset
+/// number, and a zone of its instrument, by number.
+///
+/// Returns `None` if a zone doesn't exist or doesn't contain the note; so it returns `Some` exactly for the pairs of
+/// [`matches`](crate::matches). It allocates nothing.
 pub fn params(bank: &Bank<'_>, note: &Note, pair: (u32, u32)) -> Option<PairParameters>
     ensures sample { option_map (λ p. p.sample) result ≡ option_map (λ c. c.sample) (chosen_by bank.now note.now pair) }
     ensures mode { option_map (λ p. p.mode) result
@@ -93,7 +94,7 @@ pub fn params(bank: &Bank<'_>, note: &Note, pair: (u32, u32)) -> Option<PairPara
     })
 }
 
-// Those of two zones and their sample.
+// The parameters of two zones and their sample.
 #[tactic(auto, using(crate::proofs::SpanLaws::loop_there, crate::proofs::SpanLaws::loop_start_is, crate::proofs::SpanLaws::loop_end_is), unfolding(crate::specs::Amounts::parameters_of))]
 fn parameters_of(bank: &Bank<'_>, note: &Note, at: &PairAt, sample: &Sample<'_>) -> VoiceParameters
     requires { length sample.now.points < 2 ^ 32 }

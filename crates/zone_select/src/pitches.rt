@@ -1,4 +1,4 @@
-//! The key and the velocity of a voice, and how fast it goes through its sample.
+//! The key, velocity, pitch and phase increment of a voice.
 ghost use Rattle.std.specs.Prelude.{◌≡◌, ◌≤◌, ◌≤ℤ◌, ◌+ℤ◌, ◌-ℤ◌, ◌*ℤ◌, pos, negsuc};
 ghost use Rattle.sound_tables.specs.Tables.{step_of};
 ghost use Rattle.zone_select.specs.Amounts.{chosen, key_of, velocity_of, root_of, cents_of};
@@ -14,10 +14,10 @@ use generators::operators::{
 use note_list::Note;
 use sound_tables::step;
 
-/// The key of a sample that says none: the middle C.
+/// The root key of a sample that has none: middle C.
 const MIDDLE_KEY: u8 = 60;
 
-// A number from 0 to 127, else the other one.
+// `number` if it is from 0 to 127, else `other`.
 fn up_to_127(number: i32, other: u8) -> u8
     ensures value { result ≡ chosen number other }
     ensures within { other ≤ 127 → result ≤ 127 }
@@ -29,7 +29,7 @@ fn up_to_127(number: i32, other: u8) -> u8
     }
 }
 
-// The key that the voice plays: the zones' own, else the note's.
+// The key of the voice: the zones' own, else the note's.
 pub(crate) fn key(bank: &Bank<'_>, note: &Note, at: &PairAt) -> u8
     ensures value { result ≡ key_of note.now (instrument_zone_at bank.now at.now) (preset_zone_at bank.now at.now) }
     ensures within { result ≤ 127 }
@@ -37,7 +37,7 @@ pub(crate) fn key(bank: &Bank<'_>, note: &Note, at: &PairAt) -> u8
     up_to_127(amount(bank, at, KEYNUM), note.key())
 }
 
-// The velocity that the voice has: the zones' own, else the note's.
+// The velocity of the voice: the zones' own, else the note's.
 pub(crate) fn velocity(bank: &Bank<'_>, note: &Note, at: &PairAt) -> u8
     ensures value { result ≡ velocity_of note.now (instrument_zone_at bank.now at.now) (preset_zone_at bank.now at.now) }
     ensures within { result ≤ 127 }
@@ -45,7 +45,7 @@ pub(crate) fn velocity(bank: &Bank<'_>, note: &Note, at: &PairAt) -> u8
     up_to_127(amount(bank, at, VELOCITY), note.velocity())
 }
 
-// The key at which the sample sounds as recorded.
+// The root key: that of the zones, else the sample's.
 fn root(bank: &Bank<'_>, at: &PairAt, sample: &Sample<'_>) -> u8
     ensures value { result ≡ root_of (instrument_zone_at bank.now at.now) (preset_zone_at bank.now at.now) sample.now }
     ensures within { result ≤ 127 }
@@ -58,14 +58,14 @@ fn root(bank: &Bank<'_>, at: &PairAt, sample: &Sample<'_>) -> u8
     up_to_127(amount(bank, at, OVERRIDING_ROOT_KEY), own)
 }
 
-// How far the voice goes through its sample in a frame, in 65536ths of a point.
+// The phase increment: how far the position advances in a frame, in 65536ths of a point.
 pub(crate) fn step_through(bank: &Bank<'_>, note: &Note, at: &PairAt, sample: &Sample<'_>) -> u32
     ensures { result ≡ step_of (cents_of note.now (instrument_zone_at bank.now at.now) (preset_zone_at bank.now at.now) sample.now) sample.now.rate }
 {
     step(i64::from(cents(bank, note, at, sample)), sample.rate)
 }
 
-// So many times `tuning`.
+// The product of `tuning` and a number of keys.
 fn times(tuning: i32, keys: i32) -> i32
     requires tuning { (negsuc 65535 ≤ℤ tuning) × (tuning ≤ℤ pos 65534) }
     requires keys { (pos 0 ≤ℤ (keys +ℤ pos 127)) × (keys ≤ℤ pos 127) }
@@ -75,7 +75,7 @@ fn times(tuning: i32, keys: i32) -> i32
     tuning * keys
 }
 
-// The interval from a root to a key, of `tuning` cents for each key.
+// The interval from a root key to a key, with `tuning` cents for each key.
 fn interval(tuning: i32, key: u8, root: u8) -> i32
     requires tuning { (negsuc 65535 ≤ℤ tuning) × (tuning ≤ℤ pos 65534) }
     requires keys { (key ≤ 127) × (root ≤ 127) }
@@ -86,7 +86,7 @@ fn interval(tuning: i32, key: u8, root: u8) -> i32
     times(tuning, keys)
 }
 
-// The interval above the sample's own pitch, in cents.
+// The pitch relative to the recorded one, in cents.
 fn cents(bank: &Bank<'_>, note: &Note, at: &PairAt, sample: &Sample<'_>) -> i32
     ensures { result ≡ cents_of note.now (instrument_zone_at bank.now at.now) (preset_zone_at bank.now at.now) sample.now }
 {

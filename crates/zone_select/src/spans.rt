@@ -1,4 +1,4 @@
-//! Which points of its sample a voice plays.
+//! The points of its sample that a voice plays.
 ghost use Rattle.std.specs.Prelude.{◌≡◌, ◌≤◌, ◌<◌, ◌^◌, ◌≤ℤ◌, ◌&&◌, pos, negsuc, false, cond, length, int_le, int_lt, Some, None};
 ghost use Rattle.generators.specs.Ranges.{is_range_operator};
 ghost use Rattle.sound_tables.specs.Floor.{above_zero};
@@ -14,13 +14,13 @@ use generators::operators::{
     STARTLOOP_ADDRS_OFFSET,
 };
 
-/// The points of a step of a coarse offset.
+/// The points of one unit of a coarse offset.
 const COARSE: i64 = 32_768;
 
-/// The mode of a voice that is looped to its end.
+/// The sample mode of a voice that loops to its end.
 const LOOPED: u8 = 1;
 
-/// The mode of a voice that is looped until the note's end.
+/// The sample mode of a voice that loops until the note ends.
 pub(crate) const UNTIL_RELEASE: u8 = 3;
 
 // The first point that is played, and the one after the last.
@@ -30,7 +30,7 @@ pub(crate) struct Span {
     pub(crate) end: u32,
 }
 
-// An offset in points: the fine one, and the coarse one in its steps.
+// An offset in points: the fine one plus the coarse one.
 fn offset(bank: &Bank<'_>, at: &PairAt, fine: u16, coarse: u16) -> i64
     requires fine { is_range_operator fine ≡ false }
     requires coarse { is_range_operator coarse ≡ false }
@@ -40,7 +40,7 @@ fn offset(bank: &Bank<'_>, at: &PairAt, fine: u16, coarse: u16) -> i64
     i64::from(amount(bank, at, fine)) + COARSE * i64::from(amount(bank, at, coarse))
 }
 
-// A number, cut to these ends.
+// A number, clamped to a range.
 fn cut(number: i64, low: u32, high: u32) -> u32
     ensures value { result ≡ cut low high number }
     ensures most { result ≤ high }
@@ -48,7 +48,7 @@ fn cut(number: i64, low: u32, high: u32) -> u32
     number.max(i64::from(low)).min(i64::from(high)) as u32
 }
 
-// The points of a sample that the zones take.
+// The range of points that the zones play of a sample.
 pub(crate) fn span_of(bank: &Bank<'_>, at: &PairAt, sample: &Sample<'_>) -> Span
     requires { length sample.now.points < 2 ^ 32 }
     ensures start { result.start ≡ start_of (instrument_zone_at bank.now at.now) (preset_zone_at bank.now at.now) sample.now }
@@ -62,7 +62,7 @@ pub(crate) fn span_of(bank: &Bank<'_>, at: &PairAt, sample: &Sample<'_>) -> Span
     Span { start, end }
 }
 
-// The low two bits of the mode that the zones ask for.
+// The low two bits of the zones' sample mode.
 #[tactic(auto, using(crate::proofs::LinearLaws::euclid_is_mod))]
 pub(crate) fn mode(bank: &Bank<'_>, at: &PairAt) -> u8
     ensures value { result ≡ mode_of (instrument_zone_at bank.now at.now) (preset_zone_at bank.now at.now) }
@@ -71,15 +71,15 @@ pub(crate) fn mode(bank: &Bank<'_>, at: &PairAt) -> u8
     amount(bank, at, SAMPLE_MODES).rem_euclid(4) as u8
 }
 
-// Whether the zones ask for a loop.
+// Whether the zones' sample mode has a loop.
 fn asks_for_loop(bank: &Bank<'_>, at: &PairAt) -> bool
     ensures { result ≡ asks_for_loop (instrument_zone_at bank.now at.now) (preset_zone_at bank.now at.now) }
 {
     matches!(mode(bank, at), LOOPED | UNTIL_RELEASE)
 }
 
-// The loop's first point and the one after its last, where the voice is looped: the zones ask for it,
-// the sample has a loop, and it lies in what is played.
+// The loop's first point and the one after its last, if the sample mode has a loop, the sample has one, and it lies
+// within the points that are played.
 pub(crate) fn loop_within(
     bank: &Bank<'_>,
     at: &PairAt,
@@ -104,7 +104,7 @@ pub(crate) fn loop_within(
     ends_within(i64::from(first) + later, i64::from(after) + longer, span)
 }
 
-// Both ends of a loop, if they are in order and lie in what is played.
+// Both ends of a loop, if they are in order and lie within the points that are played.
 fn ends_within(first: i64, after: i64, span: &Span) -> Option<(u32, u32)>
     ensures { result ≡ cond (int_le (pos span.now.start) first && int_lt first after && int_le after (pos span.now.end)) (Some (above_zero first, above_zero after)) None }
 {

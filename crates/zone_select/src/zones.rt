@@ -1,4 +1,4 @@
-//! Which zones of an owner hold a note.
+//! The zones of an owner that contain a note.
 ghost use Rattle.std.specs.Prelude.{◌≡◌, ◌<◌, ◌≤◌, ◌∷◌, ◌+◌, [], MatchOption, IfSome};
 ghost use Rattle.note_list.specs.Notes.{Numbers};
 ghost use Rattle.zone_select.specs.Left.{zones_in, owner_holds, owner_held};
@@ -7,7 +7,7 @@ use bank_core::{Bank, Owner};
 use note_list::Note;
 use zone_ranges::Axis;
 
-/// How many zones a preset or an instrument has; none where there is no such one.
+/// Returns how many zones a preset or an instrument has; 0 if it doesn't exist.
 pub fn zones_in(bank: &Bank<'_>, owner: Owner) -> u32
     ensures count { result ≡ zones_in bank.now owner }
     ensures few { result ≤ 65535 }
@@ -19,7 +19,7 @@ pub fn zones_in(bank: &Bank<'_>, owner: Owner) -> u32
     }
 }
 
-// Whether a zone that is there holds the note.
+// Whether a zone, which exists, contains the note.
 pub(crate) fn holds(bank: &Bank<'_>, note: &Note, owner: Owner, zone: u32) -> bool
     requires { zone < zones_in bank.now owner }
     ensures { result ≡ owner_holds bank.now note.now owner zone }
@@ -30,7 +30,7 @@ pub(crate) fn holds(bank: &Bank<'_>, note: &Note, owner: Owner, zone: u32) -> bo
             .contains(note.velocity())
 }
 
-// The first zone of an owner, from this number on, that holds the note.
+// The first zone of an owner, from a number on, that contains the note.
 #[tactic(auto, using(crate::proofs::ZoneLaws::held_end, crate::proofs::ZoneLaws::held_hit, crate::proofs::ZoneLaws::held_miss))]
 pub(crate) fn next_held(bank: &Bank<'_>, note: &Note, owner: Owner, from: u32) -> Option<u32>
     ensures first { MatchOption result (owner_held bank.now note.now owner from ≡ []) (λ k. owner_held bank.now note.now owner from ≡ k ∷ owner_held bank.now note.now owner (k + 1)) }

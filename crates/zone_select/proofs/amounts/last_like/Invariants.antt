@@ -3,7 +3,7 @@ use Rattle.zone_select.specs.Amounts.{last_like}
 use Rattle.zone_select.specs.At.{mods_at}
 use Rattle.zone_select.proofs.amounts.last_like.Given as goal
 
--- the last of those so far
+-- the last such modulator so far
 abbrev pub invariant-loop-modulator : goal.invariant-loop-modulator
 invariant-loop-modulator l = record {
   last : l.found ≡ last_like l.like (take l.index (mods_at l.bank l.owner l.place));

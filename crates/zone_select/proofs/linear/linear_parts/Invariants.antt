@@ -4,7 +4,7 @@ use Rattle.zone_select.specs.Amounts.{linear_part, linear_sources}
 use Rattle.zone_select.specs.At.{instrument_zone_at, preset_zone_at}
 use Rattle.zone_select.proofs.linear.linear_parts.Given as goal
 
--- what the sources so far add
+-- the contributions of the sources so far
 abbrev pub invariant-loop-source : goal.invariant-loop-source
 invariant-loop-source l = record {
   added : l.sum

@@ -3,7 +3,7 @@ use Rattle.std.specs.Option.{option_map_or}
 use Rattle.zone_select.specs.Left.{pairs_left}
 use Rattle.zone_select.proofs.pairs.next_pair.Given as goal
 
--- no pair before this place was left
+-- no pair before this position remained
 abbrev pub invariant-loop-next : goal.invariant-loop-next
 invariant-loop-next l = record {
   left : pairs_left l.bank l.note l.preset l.next l.instrument_zone

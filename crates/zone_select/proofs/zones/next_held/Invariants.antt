@@ -2,7 +2,7 @@ use Rattle.std.proofs.Common.{◌≡◌, ◌≤◌, ◌-◌}
 use Rattle.zone_select.specs.Left.{owner_held}
 use Rattle.zone_select.proofs.zones.next_held.Given as goal
 
--- no zone before this one holds the note
+-- no zone before this one contains the note
 abbrev pub invariant-loop-zone : goal.invariant-loop-zone
 invariant-loop-zone l =
     record {
