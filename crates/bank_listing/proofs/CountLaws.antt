@@ -1,4 +1,4 @@
--- Numbers that are counted in one pass.
+-- Counting numbers in one pass.
 use Rattle.std.proofs.Common.{◌≡◌, ◌≤◌, ◌<◌, ℕ, List, length, take, get_or, refl, ap, ◌∙◌, arith}
 use Rattle.std.specs.Prelude.{◌==◌, not}
 use Rattle.std.proofs.lemmas.List.{length-take-le, take_all}
@@ -11,7 +11,7 @@ abbrev pub Counts : ℕ → List ℕ → ℕ → List ℕ → Type 0
 Counts members numbers i counts =
     (length counts ≡ members) × ((n : ℕ) → n < members → get_or counts n 0 ≡ times n (take i numbers))
 
--- no number is there more often than there are numbers
+-- no number occurs more often than there are numbers
 few : (n : ℕ) (numbers : List ℕ) → times n numbers ≤ length numbers
 few n numbers =
     let both = length-filter_both (λ m. m == n) (λ m. not (m == n)) (λ m. refl) numbers in omega (arith, both)

@@ -9,7 +9,7 @@ use Rattle.bank_listing.specs.Listing.{listing, bank_line, counts_line, preset_l
 use Rattle.bank_listing.specs.Listing.{lines_from, owner_line}
 use Rattle.bank_listing.specs.Details.{owner_lines, sample_lines, listing_with}
 
--- lines that are the same member by member
+-- lines that are equal member by member
 same_lines : {X : Type 0} (line other : ℕ → X → List ℕ) → ((n : ℕ) (x : X) → line n x ≡ other n x)
     → (n : ℕ) (xs : List X) → lines_from line n xs ≡ lines_from other n xs
 same_lines line other same n [] = refl

@@ -5,7 +5,7 @@ use Rattle.bank_parts.specs.declared.parts.Sample.{Sample}
 use Rattle.bank_parts.specs.Valid.{point_total}
 use Rattle.bank_listing.specs.Listing.{point_count}
 
--- a file has them, and zero points after each sample
+-- the points in a file are these, and the zero points after each sample
 pub file_points : (samples : List Sample) → point_total samples ≡ point_count samples + 46 * length samples
 file_points [] = omega arith
 file_points (s ∷ samples) =

@@ -1,4 +1,4 @@
--- The targets of zones, gathered one by one.
+-- The targets of zones, collected one by one.
 use Rattle.std.proofs.Common.{◌≡◌, ◌≤◌, ◌<◌, ◌+◌, ◌++◌, ℕ, suc, List, [], ◌∷◌, length, map, drop, get_or, slice_get}
 use Rattle.std.proofs.Common.{Some, refl, sym, ap, ◌∙◌, arith, drop-cons, append_assoc}
 use Rattle.std.specs.Prelude.{IfSome}
@@ -14,7 +14,7 @@ abbrev own_targets : List Zone → List ℕ
 own_targets zones = map (λ (z : Zone). z.target) zones
 
 module _ {H : Type 0} (xs : List (WithZones H)) where
-  -- ---- of one member: those of the zones that are ahead are still to be gathered
+  -- ---- of one member: the targets of the remaining zones are still to be collected
 
   abbrev pub Gathers : ℕ → List ℕ → List ℕ → ℕ → Type 0
   Gathers i before found k =
@@ -53,7 +53,7 @@ module _ {H : Type 0} (xs : List (WithZones H)) where
       let none : own_targets (drop k x.zones) ≡ [] = ap own_targets (drop_all k x.zones (omega (arith, size, over))) in
       rw is (sym ((rw is at h) ∙ ap (λ (ts : List ℕ). found ++ ts) none ∙ append-nil found))
 
-  -- ---- of all
+  -- ---- of all members
 
   abbrev pub GathersAll : List ℕ → ℕ → Type 0
   GathersAll found i = targets_in xs ≡ found ++ targets_in (drop i xs)

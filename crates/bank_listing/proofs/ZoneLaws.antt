@@ -1,4 +1,4 @@
--- The lines of zones, put one by one.
+-- The lines of zones, written one by one.
 use Rattle.std.proofs.Common.{◌≡◌, ◌≤◌, ◌<◌, ◌+◌, ◌++◌, ℕ, false, List, [], ◌∷◌, length, drop, slice_get, Option}
 use Rattle.std.proofs.Common.{Some, codes, refl, sym, arith}
 use Rattle.std.specs.Prelude.{◌==◌, IfSome}
@@ -25,7 +25,7 @@ use Rattle.bank_listing.specs.Listing.{lines_from}
 use Rattle.bank_listing.specs.Details.{zone_line, global_line}
 use Rattle.bank_listing.proofs.ListLaws.{lines_at, lines_over}
 
--- a line whose pieces are put in two parts
+-- a line whose pieces are written in two parts
 pub puts_line_parts : {W : Type 0} {c : W → Option (List ℕ)} {o p q r s : Output W} (w : List ℕ)
     (front back : List Piece)
     → Puts c o p w → Puts c p q (flat_map spaced front) → Puts c q r (flat_map spaced back) → Puts c r s (10 ∷ [])
@@ -55,7 +55,7 @@ module _ {H : Type 0} (member : List ℕ) (xs : List (WithZones H)) (i : ℕ) wh
       (puts_line_parts (codes "zone") (Word member ∷ Number i ∷ Word (codes "global") ∷ [])
       (pieces_of (global_operands (Some (items_of x.global.gens x.global.mods)))) h k content end)
 
-  -- the lines of the zones that are ahead are still to be put
+  -- the lines of the remaining zones are still to be written
   abbrev pub PuttingZones : {W : Type 0} → (W → Option (List ℕ)) → Output W → Output W → ℕ → Type 0
   PuttingZones c o p k =
       IfSome (slice_get xs i)

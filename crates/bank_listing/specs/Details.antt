@@ -1,4 +1,4 @@
--- What a listing tells in more detail: behind the line of a member how often it is named, and its zones.
+-- The details of a listing: after a member's line, how often it is used, and its zones.
 use Rattle.std.specs.Prelude.{ℕ, Bool, List, [], ◌∷◌, ◌++◌, slice_index, codes, Option, Some, None, if◌then◌else◌}
 use Rattle.std.specs.Option.{option_map}
 use Rattle.bank_parts.specs.declared.parts.Zone.{Zone}
@@ -16,15 +16,15 @@ use Rattle.bank_listing.specs.Listing.{bank_line, counts_line, preset_line, inst
 use Rattle.bank_listing.specs.Listing.{owner_line}
 use Rattle.bank_listing.specs.Uses.{Named, named_in}
 
--- ---- how often a member is named
+-- ---- how often a member is used
 
--- how many zones name member n of a list, by the counts of all members; nothing where there are none
+-- how many zones target member n of a list, by the counts of all members; nothing without counts
 abbrev pub uses_line : List ℕ → ℕ → Option (List ℕ) → List ℕ
 uses_line member n None = []
 uses_line member n (Some counts) =
     line_text (codes "uses") (Word member ∷ Number n ∷ Word (codes "zones") ∷ Number (slice_index counts n) ∷ [])
 
--- and how many other samples are linked with sample n
+-- the same for sample n, with how many other samples link to it
 abbrev pub sample_uses_line : ℕ → Option Named → List ℕ
 sample_uses_line n None = []
 sample_uses_line n (Some named) = line_text (codes "uses") (
@@ -33,25 +33,25 @@ sample_uses_line n (Some named) = line_text (codes "uses") (
     ∷ Word (codes "links") ∷ Number (slice_index named.links n)
     ∷ [])
 
--- ---- zones, as scripts spell them
+-- ---- zones, in the form of scripts
 
 -- zone k of member n of a list
 abbrev pub zone_line : List ℕ → ℕ → ℕ → Zone → List ℕ
 zone_line member n k z =
     line_text (codes "zone") (Word member ∷ Number n ∷ Number k ∷ pieces_of (zone_operands (written_zone z)))
 
--- the global zone, and nothing where it is empty
+-- the global zone; nothing if it is empty
 abbrev pub global_line : List ℕ → ℕ → Option (List Item) → List ℕ
 global_line member n None = []
 global_line member n (Some items) =
     line_text (codes "zone")
     (Word member ∷ Number n ∷ Word (codes "global") ∷ pieces_of (global_operands (Some items)))
 
--- all zones of a member
+-- all zones of a member, the global zone first
 abbrev pub zone_lines : {H : Type 0} → List ℕ → ℕ → WithZones H → List ℕ
 zone_lines member n x = global_line member n (global_of x.global) ++ lines_from (zone_line member n) 0 x.zones
 
--- ---- a member with what is told behind its line
+-- ---- a member with its details
 
 abbrev pub owner_lines : {H : Type 0} → (ℕ → H → ℕ → List ℕ) → List ℕ → Option (List ℕ) → Bool → ℕ → WithZones H
     → List ℕ
@@ -63,7 +63,7 @@ sample_lines uses n s = sample_line n s ++ sample_uses_line n uses
 
 -- ---- all lines
 
--- presets are named by no zone
+-- all lines; no zone targets a preset
 unfoldable pub listing_with : Bool → Option Named → Parts → Counts → List ℕ
 listing_with zones uses b counts =
     bank_line b

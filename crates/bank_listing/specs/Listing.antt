@@ -1,4 +1,4 @@
--- What is told of a bank: a line of its own, one of the counts of reading it, and one of each member.
+-- The listing of a bank: a line for the bank, one for the counts of reading, and one for each member.
 use Rattle.std.specs.Prelude.{ℕ, suc, List, [], ◌∷◌, ◌++◌, length, sum_by, codes}
 use Rattle.bank_parts.specs.declared.parts.Head.{Head}
 use Rattle.bank_parts.specs.declared.parts.WithZones.{WithZones}
@@ -12,7 +12,7 @@ use Rattle.script_grammar.specs.Samples.{head_operands}
 
 -- ---- the bank
 
--- the points of all samples, without the zero points that a file has behind them
+-- the points of all samples, without the zero points that a file has after each
 abbrev pub point_count : List Sample → ℕ
 point_count samples = sum_by (λ (s : Sample). length s.points) samples
 
@@ -36,27 +36,27 @@ counts_line counts = line_text (codes "counts") (
     ∷ Word (codes "links") ∷ Number counts.links
     ∷ [])
 
--- ---- its members, by their numbers
+-- ---- the members, with their numbers
 
--- what a preset has besides its zones, and how many they are
+-- a preset's name and numbers, and how many zones it has
 unfoldable pub preset_line : ℕ → Head → ℕ → List ℕ
 preset_line n p zones =
     line_text (codes "preset") (Number n ∷ Name p.name ∷ Number p.number ∷ Number p.bank ∷ Number zones ∷ [])
 
--- an instrument by its name, and how many zones it has
+-- an instrument's name, and how many zones it has
 unfoldable pub instrument_line : ℕ → List ℕ → ℕ → List ℕ
 instrument_line n name zones = line_text (codes "inst") (Number n ∷ Name name ∷ Number zones ∷ [])
 
--- all that a sample has but its points is told as in the edit script
+-- a sample without its points, as in an edit script, and how many points it has
 unfoldable pub sample_line : ℕ → Sample → List ℕ
 sample_line n s = line_text (codes "sample") (Number n ∷ (pieces_of (head_operands s) ++ Number (length s.points) ∷ []))
 
--- a line for each, whose numbers begin at n
+-- a line for each member, numbered from n
 abbrev pub lines_from : {X : Type 0} → (ℕ → X → List ℕ) → ℕ → List X → List ℕ
 lines_from line n [] = []
 lines_from line n (x ∷ xs) = line n x ++ lines_from line (suc n) xs
 
--- the global zone is not counted
+-- the line of an owner; its global zone isn't counted
 abbrev pub owner_line : {H : Type 0} → (ℕ → H → ℕ → List ℕ) → ℕ → WithZones H → List ℕ
 owner_line line n x = line n x.head (length x.zones)
 

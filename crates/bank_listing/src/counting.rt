@@ -1,4 +1,4 @@
-//! How often numbers are counted, and which numbers a bank's zones and samples name.
+//! Counting numbers, and the numbers that a bank's zones and samples refer to.
 ghost use Rattle.std.specs.Prelude.{◌≡◌, ◌<◌, ◌++◌, length, map, slice_get, IfSome, IfOk, OnOk};
 ghost use Rattle.bank_parts.specs.declared.parts.Zone.{Zone};
 ghost use Rattle.bank_listing.specs.Uses.{tally, targets_in, other_link, links_in};
@@ -8,7 +8,7 @@ use bank_parts::OwnerHead;
 use sf_base::OutOfMemory;
 use std::alloc::Global;
 
-/// How often each number below `members` is among these numbers, in one pass over them.
+/// Counts how often each number below `members` occurs in a list, in one pass.
 pub(crate) fn tally(alloc: Global, members: usize, numbers: &[u16]) -> Result<Vec<u64>, OutOfMemory>
     ensures { IfOk result (λ counts. counts.items ≡ tally members numbers.now) }
 {
@@ -22,7 +22,7 @@ pub(crate) fn tally(alloc: Global, members: usize, numbers: &[u16]) -> Result<Ve
     Ok(counts)
 }
 
-/// The targets of all zones of presets, or of instruments.
+/// Returns the targets of all zones of presets or of instruments.
 pub(crate) fn targets<H: OwnerHead>(
     alloc: Global,
     owners: &Owners<H>,
@@ -36,7 +36,7 @@ pub(crate) fn targets<H: OwnerHead>(
     Ok(found)
 }
 
-// The targets of the zones of number `i`, which is there, come behind the others.
+// Appends the targets of the zones of owner `i`, which exists.
 fn push_targets<H: OwnerHead>(
     owners: &Owners<H>,
     i: usize,
@@ -51,7 +51,7 @@ fn push_targets<H: OwnerHead>(
     Ok(())
 }
 
-/// The samples that other samples are linked with.
+/// Returns the samples that other samples link to.
 pub(crate) fn links(alloc: Global, samples: &[Sample<'_>]) -> Result<Vec<u16>, OutOfMemory>
     ensures { IfOk result (λ found. found.items ≡ links_in samples.now) }
 {
@@ -63,7 +63,7 @@ pub(crate) fn links(alloc: Global, samples: &[Sample<'_>]) -> Result<Vec<u16>, O
     Ok(found)
 }
 
-// The sample that sample `number` is linked with, where that is another one.
+// The sample that sample `number` links to, unless it is itself.
 fn other_link(number: usize, kind: Kind) -> Option<u16>
     ensures { result ≡ other_link number kind }
 {

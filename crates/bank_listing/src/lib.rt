@@ -1,4 +1,4 @@
-//! A bank as lines of text: what `show` tells of it.
+//! A bank as lines of text, the listing of `show`.
 #![tactic(auto)]
 
 mod counting;

@@ -1,4 +1,4 @@
-//! The lines of a bank.
+//! The lines of a listing.
 ghost use Rattle.std.specs.Prelude.{◌≡◌, ◌<◌, length, slice_get, Option, IfSome, OnOk, OnErr};
 ghost use Rattle.std.specs.Option.{option_copied};
 ghost use Rattle.outputs.specs.Output.{Puts};
@@ -18,30 +18,27 @@ use sf_base::OutOfMemory;
 use std::alloc::Global;
 use std::io::Write;
 
-/// What a listing tells besides a line for each preset, each instrument and each sample.
+/// What a listing contains besides a line for each preset, instrument and sample.
 #[derive(Clone, Copy, Debug, PartialEq, Eq)]
 pub struct Details {
-    /// A line for the global zone of each preset and each instrument, where it is not empty, and one for
-    /// each other zone.
+    /// A line for each zone, and for each global zone that isn't empty.
     pub zones: bool,
-    /// A line for each instrument and each sample: how many zones name it, and how many other samples
-    /// are linked with a sample.
+    /// A line for each instrument and sample: how many zones target it, and how many other samples link to a sample.
     pub uses: bool,
 }
 
-/// Puts a line for the bank, one for the counts of what was dropped or mended as it was read, and one
-/// for each preset, each instrument and each sample. Names stand as the literals of the edit script.
-/// Takes no memory.
+/// Writes a line for the bank, one for the counts of what the reader dropped or repaired, and one for each preset,
+/// instrument and sample. Names are written as literals of edit scripts. It allocates nothing.
 pub fn put_listing<W: Write>(bank: &Bank<'_>, counts: &Counts, output: &mut Output<'_, W>)
     ensures { Puts W.contents output.old output.new (listing bank.now counts.now) }
 {
     put_lines(bank, counts, false, None, output);
 }
 
-/// Puts what `put_listing` puts, and behind the line of each member what is told of it besides: how often
-/// it is named, and then its zones, as scripts spell them.
+/// Writes the listing of `put_listing` and, after each member's line, its details: how often it is used, and then its
+/// zones, in the form of scripts.
 ///
-/// Where memory is wanted, to count uses, and there is none, nothing is put.
+/// Counting uses allocates; if that fails, nothing is written.
 pub fn put_details<W: Write>(
     alloc: Global,
     bank: &Bank<'_>,
@@ -57,7 +54,7 @@ pub fn put_details<W: Write>(
     Ok(())
 }
 
-// The lines of a bank, with those of zones and of uses, if these are to be told.
+// Writes the lines of a bank, with those of zones and of uses if requested.
 fn put_lines<W: Write>(
     bank: &Bank<'_>,
     counts: &Counts,
@@ -74,7 +71,7 @@ fn put_lines<W: Write>(
     put_samples(bank.samples(), uses, output);
 }
 
-// The line of the bank.
+// Writes the line of the bank.
 #[tactic(auto, unfolding(crate::specs::Listing::bank_line))]
 fn put_bank<W: Write>(bank: &Bank<'_>, output: &mut Output<'_, W>)
     ensures { Puts W.contents output.old output.new (bank_line bank.now) }
@@ -93,7 +90,7 @@ fn put_bank<W: Write>(bank: &Bank<'_>, output: &mut Output<'_, W>)
     put_line(b"bank", &pieces, output);
 }
 
-// The line of the counts.
+// Writes the line of the counts.
 #[tactic(auto, unfolding(crate::specs::Listing::counts_line))]
 fn put_counts<W: Write>(counts: &Counts, output: &mut Output<'_, W>)
     ensures { Puts W.contents output.old output.new (counts_line counts.now) }
@@ -117,7 +114,7 @@ fn put_counts<W: Write>(counts: &Counts, output: &mut Output<'_, W>)
     put_line(b"counts", &pieces, output);
 }
 
-// The lines of presets, or of instruments.
+// Writes the lines of presets or of instruments.
 #[tactic(auto, using(outputs::proofs::OutputLaws::putting_start))]
 fn put_owners<H: ListedHead, W: Write>(
     owners: &Owners<H>,
@@ -132,7 +129,7 @@ fn put_owners<H: ListedHead, W: Write>(
     }
 }
 
-// The lines of number `i`, which is there.
+// Writes the lines of owner `i`, which exists.
 fn put_owner<H: ListedHead, W: Write>(
     owners: &Owners<H>,
     i: usize,
@@ -149,7 +146,7 @@ fn put_owner<H: ListedHead, W: Write>(
     put_zones(owners, i, zones, output);
 }
 
-// The lines of each sample.
+// Writes the lines of all samples.
 #[tactic(auto, using(outputs::proofs::OutputLaws::putting_start))]
 fn put_samples<W: Write>(samples: &[Sample<'_>], uses: Option<&Uses>, output: &mut Output<'_, W>)
     ensures { Puts W.contents output.old output.new (lines_from (sample_lines (option_copied uses.entry)) 0 samples.now) }
@@ -159,7 +156,7 @@ fn put_samples<W: Write>(samples: &[Sample<'_>], uses: Option<&Uses>, output: &m
     }
 }
 
-// The lines of a sample.
+// Writes the lines of a sample.
 #[tactic(auto, using(outputs::proofs::OutputLaws::puts_then))]
 fn put_told_sample<W: Write>(
     number: usize,

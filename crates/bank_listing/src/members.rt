@@ -1,4 +1,4 @@
-//! The line of a preset, an instrument or a sample.
+//! The lines of presets, instruments and samples.
 ghost use Rattle.std.specs.Prelude.{◌≡◌, ℕ, List};
 ghost use Rattle.outputs.specs.Output.{Puts};
 ghost use Rattle.bank_listing.specs.Listing.{preset_line, instrument_line, sample_line};
@@ -12,21 +12,21 @@ use script_grammar::put_sample_head;
 use sf_base::Name20;
 use std::io::Write;
 
-/// What a preset or an instrument has besides its zones.
+/// What a preset or an instrument has besides its zones, and its line.
 pub(crate) trait ListedHead: OwnerHead {
     ghost use Rattle.std.specs.Prelude.{ℕ, List};
 
-    /// The word for it in scripts.
+    /// Its word in scripts.
     ghost word: { List ℕ };
 
-    /// Its line, by its number and the number of its zones.
+    /// Its line, from its number and the number of its zones.
     ghost line: { ℕ → Self → ℕ → List ℕ };
 
-    /// The word for it in scripts.
+    /// Its word in scripts.
     fn word() -> &'static [u8]
         ensures { result.now ≡ word };
 
-    /// Puts its line.
+    /// Writes its line.
     fn put<W: Write>(&self, number: u64, zones: u64, output: &mut Output<'_, W>)
         ensures { Puts W.contents output.old output.new (line number self.now zones) };
 }
@@ -73,7 +73,7 @@ impl ListedHead for Name20 {
     }
 }
 
-// The line of a sample.
+// Writes the line of a sample.
 pub(crate) fn put_sample<W: Write>(number: u64, sample: &Sample<'_>, output: &mut Output<'_, W>)
     ensures { Puts W.contents output.old output.new (sample_line number sample.now) }
 {

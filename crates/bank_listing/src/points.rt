@@ -5,7 +5,7 @@ ghost use Rattle.bank_listing.specs.Listing.{point_count};
 use bank_core::Bank;
 use sf_base::limits::ZERO_POINTS;
 
-// How many points all samples have: those of a file, without the zero points after each sample.
+// The number of points of all samples, without the zero points that a file has after each sample.
 #[tactic(auto, using(crate::proofs::PointLaws::file_points), unfolding(bank_validity::specs::Limits::totals_of))]
 pub(crate) fn point_count(bank: &Bank<'_>) -> u64
     ensures { result ≡ point_count bank.now.samples }

@@ -1,4 +1,4 @@
-//! How often the instruments and the samples of a bank are named, counted once and told line by line.
+//! How often the instruments and the samples of a bank are used.
 ghost use Rattle.std.specs.Prelude.{◌≡◌, slice_index, Some, None, IfOk, if◌then◌else◌};
 ghost use Rattle.std.specs.Option.{option_copied, option_map};
 ghost use Rattle.outputs.specs.Output.{Puts};
@@ -15,14 +15,14 @@ use std::alloc::Global;
 use std::io::Write;
 use std::marker::Model;
 
-/// How often each instrument is named by zones, each sample by zones, and each sample by other samples.
+/// How many zones target each instrument and each sample, and how many other samples link to each sample.
 pub(crate) struct Uses {
     instruments: Vec<u64>,
     samples: Vec<u64>,
     links: Vec<u64>,
 }
 
-// Not derived: a derived drop is written out, and proved, wherever a value is dropped; this one is a call.
+// Not derived: a derived drop is inlined, and proved, wherever a value is dropped; this one is a call.
 impl Drop for Uses {
     fn drop(self) {
         let Uses {
@@ -42,7 +42,7 @@ impl Model for Uses {
 }
 
 impl Uses {
-    /// Those in a bank, in one pass over all its zones and one over its samples.
+    /// Counts the uses in a bank, in one pass over its zones and one over its samples.
     pub(crate) fn of(alloc: Global, bank: &Bank<'_>) -> Result<Uses, OutOfMemory>
         ensures { IfOk result (λ uses. uses ≡ named_in bank.now) }
     {
@@ -57,7 +57,7 @@ impl Uses {
     }
 }
 
-/// Those in a bank, if they are to be told.
+/// Counts the uses in a bank, if they are requested.
 pub(crate) fn told_uses(
     alloc: Global,
     bank: &Bank<'_>,
@@ -93,7 +93,7 @@ fn linked_samples(alloc: Global, bank: &Bank<'_>) -> Result<Vec<u64>, OutOfMemor
     tally(alloc, bank.samples().len(), found.as_slice())
 }
 
-/// Of uses those of instruments, if they are to be told.
+/// Returns the uses of instruments, if uses were requested.
 pub(crate) fn of_instruments(uses: Option<&Uses>) -> Option<&[u64]>
     ensures { option_copied result ≡ option_map (λ (u : Named). u.instruments) (option_copied uses.entry) }
 {
@@ -103,7 +103,7 @@ pub(crate) fn of_instruments(uses: Option<&Uses>) -> Option<&[u64]>
     }
 }
 
-/// The line that tells how often a member of a list is named by zones, if that is to be told.
+/// Writes the line with the uses of a member of a list, if uses were requested.
 #[tactic(auto, using(outputs::proofs::OutputLaws::puts_nothing))]
 pub(crate) fn put_uses<W: Write>(
     word: &[u8],
@@ -124,7 +124,7 @@ pub(crate) fn put_uses<W: Write>(
     }
 }
 
-/// The line that tells how often a sample is named by zones and by other samples, if that is to be told.
+/// Writes the line with the uses of a sample by zones and by other samples, if uses were requested.
 #[tactic(auto, using(outputs::proofs::OutputLaws::puts_nothing))]
 pub(crate) fn put_sample_uses<W: Write>(
     number: usize,
@@ -146,7 +146,7 @@ pub(crate) fn put_sample_uses<W: Write>(
     }
 }
 
-// The count of a number; 0 where it has none.
+// The count of a number; 0 if it has none.
 fn times(counts: &[u64], number: usize) -> u64
     ensures { result ≡ slice_index counts.now number }
 {

@@ -15,7 +15,7 @@ use line_tokens::put_pieces;
 use outputs::Output;
 use std::io::Write;
 
-// The lines of the zones of number `i`, which is there, if they are to be told.
+// Writes the lines of the zones of owner `i`, which exists, if they are requested.
 pub(crate) fn put_zones<H: ListedHead, W: Write>(
     owners: &Owners<H>,
     i: usize,
@@ -31,7 +31,7 @@ pub(crate) fn put_zones<H: ListedHead, W: Write>(
     }
 }
 
-// The line of the global zone, and nothing where it is empty.
+// Writes the line of the global zone, unless it is empty.
 fn put_global<H: ListedHead, W: Write>(owners: &Owners<H>, i: usize, output: &mut Output<'_, W>)
     requires { i < length owners.now }
     ensures { IfSome (slice_get owners.now i) (λ x. Puts W.contents output.old output.new (global_line H.word i (global_of x.global))) }
@@ -50,7 +50,7 @@ fn put_global<H: ListedHead, W: Write>(owners: &Owners<H>, i: usize, output: &mu
     }
 }
 
-// A line for each zone besides the global one.
+// Writes a line for each zone, without the global one.
 fn put_own_zones<H: ListedHead, W: Write>(owners: &Owners<H>, i: usize, output: &mut Output<'_, W>)
     requires { i < length owners.now }
     ensures { IfSome (slice_get owners.now i) (λ x. Puts W.contents output.old output.new (lines_from (zone_line H.word i) 0 x.zones)) }
@@ -60,7 +60,7 @@ fn put_own_zones<H: ListedHead, W: Write>(owners: &Owners<H>, i: usize, output: 
     }
 }
 
-// The line of zone `k` of number `i`, both of which are there.
+// Writes the line of zone `k` of owner `i`; both exist.
 fn put_zone<H: ListedHead, W: Write>(
     owners: &Owners<H>,
     i: usize,

@@ -36,7 +36,7 @@ impl MixBuffers {
     }
 }
 
-// Adds the next frames of all voices: those of centered voices to `middle`, which both sides share, and the others to
+// Adds the next frames of all voices: those of centred voices to `middle`, which both sides share, and the others to
 // `sides`. Each voice advances by as many frames.
 pub(crate) fn add_voices(
     voices: &mut [Playing],

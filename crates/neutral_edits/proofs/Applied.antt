@@ -1,4 +1,4 @@
--- What was done of a neutral edit.
+-- The result of applying a neutral edit.
 use Rattle.std.proofs.Common.{◌≡◌, true, List, Result, Ok, Err, sym, subst}
 use Rattle.std.specs.Prelude.{MatchResult, OnOk, IfOk}
 use Rattle.bank_parts.specs.declared.parts.Parts.{Parts}

@@ -1,4 +1,4 @@
--- Neutral edits in a row are not heard.
+-- Neutral edits in sequence change no frame.
 use Rattle.std.proofs.Common.{◌≡◌, true, List, [], ◌∷◌, sym}
 use Rattle.bank_parts.specs.declared.parts.Parts.{Parts}
 use Rattle.bank_parts.specs.Sound.{IsSound}

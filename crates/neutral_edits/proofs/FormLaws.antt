@@ -1,5 +1,5 @@
--- Neutral edits, form by form: that the edit is not refused gives what the law of its form asks. R is any relation of
--- two banks that holds where they have the same pairs, and where their zones give the same for each note.
+-- Neutral edits, form by form: an accepted edit meets the conditions of its form's law. R is any relation of banks that
+-- holds if they have the same pairs, or if their zones have the same voices for each note.
 use Rattle.std.proofs.Common.{◌≡◌, ℕ, true, false, None, Some, Option, List, refl}
 use Rattle.std.specs.List.{list_any}
 use Rattle.std.specs.Option.{option_map}
@@ -47,7 +47,7 @@ use Rattle.zone_select.proofs.NeutralLaws.{instrument_renamed_alike, zone_moved_
 use Rattle.zone_select.proofs.NeutralLaws.{zone_joined_alike, info_set_alike}
 use Rattle.neutral_edits.specs.Neutral.{is_neutral}
 
--- ---- what is taken out has no zone that targets it
+-- ---- no zone targets what is removed
 
 untargeted_sample : (b : Parts) (i : ℕ) → sample_in_use b i ≡ false → list_any (targets i) b.instruments ≡ false
 unfolding sample_in_use

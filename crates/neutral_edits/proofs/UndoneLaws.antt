@@ -1,4 +1,4 @@
--- What takes a neutral edit back is neutral.
+-- The inverse of a neutral edit is neutral.
 use Rattle.std.proofs.Common.{◌≡◌, ℕ, true, Bool, Option, Some, None, slice_get, refl}
 use Rattle.std.specs.Option.{option_map_or}
 use Rattle.bank_parts.specs.declared.parts.Parts.{Parts}
@@ -19,7 +19,7 @@ use Rattle.edit_forms.specs.Steps.{is_neutral_step, inverse}
 use Rattle.bank_edits.specs.EditChanges as edits
 use Rattle.neutral_edits.specs.Neutral.{is_neutral}
 
--- whichever it is
+-- in either case
 either : {X S : Type 0} (neutral : S → Bool) (o : Option X) (f : X → S) (d : S) → ((x : X) → neutral (f x) ≡ true)
     → neutral d ≡ true → neutral (option_map_or f o d) ≡ true
 either neutral None f d h k = k

@@ -1,10 +1,10 @@
--- Which edits are neutral: those of one step that is.
+-- Which edits are neutral.
 use Rattle.std.specs.Prelude.{Bool, false}
 use Rattle.edit_forms.specs.declared.edit.Edit.{Edit}
 use Rattle.edit_forms.specs.declared.edit.Edit.TheVariants.{One, Group}
 use Rattle.edit_forms.specs.Steps.{is_neutral_step}
 
--- no group is, whatever its steps are
+-- one step of a neutral form; never a group
 abbrev pub is_neutral : Edit → Bool
 is_neutral (One step) = is_neutral_step step
 is_neutral (Group steps) = false

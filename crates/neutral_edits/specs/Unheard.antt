@@ -11,20 +11,20 @@ use Rattle.zone_select.specs.Alike.{AreAlike, HavePairsAlike}
 use Rattle.mixer.specs.Render.{render}
 use Rattle.neutral_edits.specs.Neutral.{is_neutral}
 
--- the changed bank gives each note the same voices
+-- each note has the same voices in the changed bank
 abbrev pub NeutralAlike : Type 0
 NeutralAlike = (b : Parts) (e : Edit) → IsSound b → IsTaken b e → is_neutral e ≡ true → AreAlike b (raw b e)
 
--- the pairs that a note selects in it correspond to those of the bank before, one to one, each with the same voice
+-- its pairs of zones correspond one to one to those before, each with the same voice
 abbrev pub NeutralPairs : Type 0
 NeutralPairs = (b : Parts) (e : Edit) → IsSound b → IsTaken b e → is_neutral e ≡ true → HavePairsAlike b (raw b e)
 
--- it renders all notes the same
+-- all notes render identically
 abbrev pub NeutralRender : Type 0
 NeutralRender =
     (b : Parts) (e : Edit) → IsSound b → IsTaken b e → is_neutral e ≡ true
     → (ns : List Numbers) → render (raw b e) ns ≡ render b ns
 
--- what takes a neutral edit back is neutral
+-- the inverse of a neutral edit is neutral
 abbrev pub InversesAreNeutral : Type 0
 InversesAreNeutral = (b : Parts) (e : Edit) → is_neutral e ≡ true → is_neutral (inverse b e) ≡ true

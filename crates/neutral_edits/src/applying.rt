@@ -1,4 +1,4 @@
-//! One neutral edit, done or refused.
+//! Applying one neutral edit.
 ghost use Rattle.std.specs.Prelude.{◌≡◌, true, None, List, MatchResult, IsOk, IfOk, OnOk};
 ghost use Rattle.bank_parts.specs.Sound.{IsSound};
 ghost use Rattle.note_list.specs.Notes.{Numbers};
@@ -15,10 +15,11 @@ use edit_forms::Edit;
 use edit_refusals::Refusal;
 use std::alloc::Global;
 
-/// Does a neutral edit, as `apply` does: it returns the edit that takes it back, or refuses it, hands it
-/// back, and changes nothing. All notes sound the same in the bank that it leaves: each has the same
-/// voices, in some order, and its pairs of zones correspond to those before one to one, each with the same
-/// voice. What takes the edit back is neutral too.
+/// Applies a neutral edit like `apply`: returns its inverse, or refuses it, returns it with the refusal and changes
+/// nothing.
+///
+/// All notes render identically after the edit: each has the same voices, in some order, and its pairs of zones
+/// correspond one to one to those before, each with the same voice. The inverse is neutral too.
 pub fn apply_neutral<'a>(
     alloc: Global,
     bank: &mut Bank<'a>,

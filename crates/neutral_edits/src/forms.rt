@@ -4,7 +4,7 @@ ghost use Rattle.neutral_edits.specs.Neutral as table;
 
 use edit_forms::Edit;
 
-/// Whether an edit is one step of a form that changes no sound. No group is, whatever its steps are.
+/// Whether an edit is one step of a form that changes no sound. A group never is, whatever its steps.
 pub fn is_neutral(edit: &Edit<'_>) -> bool
     ensures { result ≡ table.is_neutral edit.now }
 {

@@ -1,4 +1,4 @@
-//! Edits that change no sound: which they are, and the call and the laws that say so.
+//! Edits that change no sound: which edits these are, applying one, and their laws.
 #![tactic(auto)]
 
 mod applying;

@@ -186,7 +186,7 @@ heard_added v t i left right z was sum a e f g =
     by_side true = ap (side (heard_at v t)) f ∙ heard_side v true t
     by_side false = ap (side (heard_at v t)) g ∙ heard_side v false t
 
--- both sides of a centered voice get half of each frame
+-- both sides of a centred voice get half of each frame
 pub central_side : (v : Voice) (left : Bool) (t : ℕ) → v.parameters.pan ≡ pos 0 → side (heard_at v t) 500 ≡ snd v left t
 central_side v left t e =
     ap (side (heard_at v t)) (by_side left ∙ sym (ap (λ p. above_zero (cond left (pos 500 -ℤ p) (pos 500 +ℤ p))) e))

@@ -13,7 +13,7 @@ pub record IsAdded (was sound sum : ℤ) : Type 0 where
   pub low : negsuc 32767 ≤ℤ sound
   pub high : sound ≤ℤ pos 32767
 
--- `sound` was added to the sum of a side and the sum that both sides share, taken together
+-- `sound` was added to the sum of a side and the sum that both sides share, together
 pub record IsShared (was_side was_middle sound side middle : ℤ) : Type 0 where
   pub added : side +ℤ middle ≡ was_side +ℤ was_middle +ℤ sound
   pub side_room : (j : ℕ) → IsWithin j was_side → IsWithin (j + 1) side

@@ -43,7 +43,7 @@ pub(crate) fn add_run<'a>(
     }
 }
 
-// Adds the frames from `age` on: those of a centered voice to `middle`, which both sides share.
+// Adds the frames from `age` on: those of a centred voice to `middle`, which both sides share.
 pub(crate) fn add_run_apart<'a>(
     points: &Points<'a>,
     v: &VoiceParameters,
@@ -71,7 +71,7 @@ pub(crate) fn add_run_apart<'a>(
     share(points, v, age, run, sums, middle);
 }
 
-// Adds the computed frames from `age` on: half of each frame of a centered voice to `middle`, which both sides share.
+// Adds the computed frames from `age` on: half of each frame of a centred voice to `middle`, which both sides share.
 fn share(
     points: &Points,
     v: &VoiceParameters,

@@ -65,10 +65,10 @@ pub(crate) fn panned(z: i32, part: u32) -> i32
     share_of(z, part)
 }
 
-// The share of each side of a centered voice, in 1000ths.
+// The share of each side of a centred voice, in 1000ths.
 pub(crate) const HALF: u32 = 500;
 
-// Each side's share of a frame of a centered voice.
+// Each side's share of a frame of a centred voice.
 #[inline(always)]
 #[tactic(auto, using(crate::proofs::SideLaws::side_within, crate::proofs::SideLaws::half_side))]
 pub(crate) fn halved(z: i32) -> i32

@@ -118,7 +118,7 @@ impl<'a> Voice<'a> {
         self.age += sums.len() as u64 / 2;
     }
 
-    /// Adds the next frames like `add_frames`, but those of a centered voice to `middle`, which both sides share.
+    /// Adds the next frames like `add_frames`, but those of a centred voice to `middle`, which both sides share.
     ///
     /// A side's total is its own sum plus the shared one.
     pub fn add_frames_apart(&mut self, work: &mut Workspace, sums: &mut [i32], middle: &mut [i32])

@@ -1,4 +1,4 @@
--- What a test keeps of the members that numbers in a row give, where it keeps none but those of one number.
+-- Filtering the lists of consecutive numbers, if all members that pass are those of one number.
 use Rattle.std.proofs.Common.{◌≡◌, ◌≢◌, ◌≤◌, ◌<◌, inl, inr, ℕ, zero, suc, ◌+◌, ◌&&◌, ◌||◌, Bool, true, false, cond}
 use Rattle.std.proofs.Common.{List, [], ◌∷◌, ◌++◌, length, Option, Some, None, refl, sym, ap, ◌∙◌, arith}
 use Rattle.std.specs.List.{flat_map, filter, filter_map, cons_option, list_any, range_with_len}
@@ -23,7 +23,7 @@ module _ {X : Type 0} (test : X → Bool) (g : ℕ → List X) (k : ℕ) (others
     abbrev row : ℕ → ℕ → List X
     row a n = filter test (flat_map g (range_with_len a n))
 
-    -- one more number before them
+    -- with one more number before them
     next : (a n : ℕ) → row a (suc n) ≡ filter test (g a) ++ row (a + 1) n
     next a n = filter-append test (g a) (flat_map g (range_with_len (a + 1) n))
 
@@ -51,14 +51,14 @@ module _ {X : Type 0} (test : X → Bool) (g : ℕ → List X) (k : ℕ) (others
       | inr (inr gt) ↦ absurd (omega (arith, gt, low))
     ]
 
-    -- those of the one number, also where it is not in the row, if it gives none then
+    -- those of the one number; also if it is out of range, when it has none
     pub kept : (n : ℕ) → (n ≤ k → filter test (g k) ≡ []) → row 0 n ≡ filter test (g k)
     kept n past = elim (cases_lt k n) [
       | inl lt ↦ found 0 n (omega arith) (omega (arith, lt))
       | inr ge ↦ below 0 n (omega (arith, ge)) ∙ sym (past ge)
     ]
 
--- of a list none of whose members passes
+-- a list none of whose members passes
 pub none_kept : {X : Type 0} (test : X → Bool) (h : ℕ → Option X) → ((j : ℕ) → filter test (as_list (h j)) ≡ [])
     → (ks : List ℕ) → filter test (flat_map (λ j. as_list (h j)) ks) ≡ []
 none_kept test h none [] = refl
@@ -66,7 +66,7 @@ none_kept test h none (j ∷ ks) =
     filter-append test (as_list (h j)) (flat_map (λ j. as_list (h j)) ks)
     ∙ ap (λ xs. xs ++ filter test (flat_map (λ j. as_list (h j)) ks)) (none j) ∙ none_kept test h none ks
 
--- two tests at once, or one after the other
+-- two tests together, or one after the other
 pub any_kept : {X : Type 0} (test also : X → Bool) (xs : List X)
     → list_any (λ x. test x && also x) xs ≡ list_any also (filter test xs)
 any_kept test also [] = refl

@@ -1,10 +1,10 @@
--- Texts of numbers in a row.
+-- The texts of consecutive numbers.
 use Rattle.std.proofs.Common.{◌≡◌, ◌≤◌, ◌<◌, ℕ, suc, ◌+◌, ◌-◌, List, [], ◌++◌, Option, Some, None, refl, sym, ap, arith}
 use Rattle.std.specs.List.{flat_map, filter_map, cons_option, range_with_len}
 use Rattle.std.proofs.lemmas.List.{append-nil}
 use Rattle.std.proofs.lemmas.List.Concat.{flat_map-append}
 
--- those from k on, below n
+-- those from k to below n
 abbrev pub from : ℕ → ℕ → List ℕ
 from k n = range_with_len k (n - k)
 

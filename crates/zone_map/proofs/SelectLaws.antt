@@ -1,4 +1,4 @@
--- Notes select zones exactly where their rectangles are.
+-- Notes select zones exactly where they have rectangles.
 use Rattle.std.proofs.Common.{◌≡◌, ◌≢◌, ◌≤◌, ℕ, ◌&&◌, ◌||◌, nat_le, min, max, Bool, true, false, true≢false, cond}
 use Rattle.std.proofs.Common.{List, [], length, Option, Some, None, slice_get, unwrap_or, refl, sym, ap, ◌∙◌, arith}
 use Rattle.std.specs.Prelude.{is_some}
@@ -31,7 +31,7 @@ use Rattle.zone_map.proofs.Kept.{as_list, options_flat, kept, none_kept, any_kep
 
 -- ---- ranges
 
--- a number lies in what two ranges have in common where it lies in both
+-- a number is in the intersection of two ranges exactly if it is in both
 in_common : (a b c d x : ℕ)
     → (nat_le (max a c) x && nat_le x (min b d)) ≡ ((nat_le a x && nat_le x b) && (nat_le c x && nat_le x d))
 in_common a b c d x = grind (arith, nat_tests)
@@ -41,7 +41,7 @@ in_order a b x h = grind (arith, nat_tests)
 
 -- ---- tests
 
--- where both parts hold, so do their conditions
+-- a conjunction may include the conditions of its parts
 conditions : (s t p q : Bool) → (p ≡ true → s ≡ true) → (q ≡ true → t ≡ true) → ((s && t) && (p && q)) ≡ (p && q)
 conditions true true p q h k = refl
 conditions false t false q h k = refl
@@ -65,7 +65,7 @@ either_way xs false = refl
 abbrev in_area : Numbers → Area → Bool
 in_area n area = is_in area.keys n.key && is_in area.velocities n.velocity
 
--- the area of two covers a note where both do
+-- the intersection of two areas covers a note exactly if both do
 cut_covers : (n : Numbers) (x y : Area) → (has_notes (cut x y) && in_area n (cut x y)) ≡ (in_area n x && in_area n y)
 cut_covers n x y =
     conditions (nat_le (cut x y).keys.low (cut x y).keys.high)
@@ -79,7 +79,7 @@ cut_covers n x y =
     (in_common x.velocities.low x.velocities.high y.velocities.low y.velocities.high n.velocity)
     ∙ crossed (is_in x.keys n.key) (is_in x.velocities n.velocity) (is_in y.keys n.key) (is_in y.velocities n.velocity)
 
--- a rectangle that is there if it has notes
+-- a rectangle that exists if it contains a note
 if_notes : (n : Numbers) (r : Rectangle) (t : Bool)
     → list_any (covers n) (as_list (cond t (Some r) None)) ≡ (t && in_area n r.area)
 if_notes n r true = elim (in_area n r.area) as (λ c. (c || false) ≡ c) [ true ↦ refl | false ↦ refl ]
@@ -90,7 +90,7 @@ both_false true = refl
 both_false false = refl
 
 module _ (b : Parts) (n : Numbers) (outer : Option ℕ) (area : Area) (i l : ℕ) where
-  -- it covers a note where the area does and its zone holds it
+  -- it covers a note exactly if the area does and its zone contains the note
   pub covered : list_any (covers n) (as_list (rectangle_at b outer area i l))
       ≡ (in_area n area && owner_holds b n (owner.Inst i) l)
   unfolding holds
@@ -121,7 +121,7 @@ module _ (b : Parts) (n : Numbers) (outer : Option ℕ) (area : Area) (i l : ℕ
       from (Some x) e = zone x (slice_get x.zones l) e refl
 
 module _ (b : Parts) (outer : Option ℕ) (area : Area) (i l : ℕ) where
-  -- there is none of a zone that is not there
+  -- a zone that doesn't exist has none
   pub not_there : zones_in b (owner.Inst i) ≤ l → rectangle_at b outer area i l ≡ None
   not_there = from (slice_get b.instruments i) refl
     where
@@ -131,7 +131,7 @@ module _ (b : Parts) (outer : Option ℕ) (area : Area) (i l : ℕ) where
       from None e h = rw e refl
       from (Some x) e h = let f = slice_get_past x.zones l h in rw (e, f) refl
 
-  -- what a test that looks at the zones' numbers alone keeps of it
+  -- filtering it by a test of the zones' numbers
   module _ (test : Rectangle → Bool) (t : Bool)
       (same : (s root : ℕ) (a : Area)
       → test
@@ -157,7 +157,7 @@ module _ (b : Parts) (outer : Option ℕ) (area : Area) (i l : ℕ) where
                 (same s (root_key b i l s) (cut area (area_of b (owner.Inst i) l)))
           ]
 
--- ---- of an instrument, seen from a preset's zone or from none
+-- ---- an instrument, alone or through a preset's zone
 
 module _ (b : Parts) (outer : Option ℕ) (area : Area) (i l : ℕ) (test : Rectangle → Bool)
     (own : (s root : ℕ) (a : Area)
@@ -169,7 +169,7 @@ module _ (b : Parts) (outer : Option ℕ) (area : Area) (i l : ℕ) (test : Rect
     record { preset_zone = outer; zone = m; sample = s; area = a; root = root } in r)
     ≡ false)
   where
-    -- those of one zone
+    -- the rectangles of one zone
     pub of_zone : filter test (rectangles_in b outer area i) ≡ as_list (rectangle_at b outer area i l)
     of_zone =
         ap (filter test) (options_flat (rectangle_at b outer area i) (zone_numbers b (owner.Inst i)))
@@ -179,7 +179,7 @@ module _ (b : Parts) (outer : Option ℕ) (area : Area) (i l : ℕ) (test : Rect
         (λ past. ap (λ o. filter test (as_list o)) (not_there b outer area i l past))
         ∙ kept_at b outer area i l test true own
 
--- none where the preset's zone is another one
+-- none if the preset's zone is another one
 pub of_other : (b : Parts) (outer : Option ℕ) (area : Area) (i : ℕ) (test : Rectangle → Bool)
     →
     ((m s root : ℕ) (a : Area)
@@ -191,7 +191,7 @@ of_other b outer area i test none =
     ∙ none_kept test (rectangle_at b outer area i)
     (λ m. kept_at b outer area i m test false (λ s root a. none m s root a)) (zone_numbers b (owner.Inst i))
 
--- ---- laws of instruments
+-- ---- the laws for instruments
 
 zone_kept : (b : Parts) (i l : ℕ)
     → filter (is_of_zone l) (rectangles b (owner.Inst i)) ≡ as_list (rectangle_at b None everything i l)
@@ -214,7 +214,7 @@ zones_hold b n i l h k =
     ∙ covered b n None everything i l
     ∙ ap (λ t. t && owner_holds b n (owner.Inst i) l) (all_in n h k))
 
--- ---- laws of presets
+-- ---- the laws for presets
 
 -- the rectangle of a pair
 abbrev pair_list : Parts → ℕ → ℕ → ℕ → List Rectangle
@@ -270,7 +270,7 @@ module _ (b : Parts) (p k l : ℕ) where
       (past_zones past))
       ∙ of_pair
 
-  -- at most one
+  -- a pair has at most one
   few : length (pair_list b p k l) ≤ 1
   few =
       elim (target_of b (owner.Preset p) k) as
@@ -311,7 +311,7 @@ module _ (b : Parts) (n : Numbers) where
       → is_some (instrument_zone_chosen n u l i) ≡ holds_at n i.global i.zones l
   inner_is u l i = mapped _ (zone_held n i.global i.zones l) ∙ held_is i.global i.zones l
 
-  -- the zone of the instrument is chosen where it is there and holds the note
+  -- the zone of the instrument is selected exactly if it exists and contains the note
   zone_is : (global : GlobalZone) (l : ℕ) (z : Zone)
       → is_some (zone_chosen b n global l z) ≡ owner_holds b n (owner.Inst z.target) l
   zone_is global l z =
@@ -324,7 +324,7 @@ module _ (b : Parts) (n : Numbers) where
       ]
 
   module _ (p k l : ℕ) where
-    -- a pair of a preset is chosen where its rectangle covers the note
+    -- a pair of a preset is selected exactly if its rectangle covers the note
     preset_is : (x : WithZones Head) → slice_get b.presets p ≡ Some x
         → list_any (covers n) (pair_list b p k l) ≡ is_some (preset_chosen b n (k, l) x)
     unfolding holds

@@ -4,8 +4,8 @@ use Rattle.std.specs.List.{flat_map}
 use Rattle.zone_map.specs.declared.marks.Mark.{Mark}
 use Rattle.zone_map.specs.declared.marks.Mark.TheVariants.{Text, Number, Name}
 
--- a byte of a name in an XML text: `&`, `<` and `>` by their names; what is no printable ASCII is shown as the
--- replacement character
+-- a byte of a name as XML text: `&`, `<` and `>` as entities, and bytes other than printable ASCII as the replacement
+-- character
 unfoldable pub shown : ℕ → List ℕ
 shown b =
     if b == 38 then codes "&amp;"

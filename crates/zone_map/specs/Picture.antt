@@ -1,5 +1,5 @@
--- A picture of rectangles: an SVG text. Keys go along, 10 units each, and velocities up, 4 units each; key 0 and
--- velocity 127 begin at 60 units from the left and from the top.
+-- A picture of rectangles, as SVG. Keys run from left to right, 10 units each, and velocities from bottom to top, 4
+-- units each; key 0 and velocity 127 begin 60 units from the left and from the top.
 use Rattle.std.specs.Prelude.{ℕ, ◌+◌, ◌-◌, ◌*◌, ◌/◌, ◌%◌, ◌&&◌, nat_le, List, [], ◌∷◌, ◌++◌, Option, Some, None}
 use Rattle.std.specs.Prelude.{codes, unwrap_or, slice_get, if◌then◌else◌}
 use Rattle.std.specs.List.{concat, flat_map}
@@ -17,9 +17,9 @@ use Rattle.zone_map.specs.declared.rectangle.Rectangle.{Rectangle}
 use Rattle.zone_map.specs.Marks.{marks_text}
 use Rattle.zone_map.specs.Rectangles.{rectangles}
 
--- ---- what all pictures have
+-- ---- the parts of all pictures
 
--- colours that colour-blind readers tell apart, on white or on black, and the beginning of the owner's line
+-- colours that colour-blind readers can distinguish on white and on black, and the start of the owner's line
 unfoldable pub head : List ℕ
 head = concat (
     codes "<svg xmlns='http://www.w3.org/2000/svg' viewBox='0 0 1400 640' font-family='sans-serif' font-size='11'>\n"
@@ -40,7 +40,7 @@ head = concat (
     ∷ codes "<text class='owner' x='60' y='36'>"
     ∷ [])
 
--- lines at octaves and velocities with their numbers, and a keyboard, on which key 60 is C4
+-- grid lines at octaves and velocities with their numbers, and a keyboard, on which key 60 is C4
 unfoldable pub frame : List ℕ
 frame = concat (
     codes "<path class='lines' d='M60 60H1340M60 188H1340M60 316H1340M60 444H1340M60 572H1340'/>\n"
@@ -66,18 +66,18 @@ frame = concat (
 abbrev pub owner_line : List ℕ → ℕ → List ℕ → List Mark
 owner_line level n name = Text level ∷ Number n ∷ Text (codes ": ") ∷ Name name ∷ Text (codes "</text>\n") ∷ []
 
--- its number and its name
+-- the owner's number and name
 abbrev pub owner_marks : Parts → Owner → List Mark
 owner_marks b (owner.Preset p) = owner_line (codes "preset ") p (option_map_or (λ (h : Head). h.name) (head_of b p) [])
 owner_marks b (owner.Inst i) = owner_line (codes "instrument ") i (unwrap_or (instrument_name_of b i) [])
 
 -- ---- a rectangle
 
--- how many numbers a range has
+-- the number of values in a range
 abbrev pub count : Range → ℕ
 count r = r.high + 1 - r.low
 
--- its place and size
+-- the position and size of a rectangle
 abbrev pub left : Rectangle → ℕ
 left r = 60 + 10 * r.area.keys.low
 
@@ -90,7 +90,7 @@ width r = 10 * count r.area.keys
 abbrev pub height : Rectangle → ℕ
 height r = 4 * count r.area.velocities
 
--- the number of one of seven colours, by its sample
+-- the index of one of seven colours, from its sample
 abbrev pub colour : Rectangle → ℕ
 colour r = r.sample % 7
 
@@ -98,14 +98,14 @@ colour r = r.sample % 7
 abbrev pub name_of : Parts → Rectangle → List ℕ
 name_of b r = option_map_or (λ (s : Sample). s.name) (slice_get b.samples r.sample) []
 
--- what is told where the pointer rests on it
+-- the start of a rectangle: its colour, and its tooltip with the sample's name and number
 unfoldable pub title_marks : List ℕ → Rectangle → List Mark
 title_marks name r =
     Text (codes "<g class='c") ∷ Number (colour r) ∷ Text (codes "'><title>") ∷ Name name
     ∷ Text (codes "\nsample ") ∷ Number r.sample
     ∷ []
 
--- the zone of the preset, where there is one
+-- the zone of the preset, if there is one
 abbrev pub preset_zone_marks : Option ℕ → List Mark
 preset_zone_marks None = []
 preset_zone_marks (Some k) = Text (codes "\npreset zone ") ∷ Number k ∷ []
@@ -125,8 +125,8 @@ box_marks r =
     ∷ Text (codes "'><rect width='100%' height='100%'/>")
     ∷ []
 
--- how far down its name stands: on one of four lines, so that names can be read where zones lie on one another, as
--- those of the left and of the right side do
+-- the vertical position of the name, on one of four lines, so that the names of overlapping zones, such as those of a
+-- left and a right sample, can be read
 abbrev pub name_line : Rectangle → ℕ
 name_line r = height r * (1 + (2 * (r.zone % 2) + (unwrap_or r.preset_zone 0 % 2 + (r.zone / 2) % 2) % 2)) / 5
 
@@ -142,14 +142,14 @@ upward_marks name r =
     ∷ Name name ∷ Text (codes "</text>")
     ∷ []
 
--- its name along it if it is wide, else up if it is high, else nowhere
+-- its name: horizontal if it is wide enough, else vertical if it is high enough, else none
 unfoldable pub name_marks : List ℕ → Rectangle → List Mark
 name_marks name r =
     if nat_le 120 (width r) && nat_le 24 (height r) then along_marks name r
     else if nat_le 160 (height r) then upward_marks name r
     else []
 
--- a point on the root key, in the rectangle's colour
+-- a dot on the root key, in the rectangle's colour
 unfoldable pub root_marks : Rectangle → List Mark
 root_marks r =
     Text (codes "</svg><circle cx='") ∷ Number (65 + 10 * r.root) ∷ Text (codes "' cy='") ∷ Number (577 + 5 * colour r)

@@ -1,4 +1,4 @@
--- The rectangles are exactly where notes select zones, and no zone has two.
+-- Notes select zones exactly where they have rectangles, and no zone has two.
 use Rattle.std.specs.Prelude.{◌≡◌, ◌≤◌, ◌↔◌, ℕ, Bool, true, false, ◌==◌, ◌&&◌, nat_le, length, slice_get}
 use Rattle.std.specs.List.{Contains, find, filter, list_any}
 use Rattle.std.specs.Option.{option_map_or}
@@ -15,19 +15,20 @@ use Rattle.zone_map.specs.Rectangles.{rectangles}
 abbrev pub is_in : Range → ℕ → Bool
 is_in range x = nat_le range.low x && nat_le x range.high
 
--- a rectangle has the key and the velocity of a note in it
+-- a rectangle contains the key and the velocity of a note
 abbrev pub covers : Numbers → Rectangle → Bool
 covers n r = is_in r.area.keys n.key && is_in r.area.velocities n.velocity
 
--- it is of zone l of an instrument
+-- a rectangle of zone l of an instrument
 abbrev pub is_of_zone : ℕ → Rectangle → Bool
 is_of_zone l r = r.zone == l
 
--- it is of zone k of a preset with zone l of its instrument
+-- a rectangle of zone k of a preset with zone l of its instrument
 abbrev pub is_of_pair : ℕ → ℕ → Rectangle → Bool
 is_of_pair k l r = option_map_or (λ j. j == k) r.preset_zone false && is_of_zone l r
 
--- of the first preset with a note's numbers: a pair is selected exactly where a rectangle of the pair covers the note
+-- for the first preset with a note's bank and preset number: a pair is selected exactly if a rectangle of the pair
+-- covers the note
 abbrev pub PairsSelected : Type 0
 PairsSelected = (b : Parts) (n : Numbers) (p k l : ℕ) → find (is_called n) b.presets ≡ slice_get b.presets p
     → Contains (pairs b n) (k, l) ↔
@@ -37,7 +38,7 @@ PairsSelected = (b : Parts) (n : Numbers) (p k l : ℕ) → find (is_called n) b
 abbrev pub PairsOnce : Type 0
 PairsOnce = (b : Parts) (p k l : ℕ) → length (filter (is_of_pair k l) (rectangles b (owner.Preset p))) ≤ 1
 
--- of an instrument: a zone holds a note exactly where a rectangle of the zone covers it
+-- for an instrument: a zone contains a note exactly if a rectangle of the zone covers it
 abbrev pub ZonesHold : Type 0
 ZonesHold = (b : Parts) (n : Numbers) (i l : ℕ) → n.key ≤ 127 → n.velocity ≤ 127
     → owner_holds b n (owner.Inst i) l

@@ -1,4 +1,4 @@
-//! The keys and velocities in which notes select the zones of a preset or an instrument, as a picture.
+//! A picture of the keys and velocities for which notes select the zones of a preset or an instrument.
 #![tactic(auto)]
 
 mod laws;

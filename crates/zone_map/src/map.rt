@@ -16,8 +16,7 @@ use outputs::Output;
 use std::io::Write;
 use zone_select::zones_in;
 
-/// What all pictures begin with: their size, and colours that colour-blind readers tell apart, on white or on
-/// black.
+/// The start of all pictures: their size, and colours that colour-blind readers can distinguish on white and on black.
 const HEAD: &[u8] =
     b"<svg xmlns='http://www.w3.org/2000/svg' viewBox='0 0 1400 640' font-family='sans-serif' font-size='11'>
 <style>
@@ -36,7 +35,7 @@ g:hover rect{fill-opacity:.7}
 </style>
 <text class='owner' x='60' y='36'>";
 
-/// Lines at octaves and velocities with their numbers, and a keyboard, on which key 60 is C4.
+/// Grid lines at octaves and velocities with their numbers, and a keyboard, on which key 60 is C4.
 const FRAME: &[u8] =
     b"<path class='lines' d='M60 60H1340M60 188H1340M60 316H1340M60 444H1340M60 572H1340'/>
 <path class='lines' d='M60 60V572M180 60V572M300 60V572M420 60V572M540 60V572M660 60V572'/>
@@ -55,13 +54,14 @@ const FRAME: &[u8] =
 <text x='1142' y='628'>C8</text><text x='1262' y='628'>C9</text>
 ";
 
-/// Puts a picture of the keys and velocities in which notes select the zones of a preset or an
-/// instrument, as an SVG text: keys along, over a keyboard on which key 60 is C4, and velocities up. Of
-/// an instrument there is a rectangle for each zone: its own ranges, else its global zone's, else 0 to
-/// 127. Of a preset there is one for each zone with each zone of its instrument, where their ranges
-/// meet. Its colour goes by the number of its sample; a point in that colour marks its root key; and
-/// where the pointer rests on it, all its numbers are told. Where there is no such owner, the picture
-/// is empty. Takes no memory.
+/// Writes an SVG picture of the keys and velocities for which notes select the zones of a preset or an instrument.
+///
+/// Keys run from left to right, over a keyboard on which key 60 is C4, and velocities from bottom to top. An instrument
+/// has a rectangle for each zone: its own ranges, else its global zone's, else 0 to 127. A preset has one for each of
+/// its zones with each zone of its instrument: the intersection of their ranges. A rectangle's colour depends on the
+/// number of its sample; a dot in that colour marks the root key; the tooltip has all numbers.
+///
+/// If the owner doesn't exist, the picture is empty. It allocates nothing.
 pub fn put_map<W: Write>(bank: &Bank<'_>, owner: Owner, output: &mut Output<'_, W>)
     ensures { Puts W.contents output.old output.new (picture bank.now owner) }
 {
@@ -72,21 +72,21 @@ pub fn put_map<W: Write>(bank: &Bank<'_>, owner: Owner, output: &mut Output<'_, 
     output.put(b"</svg>\n");
 }
 
-// What all pictures begin with.
+// Writes the start of all pictures.
 fn put_head<W: Write>(output: &mut Output<'_, W>)
     ensures { Puts W.contents output.old output.new head }
 {
     output.put(HEAD);
 }
 
-// The lines at octaves and velocities, and the keyboard.
+// Writes the grid lines and the keyboard.
 fn put_frame<W: Write>(output: &mut Output<'_, W>)
     ensures { Puts W.contents output.old output.new frame }
 {
     output.put(FRAME);
 }
 
-// The line of the owner.
+// Writes the title of the picture: the owner.
 fn put_owner<W: Write>(bank: &Bank<'_>, owner: Owner, output: &mut Output<'_, W>)
     ensures { Puts W.contents output.old output.new (marks_text (owner_marks bank.now owner)) }
 {
@@ -147,7 +147,7 @@ fn put_preset_zone<W: Write>(bank: &Bank<'_>, preset: u32, zone: u32, output: &m
     }
 }
 
-// The rectangles of an instrument's zones in an area.
+// Writes the rectangles of an instrument's zones within an area.
 fn put_instrument<W: Write>(
     bank: &Bank<'_>,
     preset_zone: Option<u32>,
@@ -162,7 +162,7 @@ fn put_instrument<W: Write>(
     }
 }
 
-// The rectangle of a zone, if it has one.
+// Writes the rectangle of a zone, if it has one.
 fn put_zone<W: Write>(
     bank: &Bank<'_>,
     preset_zone: Option<u32>,

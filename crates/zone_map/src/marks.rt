@@ -13,11 +13,11 @@ use std::io::Write;
 // A piece of a picture's text.
 #[derive(Drop)]
 pub(crate) enum Mark<'a> {
-    // As it stands.
+    // A text, unchanged.
     Text(Lent<'a>),
-    // In decimal digits.
+    // A number in decimal.
     Number(u32),
-    // Bytes of any value, as XML text.
+    // Any bytes, as XML text.
     Name(Lent<'a>),
 }
 
@@ -42,7 +42,7 @@ pub(crate) fn name(bytes: &[u8]) -> Mark<'_>
     Mark::Name(Lent::new(bytes))
 }
 
-// Puts pieces, one after the other.
+// Writes pieces, one after another.
 pub(crate) fn put_marks<W: Write>(marks: &[Mark<'_>], output: &mut Output<'_, W>)
     ensures { Puts W.contents output.old output.new (marks_text marks.now) }
 {
@@ -73,7 +73,8 @@ fn put_name<W: Write>(name: &[u8], output: &mut Output<'_, W>)
     }
 }
 
-// A byte of a name: what XML has a meaning for by its name, and no control character nor half of another one.
+// Writes a byte of a name as XML text: markup characters as entities, and bytes other than printable ASCII as the
+// replacement character.
 #[tactic(auto, unfolding(crate::specs::Marks::shown))]
 fn put_shown<W: Write>(byte: u8, output: &mut Output<'_, W>)
     ensures { Puts W.contents output.old output.new (shown byte) }

@@ -1,4 +1,4 @@
-//! The keys and velocities in which notes select a zone.
+//! The keys and velocities for which notes select a zone.
 ghost use Rattle.std.specs.Prelude.{◌≡◌, ◌<◌, not};
 ghost use Rattle.bank_changes.specs.declared.members.Owner.TheVariants as owner;
 ghost use Rattle.zone_select.specs.Left.{zones_in};
@@ -12,29 +12,29 @@ use zone_ranges::Axis;
 /// The highest key and the highest velocity.
 const HIGHEST: u8 = 127;
 
-/// The root key of a sample that says none: the middle C.
+/// The root key of a sample that has none: middle C.
 const MIDDLE_KEY: u8 = 60;
 
-// A range of keys, and one of velocities.
+// A range of keys, and a range of velocities.
 #[derive(Debug, Clone, Copy, PartialEq, Eq)]
 pub(crate) struct Area {
     pub(crate) keys: Range,
     pub(crate) velocities: Range,
 }
 
-// Where notes select a zone of an instrument, seen from a zone of a preset or from none.
+// The area in which notes select a zone of an instrument, alone or through a zone of a preset.
 #[derive(Debug, Clone, Copy, PartialEq, Eq)]
 pub(crate) struct Rectangle {
     pub(crate) preset_zone: Option<u32>,
     pub(crate) zone: u32,
     pub(crate) sample: u16,
     pub(crate) area: Area,
-    // The key at which the zone sounds as its sample was recorded.
+    // The root key.
     pub(crate) root: u8,
 }
 
 impl Area {
-    // Every key and velocity.
+    // All keys and velocities.
     pub(crate) fn everything() -> Area
         ensures { result ≡ everything }
     {
@@ -48,7 +48,7 @@ impl Area {
         }
     }
 
-    // What both have; a range ends before it begins where that is nothing.
+    // The intersection of two areas; a range of it ends before it begins if it is empty.
     fn cut(self, other: Area) -> Area
         ensures { result ≡ cut self other }
     {
@@ -58,7 +58,7 @@ impl Area {
         }
     }
 
-    // Whether a note is in it.
+    // Whether the area contains a note.
     fn has_notes(self) -> bool
         ensures { result ≡ has_notes self }
     {
@@ -66,7 +66,7 @@ impl Area {
     }
 }
 
-// What two ranges have in common.
+// The intersection of two ranges.
 fn common(first: Range, second: Range) -> Range
     ensures { result ≡ common first second }
 {
@@ -76,7 +76,7 @@ fn common(first: Range, second: Range) -> Range
     }
 }
 
-// The range that holds for a zone that is there.
+// The range of a zone, which exists: its own, else its global zone's, else the full range.
 fn range_there(bank: &Bank<'_>, owner: Owner, zone: u32, axis: Axis) -> Range
     requires { zone < zones_in bank.now owner }
     ensures { result ≡ range_there bank.now owner zone axis }
@@ -84,7 +84,7 @@ fn range_there(bank: &Bank<'_>, owner: Owner, zone: u32, axis: Axis) -> Range
     bank.zone_range(owner, zone, axis)
 }
 
-// Both ranges of a zone that is there.
+// Both ranges of a zone, which exists.
 pub(crate) fn area_of(bank: &Bank<'_>, owner: Owner, zone: u32) -> Area
     requires { zone < zones_in bank.now owner }
     ensures { result ≡ area_of bank.now owner zone }
@@ -95,7 +95,7 @@ pub(crate) fn area_of(bank: &Bank<'_>, owner: Owner, zone: u32) -> Area
     }
 }
 
-// A number that is a key, else another one.
+// `number` if it is a key, else `other`.
 fn key_or(number: u16, other: u8) -> u8
     ensures { result ≡ key_or number other }
 {
@@ -106,7 +106,7 @@ fn key_or(number: u16, other: u8) -> u8
     }
 }
 
-// The key of a sample, else the middle one.
+// The root key of a sample, else 60.
 fn sample_root(bank: &Bank<'_>, sample: u16) -> u8
     ensures { result ≡ sample_root bank.now sample }
 {
@@ -116,7 +116,7 @@ fn sample_root(bank: &Bank<'_>, sample: u16) -> u8
     }
 }
 
-// The key at which a zone of an instrument sounds as its sample was recorded.
+// The root key of a zone of an instrument: its own, else its global zone's, else the sample's.
 fn root_key(bank: &Bank<'_>, instrument: u32, zone: u32, sample: u16) -> u8
     ensures { result ≡ root_key bank.now instrument zone sample }
 {
@@ -128,7 +128,7 @@ fn root_key(bank: &Bank<'_>, instrument: u32, zone: u32, sample: u16) -> u8
     }
 }
 
-// What a zone of an instrument that is there has of an area, if they meet.
+// The intersection of an area and a zone of an instrument, which exists; `None` if it is empty.
 pub(crate) fn rectangle_at(
     bank: &Bank<'_>,
     preset_zone: Option<u32>,

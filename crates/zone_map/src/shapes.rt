@@ -1,4 +1,5 @@
-//! The text of one rectangle. Keys go along, 10 units each, and velocities up, 4 units each.
+//! The text of one rectangle. Keys run from left to right, 10 units each, and velocities from bottom to top, 4 units
+//! each.
 ghost use Rattle.std.specs.Prelude.{◌≡◌, ◌≤◌, length, slice_get};
 ghost use Rattle.outputs.specs.Output.{Puts};
 ghost use Rattle.generators.specs.declared.range.Range.{Range};
@@ -12,25 +13,25 @@ use generators::Range;
 use outputs::Output;
 use std::io::Write;
 
-/// A key's units along.
+/// The width of a key.
 const KEY: u32 = 10;
 
-/// A velocity's units up.
+/// The height of a velocity.
 const VELOCITY: u32 = 4;
 
-/// The units before key 0, and above velocity 127.
+/// The units left of key 0, and above velocity 127.
 const MARGIN: u32 = 60;
 
-/// The units that a name needs along its line.
+/// The width from which a rectangle has a horizontal name.
 const NAME_LENGTH: u32 = 120;
 
-/// The units that four lines of names need.
+/// The height of four lines of names.
 const NAME_HEIGHT: u32 = 24;
 
-/// The units that a name needs up, where it is turned.
+/// The height from which a rectangle has a vertical name.
 const TURNED_LENGTH: u32 = 160;
 
-// How many numbers a range has.
+// The number of values in a range.
 fn count(range: Range) -> u32
     ensures value { result ≡ count range }
     ensures within { result ≤ 256 }
@@ -64,7 +65,7 @@ impl Rectangle {
         VELOCITY * count(self.area.velocities)
     }
 
-    // The number of one of seven colours.
+    // The index of one of seven colours.
     fn colour(&self) -> u32
         ensures value { result ≡ colour self.now }
         ensures within { result ≤ 6 }
@@ -72,7 +73,7 @@ impl Rectangle {
         u32::from(self.sample) % 7
     }
 
-    // How far down its name stands: on one of four lines.
+    // The vertical position of the name, on one of four lines.
     fn name_line(&self) -> u32
         ensures { result ≡ name_line self.now }
     {
@@ -82,7 +83,7 @@ impl Rectangle {
     }
 }
 
-// The name of its sample.
+// The name of the rectangle's sample.
 fn name_of<'b>(bank: &'b Bank<'_>, rectangle: &Rectangle) -> &'b [u8]
     ensures { result.now ≡ name_of bank.now rectangle.now }
 {
@@ -92,7 +93,7 @@ fn name_of<'b>(bank: &'b Bank<'_>, rectangle: &Rectangle) -> &'b [u8]
     }
 }
 
-// The rectangle, with what is told of it where the pointer rests on it.
+// Writes a rectangle, with its tooltip.
 pub(crate) fn put_rectangle<W: Write>(
     bank: &Bank<'_>,
     rectangle: &Rectangle,
@@ -173,7 +174,7 @@ fn put_box<W: Write>(rectangle: &Rectangle, output: &mut Output<'_, W>)
     put_marks(&marks, output);
 }
 
-// The name of its sample, where there is room.
+// Writes the name of the sample, if there is space.
 #[tactic(auto, unfolding(crate::specs::Picture::name_marks))]
 fn put_name<W: Write>(sample: &[u8], rectangle: &Rectangle, output: &mut Output<'_, W>)
     ensures { Puts W.contents output.old output.new (marks_text (name_marks sample.now rectangle.now)) }
@@ -213,7 +214,7 @@ fn put_name_up<W: Write>(sample: &[u8], rectangle: &Rectangle, output: &mut Outp
     put_marks(&marks, output);
 }
 
-// A point on the keyboard, in the colour of the rectangle.
+// Writes a dot on the keyboard, in the colour of the rectangle.
 #[tactic(auto, unfolding(crate::specs::Picture::root_marks))]
 fn put_root<W: Write>(rectangle: &Rectangle, output: &mut Output<'_, W>)
     ensures { Puts W.contents output.old output.new (marks_text (root_marks rectangle.now)) }

@@ -5,7 +5,7 @@ use Rattle.bank_listing.specs.Listing.{lines_from}
 use Rattle.bank_listing.specs.Details.{owner_lines}
 use Rattle.bank_listing.proofs.listing.put_owners.Given as goal
 
--- the lines of those that are ahead are still to be put
+-- the lines of the remaining owners are still to be written
 abbrev pub invariant-loop-number : goal.invariant-loop-number
 invariant-loop-number g l =
     Putting g.W.Write.contents l.initial.output l.output

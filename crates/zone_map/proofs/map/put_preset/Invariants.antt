@@ -7,7 +7,7 @@ use Rattle.zone_map.specs.Picture.{drawn}
 use Rattle.zone_map.proofs.Rows.{from}
 use Rattle.zone_map.proofs.map.put_preset.Given as goal
 
--- the rectangles of the zones that are ahead are still to be put
+-- the rectangles of the remaining zones are still to be written
 abbrev pub invariant-loop-zone : goal.invariant-loop-zone
 invariant-loop-zone g l =
     Putting g.W.Write.contents l.initial.output l.output

@@ -4,7 +4,7 @@ use Rattle.outputs.proofs.OutputLaws.{Putting}
 use Rattle.zone_map.specs.Marks.{mark_text, marks_text}
 use Rattle.zone_map.proofs.marks.put_marks.Given as goal
 
--- the pieces that are ahead are still to be put
+-- the remaining pieces are still to be written
 abbrev pub invariant-loop-mark : goal.invariant-loop-mark
 invariant-loop-mark g l =
     Putting g.W.Write.contents l.initial.output l.output (marks_text l.marks)

@@ -4,7 +4,7 @@ use Rattle.outputs.proofs.OutputLaws.{Putting}
 use Rattle.zone_map.specs.Marks.{shown}
 use Rattle.zone_map.proofs.marks.put_name.Given as goal
 
--- the bytes that are ahead are still to be put
+-- the remaining bytes are still to be written
 abbrev pub invariant-loop-byte : goal.invariant-loop-byte
 invariant-loop-byte g l =
     Putting g.W.Write.contents l.initial.output l.output (flat_map shown l.name)
