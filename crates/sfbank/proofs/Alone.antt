@@ -1,4 +1,4 @@
--- Runs with one text: the canonical file, the listing, and the sound.
+-- Runs with one text: the canonical file, the listing and the WAVE file.
 use Rattle.std.proofs.Common.{◌≡◌, ℕ, List, [], Option, Some, None, Result, Ok, Err, refl, sym, ap, subst, ◌∙◌}
 use Rattle.std.proofs.KnownBytes.{Keeps-refl}
 use Rattle.sf_base.specs.declared.memory.Failure.{Failure}
@@ -59,7 +59,7 @@ unfolding show_details_outcome
 details_not_read U failure known details file h =
     not_read U failure known (fault_of file) (Ok (detailed_listing details (bank_in file) (counts_in file))) h
 
--- ---- a text that goes out
+-- ---- a text that is written
 
 pub sent_text : {U : Type 0} (old new : Option (List ℕ)) (outcome : Result (List ℕ) RunFault) (text : List ℕ)
     (r : Result U RunFault)

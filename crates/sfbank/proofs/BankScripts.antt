@@ -1,4 +1,4 @@
--- The script that makes the bank of a file.
+-- The script of a file's bank.
 use Rattle.std.proofs.Common.{◌≡◌, ℕ, List, [], ◌∷◌, Option, None, Result, Ok, Err, refl, sym, ap, ◌∙◌}
 use Rattle.sf_base.specs.declared.memory.Failure.{Failure}
 use Rattle.bank_parts.specs.declared.parts.Parts.{Parts}
@@ -100,7 +100,7 @@ remade file bytes text h =
           ∙ led (empty b.minor) (bank_script Kept b) b s,
     )
 
--- a bank is told by its canonical file
+-- banks with the same canonical file are equal
 told_by_canon : (a b : Parts) → IsSound a → IsSound b → canon a ≡ canon b → a ≡ b
 told_by_canon a b s r e =
     let first = ap (λ (c : Content). c.bank) (reads-again a s.valid s.fits).1 in

@@ -1,4 +1,4 @@
--- Scripts that make the bank of one file of the bank of another.
+-- Scripts that turn the bank of one file into the bank of another.
 use Rattle.std.proofs.Common.{◌≡◌, ◌==◌, ℕ, Bool, true, false, List, [], Option, Some, None, Result, Ok, Err, refl}
 use Rattle.std.proofs.Common.{sym, ap, subst, ◌∙◌, ◌≢◌}
 use Rattle.std.proofs.lemmas.Bool.{eq-eqb, eqb-true, ne_eqb}
@@ -107,7 +107,7 @@ both_read a b p h =
       banks = same.1;
     }
 
--- ---- a script that leads from the one to the other
+-- ---- a script that leads from one bank to the other
 
 is_difference : (a b text : List ℕ) → AreBytes a → fault_of a ≡ None → IsScript (bank_in a) text (bank_in b)
     → IsDifference a b text
@@ -128,7 +128,7 @@ is_difference a b text bytes read s =
       returns = restores a text bytes done s.lines leads s.read;
     }
 
--- edits, as they are printed
+-- edits in canonical form
 pub printed_leads : (p : Pair) (es : List Edit) → Leads p.first es p.second → IsScript p.first (texts_of es) p.second
 printed_leads p es h = record {
   lines = numbered 1 es;
@@ -178,7 +178,7 @@ sends_difference old new a b p text (Err (run.Refused number why)) bytes h s g =
 sends_difference old new a b p text (Err (run.NotNeutral number)) bytes h s g = absurd g
 sends_difference old new a b p text (Err (run.Notes fault)) bytes h s g = absurd g
 
--- banks that are one have no edits between them
+-- there are no edits between equal banks
 pub writes_nothing : {U : Type 0} (old new : Option (List ℕ)) (a b : List ℕ) (p : Pair) (es : List Edit)
     (r : Result U RunFault)
     → pair_of a b ≡ Ok p
@@ -189,7 +189,7 @@ writes_nothing old new a b p es (Ok u) h none g = λ e.
     subst (λ (xs : List Edit). Appends old new (texts_of xs)) (none same) g
 writes_nothing old new a b p es (Err fault) h none g = tt
 
--- out of memory, before a byte went out
+-- out of memory, before the first byte
 pub ends_in_memory : {U : Type 0} (known : Option (List ℕ)) (a b : List ℕ) (r : Result U RunFault)
     → IsErrAnd r (λ fault. fault ≡ run.Memory) → RunsDifference known known a b r
 ends_in_memory known a b (Ok u) h = absurd h

@@ -7,7 +7,7 @@ use Rattle.sfbank_program.specs.declared.run_fault.Which.TheVariants.{Out, Undo}
 use Rattle.sfbank.specs.Outcome.{Done}
 use Rattle.sfbank.specs.Written.{Writers, Delivers, Runs, FailsBefore}
 
--- no writer was asked
+-- nothing was written
 pub ends_early : (U : Type 0) (out undo : Option (List ℕ)) (outcome : Result Done RunFault) (fault : RunFault)
     → FailsBefore fault outcome
     → Runs {U = U} (record { out = out; out_new = out; undo = undo; undo_new = undo }) outcome (Err fault)

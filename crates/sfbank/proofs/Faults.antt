@@ -1,4 +1,4 @@
--- Why a run is not done: the faults of its parts.
+-- Why a run fails: the faults of its parts.
 use Rattle.std.proofs.Common.{◌≡◌, ℕ, List, Option, None, Result, Ok, Err, refl, sym, ap, ◌∙◌}
 use Rattle.sf_base.specs.declared.memory.Failure.{Failure}
 use Rattle.sf_base.specs.declared.memory.Failure.TheVariants as failures
@@ -29,7 +29,7 @@ use Rattle.sfbank_program.specs.RunFaults.{in_run}
 
 -- ---- the file's fault
 
--- whatever comes of the bank
+-- whatever the outcome for the bank is
 at_file : {X : Type 0} (failure : Failure ReadFault) (broken : Option ReadFault) (r : Result X RunFault)
     → reading.Fails failure broken → FailsBefore (in_run run.Read failure) (after_reading broken r)
 at_file (failures.Fault fault) broken r h = ap (λ o. after_reading o r) h
@@ -43,7 +43,7 @@ at_read forms file script failure h =
 
 -- ---- a file that reads as a bank
 
--- what comes of its bytes comes of the bank
+-- the outcome for its bytes is the outcome for the bank
 pub at_bank : (forms : Forms) (file script : List ℕ) (b : Parts) (counts : Counts) → ReadsAs file b counts
     → outcome_of forms file script ≡ after_lines forms b (script_of script)
 at_bank forms file script b counts r =
@@ -65,14 +65,14 @@ at_script Every b script (failures.Fault fault) h = ap (after_script b) h
 at_script Neutral b script (failures.Fault fault) h = ap (after_neutral_script b) h
 at_script forms b script failures.OutOfMemory h = tt
 
--- ---- a script that spells lines
+-- ---- a script that parses as lines
 
 of_these : (forms : Forms) (b : Parts) (lines : List Line) → first_other forms lines ≡ None
     → after_lines forms b (Ok lines) ≡ after_script b (Ok lines)
 of_these Every b lines h = refl
 of_these Neutral b lines h = ap (λ (o : Option ℕ). if_neutral o (after_script b (Ok lines))) h
 
--- a script that spells lines of these forms
+-- a script that parses as lines of these forms
 pub at_these : (forms : Forms) (b : Parts) (script : List ℕ) (lines seen : List Line) → script_of script ≡ Ok lines
     → seen ≡ lines → first_other forms seen ≡ None
     → after_lines forms b (script_of script) ≡ after_script b (script_of script)
@@ -80,7 +80,7 @@ at_these forms b script lines seen e s h =
     ap (after_lines forms b) e ∙ of_these forms b lines (ap (first_other forms) (sym s) ∙ h)
     ∙ sym (ap (after_script b) e)
 
--- one whose first line of another form is a fault
+-- a script that parses, but has a line of another form
 pub at_other : (U : Type 0) (forms : Forms) (b : Parts) (script : List ℕ) (lines seen : List Line) (fault : RunFault)
     → script_of script ≡ Ok lines → seen ≡ lines
     → AllOf {U = U} (first_other forms seen) (Err fault) → FailsBefore fault (after_lines forms b (script_of script))
@@ -100,7 +100,7 @@ at_other U forms b script lines seen (run.Recording fault) e s h = absurd h
 at_other U forms b script lines seen (run.NoMember cause) e s h = absurd h
 at_other U forms b script lines seen (run.Write which n) e s h = h
 
--- lines of which one is refused, or that run out of memory
+-- a line is refused, or an allocation fails
 pub stops_at : (b : Parts) (lines : List Line) (fault : RunFault) → StopsAtLine fault (first_refused b lines)
     → FailsBefore fault (after_script b (Ok lines))
 stops_at b lines (run.Refused number why) h =

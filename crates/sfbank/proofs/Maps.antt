@@ -1,4 +1,4 @@
--- The run of a picture.
+-- The run that writes a map.
 use Rattle.std.proofs.Common.{◌≡◌, ℕ, Bool, true, false, List, Option, Result, Ok, Err, refl, ap, ◌∙◌}
 use Rattle.std.proofs.KnownBytes.{Keeps-refl}
 use Rattle.sf_base.specs.declared.memory.Failure.{Failure}
@@ -26,7 +26,7 @@ unfolding map_outcome
 map_not_read U failure known file o h =
     not_read U failure known (fault_of file) (if_there (has_owner (bank_in file) o) o (picture (bank_in file) o)) h
 
--- what a file that is read comes to
+-- the outcome for a readable file
 map_read : (file : List ℕ) (o : Owner) (b : Parts) (counts : Counts) (there : Bool) → ReadsAs file b counts
     → there ≡ has_owner b o → map_outcome file o ≡ if_there there o (picture b o)
 unfolding map_outcome

@@ -37,7 +37,7 @@ use Rattle.sfbank.specs.Planned.{outcome_of}
 use Rattle.sfbank.proofs.Restores.{reading_done, all_taken, all_fit, script_done, restores}
 use Rattle.sfbank.proofs.Sounds.{played_on}
 
--- ---- what a run comes to, by the forms that it takes
+-- ---- the outcome of a run, by the forms that it accepts
 
 pub of_every : (file script : List ℕ) → outcome_of Every file script ≡ outcome file script
 unfolding outcome
@@ -47,7 +47,7 @@ pub of_neutral : (file script : List ℕ) → outcome_of Neutral file script ≡
 unfolding neutral_outcome
 of_neutral file script = refl
 
--- ---- a neutral run that is done
+-- ---- a neutral run that succeeds
 
 record NeutralScript (b : Parts) (said : Result (List Line) ScriptFault) (done : Done) : Type 0 where
   lines : List Line
@@ -76,7 +76,7 @@ neutral_done file script done h =
     let read = reading_done (fault_of file) (after_neutral_script (bank_in file) (script_of script)) done h in
     record { read = read.0; of_script = neutral_script (bank_in file) (script_of script) done read.1 }
 
--- such a run comes to what one that takes every edit does
+-- the run that accepts every edit has the same outcome
 as_every : (file script : List ℕ) (done : Done) → neutral_outcome file script ≡ Ok done → outcome file script ≡ Ok done
 unfolding outcome
 as_every file script done h =
@@ -87,7 +87,7 @@ as_every file script done h =
 pub runs_edits : (file script : List ℕ) → IsRunOfEdits file script
 runs_edits file script done h = as_every file script done h
 
--- and back, where all lines are neutral
+-- and conversely, if all lines are neutral
 as_neutral : (file script : List ℕ) (done : Done) (lines : List Line) → outcome file script ≡ Ok done
     → script_of script ≡ Ok lines → first_not_neutral lines ≡ None → neutral_outcome file script ≡ Ok done
 unfolding outcome neutral_outcome
@@ -153,9 +153,9 @@ neutrally_restores file script bytes done lines h spelled =
     lines_same : (said : Result (List Line) ScriptFault) (x y : List Line) → said ≡ Ok x → said ≡ Ok y → x ≡ y
     lines_same said x y h k = cc
 
--- ---- the sound
+-- ---- rendering
 
--- neutral edits in a row
+-- neutral edits in order
 render_same : (b : Parts) (lines : List Line) → IsSound b → AllTaken b (edits_of lines) → first_not_neutral lines ≡ None
     → (ns : List Numbers) → render (after_all b (edits_of lines)) ns ≡ render b ns
 render_same b [] sound taken neutral ns = refl

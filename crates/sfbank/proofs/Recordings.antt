@@ -1,4 +1,4 @@
--- Runs that write a sample as a WAVE file, and those that import one.
+-- Runs that export a sample as a WAVE file, and runs that import a WAVE file.
 use Rattle.std.proofs.Common.{◌≡◌, ◌≤◌, ◌<◌, ℕ, suc, List, [], ◌∷◌, length, Option, Some, None, Result, Ok, Err}
 use Rattle.std.proofs.Common.{refl, sym, ap, ◌∙◌, arith}
 use Rattle.std.specs.Prelude.{slice_get}
@@ -51,7 +51,7 @@ unfolding wave_outcome
 wave_not_read U failure known file number h =
     not_read U failure known (fault_of file) (wave_of (slice_get (bank_in file).samples number)) h
 
--- what comes of the bytes comes of their bank
+-- the outcome for the bytes is the outcome for their bank
 wave_on : (file : List ℕ) (number : ℕ) (b : Parts) (counts : Counts) → ReadsAs file b counts
     → wave_outcome file number ≡ wave_of (slice_get b.samples number)
 unfolding wave_outcome
@@ -101,7 +101,7 @@ pub no_recording : (file wave name : List ℕ) (b : Parts) (counts : Counts) (fa
 no_recording file wave name b counts fault r h =
     import_on file wave name b counts r ∙ ap (after_recording b name) (sym h)
 
--- the edits of an import of what was read
+-- the edits of importing what was read
 pub import_edited : (file wave name : List ℕ) (b : Parts) (counts : Counts) (r : Recording) (n : ℕ)
     (edits : List Edit)
     → ReadsAs file b counts → Ok r ≡ recording_in wave → n ≡ length b.samples
@@ -137,7 +137,7 @@ scripted file wave name bytes wave_bytes name_bytes r h = by_what (fault_of file
         (ap (after_script (bank_in file))
         (printed_spell (lines_of file name r) (edits_fit file wave name r bytes wave_bytes name_bytes e h)))
 
--- a run that is done has read its file
+-- a run that succeeds has read its file
 done_read : (o : Option ReadFault) (x : Result Done RunFault) (done : Done) → after_reading o x ≡ Ok done → o ≡ None
 done_read None x done h = refl
 done_read (Some f) x done h = absurd cc

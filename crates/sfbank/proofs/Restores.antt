@@ -25,13 +25,13 @@ use Rattle.sfbank_program.specs.declared.run_fault.RunFault.{RunFault}
 use Rattle.sfbank.specs.Outcome.{Done, edits_of, RefusedLine, or_else, first_refused, both_texts, unless_refused}
 use Rattle.sfbank.specs.Outcome.{after_script, after_reading, bank_in, outcome, IsUndone}
 
--- the bytes that a slice holds
+-- the bytes of a slice
 pub are_bytes : (file : List ℕ) → ((i : ℕ) → InType w8 (get_or file i 0)) → AreBytes file
 are_bytes file fits = All-from_get_or (λ b. b < 256) file 0 (λ i l. let byte = fits i in omega (arith, byte))
 
--- ---- what a run that is done says
+-- ---- a run that succeeds
 
--- no line is refused where the first refused is none
+-- if the first refused line is none, no line is refused
 or_none : (n : ℕ) (r : Option Refusal) (later : Option RefusedLine) → or_else n r later ≡ None
     → (r ≡ None) × (later ≡ None)
 or_none n None later e = (refl, e)
@@ -84,7 +84,7 @@ outcome_canon b script s =
     ap (λ (o : Option ReadFault). after_reading o (after_script (bank_in (canon b)) (script_of script))) again.0
     ∙ ap (λ (c : Content). after_script c.bank (script_of script)) again.1
 
--- edits that are taken, on lines of their own
+-- accepted edits, as numbered lines
 pub after_numbered : (b : Parts) (es : List Edit) → AllTaken b es
     → after_script b (Ok (numbered 1 es)) ≡ Ok (both_texts b es)
 after_numbered b es h =
@@ -93,7 +93,7 @@ after_numbered b es h =
 
 -- ---- the law
 
--- the undo texts of edits, run on the written file
+-- the undo text, run on the written file
 run_back : (b : Parts) (es : List Edit) → IsSound b → AllTaken b es
     → outcome (canon (after_all b es)) (texts_of (undo_list b es)) ≡ Ok (record { out = canon b; undo = texts_of es })
 run_back b es s h =

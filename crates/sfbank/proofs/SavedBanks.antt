@@ -1,4 +1,4 @@
--- What a live session saves leads back.
+-- What a live session saves leads back to its first bank.
 use Rattle.std.proofs.Common.{◌≡◌, List, Ok, reverse, ap, ◌∙◌}
 use Rattle.bank_parts.specs.declared.parts.Parts.{Parts}
 use Rattle.bank_parts.specs.Sound.{IsSound}
@@ -14,7 +14,7 @@ use Rattle.sfbank.specs.Outcome.{Done, after_script, bank_in, outcome}
 use Rattle.sfbank.specs.SavedBanks.{SavedBanksLeadBack}
 use Rattle.sfbank.proofs.Restores.{all_fit, after_numbered, outcome_canon}
 
--- edits that a bank takes, as a script, run on the file of the bank
+-- edits that a bank accepts, as a script run on the bank's file
 taken_run : (c : Parts) (es : List Edit) → IsSound c → AllTaken c es
     → outcome (canon c) (texts_of es) ≡ Ok (record { out = canon (after_all c es); undo = texts_of (undo_list c es) })
 taken_run c es s h =

@@ -1,4 +1,4 @@
--- Runs that play notes, and banks that sound the same.
+-- Runs that render notes, and banks that render identically.
 use Rattle.std.proofs.Common.{◌≡◌, ◌≤◌, ◌+◌, ◌*◌, ◌%◌, ℕ, ℤ, List, Option, None, Result, Ok, Err, refl, sym, ap, ◌∙◌}
 use Rattle.std.proofs.Common.{arith}
 use Rattle.std.proofs.KnownBytes.{Keeps-refl}
@@ -41,7 +41,7 @@ unfolding play_outcome
 play_not_read U failure known file notes h =
     not_read U failure known (fault_of file) (after_notes (bank_in file) (notes_of notes)) h
 
--- what comes of the bytes comes of their bank
+-- the outcome for the bytes is the outcome for their bank
 pub played_on : (file notes : List ℕ) (b : Parts) (counts : Counts) → ReadsAs file b counts
     → play_outcome file notes ≡ after_notes b (notes_of notes)
 unfolding play_outcome
@@ -71,7 +71,7 @@ play_runs old new file notes b counts ns sides r reads spelled played h =
     ∙ ap (λ (xs : List ℤ). Ok (wave xs)) (sym played))
     h
 
--- ---- banks that sound the same
+-- ---- banks that render identically
 
 pub played_on_canon : (file notes : List ℕ) → AreBytes file → fault_of file ≡ None
     → play_outcome (canon (bank_in file)) notes ≡ play_outcome file notes

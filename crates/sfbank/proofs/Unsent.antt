@@ -16,7 +16,7 @@ kept None new h = tt
 kept (Some xs) None h = absurd h
 kept (Some xs) (Some ys) h = h ∙ append-nil xs
 
--- not one byte went out
+-- nothing was written
 nothing_gone : (start now : Option (List ℕ)) (held : List ℕ) (sent : ℕ) (fault : Option WriteFault)
     → MatchOption fault (IsOnItsWay start now held sent []) (λ f. StoppedIn start now [] f.written) → Keeps start now
 nothing_gone start now held sent None way =

@@ -1,4 +1,4 @@
--- The script that makes the bank of a file of the empty one of its minor version.
+-- The script that makes a file's bank of the empty bank of its minor version.
 use Rattle.std.specs.Prelude.{◌≡◌, ◌↔◌, ℕ, List, None, Result, Ok}
 use Rattle.hydra_records.specs.Records.{AreBytes}
 use Rattle.bank_format.specs.Canon.{canon}
@@ -10,7 +10,7 @@ use Rattle.sfbank_program.specs.declared.run_fault.RunFault.{RunFault}
 use Rattle.sfbank.specs.Outcome.{Done, after_reading, bank_in, outcome, canon_outcome, play_outcome}
 use Rattle.sfbank.specs.NewBanks.{new_file}
 
--- The first broken step of the file, else the script of its bank.
+-- The first failed check of the file, else the script of its bank.
 unfoldable pub script_outcome : SamplePoints → List ℕ → Result (List ℕ) RunFault
 script_outcome points file = after_reading (fault_of file) (Ok (bank_script points (bank_in file)))
 
@@ -18,24 +18,24 @@ script_outcome points file = after_reading (fault_of file) (Ok (bank_script poin
 abbrev pub start_of : List ℕ → List ℕ
 start_of file = new_file (bank_in file).minor
 
--- a run that is done and writes this file
+-- a run that succeeds and writes this file
 abbrev pub WritesFile : Result Done RunFault → List ℕ → Type 0
 WritesFile r file = (undo : List ℕ) × (r ≡ Ok (record { out = file; undo = undo }))
 
--- Where the file comes to a script with all points, that script, run on the file of the empty bank, writes the
--- canonical file of the bank.
+-- If a file has a script with all points, that script, run on the file of the empty bank, writes the file's canonical
+-- file.
 abbrev pub IsRemade : List ℕ → Type 0
 IsRemade file =
     (text : List ℕ) → script_outcome Kept file ≡ Ok text
     → WritesFile (outcome (start_of file) text) (canon (bank_in file))
 
--- Two files that are read have one script with all points exactly where they have one canonical file.
+-- Two readable files have the same script with all points if and only if they have the same canonical file.
 abbrev pub ScriptsTell : Type 0
 ScriptsTell =
     (a b : List ℕ) → AreBytes a → AreBytes b → fault_of a ≡ None → fault_of b ≡ None
     → (script_outcome Kept a ≡ script_outcome Kept b) ↔ (canon_outcome a ≡ canon_outcome b)
 
--- Each list of notes sounds on the file that the script makes of the empty bank as on the first.
+-- Each note list renders identically on a file and on the file that its script makes of the empty bank.
 abbrev pub RemadeSounds : Type 0
 RemadeSounds =
     (file text notes : List ℕ) (done : Done) → AreBytes file → script_outcome Kept file ≡ Ok text

@@ -1,4 +1,4 @@
--- A script that makes the bank of one file of the bank of another.
+-- A script that turns the bank of one file into the bank of another.
 use Rattle.std.specs.Prelude.{◌≡◌, ◌==◌, ℕ, Bool, true, false, List, [], Option, Some, None, Result, Ok, Err}
 use Rattle.std.specs.Io.KnownBytes.{Appends, Keeps}
 use Rattle.bank_parts.specs.declared.parts.Parts.{Parts}
@@ -19,7 +19,7 @@ pub record Pair : Type 0 where
 abbrev pub both : Parts × Parts → Pair
 both banks = record { first = banks.0; second = banks.1 }
 
--- the fault of a file, if it has one, else what comes after it was read
+-- the fault of a file, if it has one, else the result after reading it
 abbrev pub after_file : {X : Type 0} → (ReadFault → RunFault) → Option ReadFault → Result X RunFault
     → Result X RunFault
 after_file reported (Some f) r = Err (reported f)
@@ -29,19 +29,19 @@ abbrev pub if_same : Bool → Pair → Result Pair RunFault
 if_same true banks = Ok banks
 if_same false banks = Err run.OtherVersion
 
--- both banks, where they are of one minor version
+-- both banks, if they have the same minor version
 abbrev pub of_one_version : Pair → Result Pair RunFault
 of_one_version banks = if_same (banks.first.minor == banks.second.minor) banks
 
 abbrev pub banks_in : List ℕ → List ℕ → Pair
 banks_in a b = record { first = bank_in a; second = bank_in b }
 
--- The first broken step of the first file, else that of the second, else both banks, if their minor versions are one.
+-- The first failed check of the first file, else of the second, else both banks, if their minor versions are equal.
 unfoldable pub pair_of : List ℕ → List ℕ → Result Pair RunFault
 pair_of a b =
     after_file run.ReadFirst (fault_of a) (after_file run.ReadSecond (fault_of b) (of_one_version (banks_in a b)))
 
--- The text, run on the first file, writes the canonical file of the second; and its undo text, run on what was written,
+-- The text, run on the first file, writes the canonical file of the second; its undo text, run on the written file,
 -- writes the canonical file of the first.
 pub record IsDifference (a b text : List ℕ) : Type 0 where
   pub undo : List ℕ
@@ -49,7 +49,7 @@ pub record IsDifference (a b text : List ℕ) : Type 0 where
   pub leads : outcome a text ≡ Ok (record { out = canon (bank_in b); undo = undo })
   pub returns : outcome (canon (bank_in b)) undo ≡ Ok (record { out = canon (bank_in a); undo = again })
 
--- a difference of two files that are read, which goes out
+-- a difference of two readable files is written
 pub record SendsDifference {U : Type 0} (old new : Option (List ℕ)) (a b : List ℕ) (r : Result U RunFault) : Type 0
   where
     pub is_pair : pair_of a b ≡ Ok (banks_in a b)
@@ -57,8 +57,8 @@ pub record SendsDifference {U : Type 0} (old new : Option (List ℕ)) (a b : Lis
     pub differs : IsDifference a b text
     pub sends : GoesOut Out old new text r
 
--- Done, or with the writer's fault, a difference went out so far. With any other fault not a byte went to the writer;
--- and out of memory can come in place of any answer before the first byte.
+-- On success a difference is written; with the writer's fault, part of one. With any other fault nothing is written,
+-- and any result may be replaced by out of memory before the first byte.
 abbrev pub RunsDifference : {U : Type 0} → Option (List ℕ) → Option (List ℕ) → List ℕ → List ℕ → Result U RunFault
     → Type 0
 RunsDifference old new a b (Ok u) = SendsDifference old new a b (Ok u)
@@ -67,13 +67,13 @@ RunsDifference old new a b (Err (run.Write which n)) =
 RunsDifference old new a b (Err run.Memory) = Keeps old new
 RunsDifference old new a b (Err fault) = (pair_of a b ≡ Err fault) × Keeps old new
 
--- Where the files have one bank, the script is empty.
+-- For two files of the same bank the script is empty.
 abbrev pub WritesNothing : {U : Type 0} → Option (List ℕ) → Option (List ℕ) → List ℕ → List ℕ → Result U RunFault
     → Type 0
 WritesNothing old new a b (Ok u) = bank_in a ≡ bank_in b → Appends old new []
 WritesNothing old new a b (Err fault) = Unit {0}
 
--- both banks were read, or why they were not
+-- both banks, or the reason why they were not read
 abbrev pub Pairs : {X : Type 0} → (X → Pair) → Result Pair RunFault → Result X RunFault → Type 0
 Pairs view pair (Ok x) = pair ≡ Ok (view x)
 Pairs view pair (Err run.Memory) = Unit {0}

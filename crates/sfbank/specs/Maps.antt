@@ -1,4 +1,4 @@
--- The picture of a preset's or an instrument's zones, or why there is none.
+-- The map of a preset's or an instrument's zones, or why there is none.
 use Rattle.std.specs.Prelude.{ℕ, Bool, true, false, List, nat_lt, length, Result, Ok, Err}
 use Rattle.bank_parts.specs.declared.parts.Parts.{Parts}
 use Rattle.bank_changes.specs.declared.members.Owner.{Owner}
@@ -11,12 +11,12 @@ use Rattle.sfbank_program.specs.declared.run_fault.RunFault.{RunFault}
 use Rattle.sfbank_program.specs.declared.run_fault.RunFault.TheVariants as run
 use Rattle.sfbank.specs.Outcome.{after_reading, bank_in}
 
--- the owner is one of the bank's presets, or instruments
+-- the owner is one of the bank's presets or instruments
 abbrev pub has_owner : Parts → Owner → Bool
 has_owner b (Preset p) = nat_lt p (length b.presets)
 has_owner b (Inst i) = nat_lt i (length b.instruments)
 
--- what is said where it is none
+-- the cause for an owner that the bank does not have
 abbrev pub missing : Owner → Cause
 missing (Preset p) = NoSuchPreset
 missing (Inst i) = NoSuchInstrument
@@ -25,6 +25,6 @@ abbrev pub if_there : Bool → Owner → List ℕ → Result (List ℕ) RunFault
 if_there true o text = Ok text
 if_there false o text = Err (run.NoMember (missing o))
 
--- The first broken step of the file, else that the owner is not there, else the picture of its zones.
+-- The first failed check of the file, else the cause for a missing owner, else the map of its zones.
 unfoldable pub map_outcome : List ℕ → Owner → Result (List ℕ) RunFault
 map_outcome file o = after_reading (fault_of file) (if_there (has_owner (bank_in file) o) o (picture (bank_in file) o))

@@ -13,7 +13,7 @@ new_file minor = canon (empty minor)
 abbrev pub new_outcome : ℕ → Result (List ℕ) RunFault
 new_outcome minor = Ok (new_file minor)
 
--- The file is its own canonical file, and reads as the empty bank of the version.
+-- The file is its own canonical file, and reads as the empty bank of this version.
 pub record IsNew (minor : ℕ) : Type 0 where
   pub own : canon_outcome (new_file minor) ≡ Ok (new_file minor)
   pub read : fault_of (new_file minor) ≡ None

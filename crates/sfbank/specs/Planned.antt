@@ -1,4 +1,4 @@
--- The parts of a run, before a byte goes out.
+-- The parts of a run, before anything is written.
 use Rattle.std.specs.Prelude.{◌≡◌, ℕ, List, Option, Some, None, Result, Ok, Err}
 use Rattle.bank_parts.specs.declared.parts.Parts.{Parts}
 use Rattle.edit_forms.specs.declared.edit.Edit.{Edit}
@@ -20,28 +20,27 @@ StopsAtLine (run.Refused number why) first = first ≡ Some (record { number = n
 StopsAtLine run.Memory first = Unit {0}
 StopsAtLine fault first = ⊥
 
--- all lines were applied to the first bank: what they made of it, and the edits that take them back,
--- the last one's first
+-- All lines were applied to the first bank: the bank that they made, and their inverses, the last edit's first.
 pub record AllApplied (first now : Parts) (lines : List Line) (undo : List Edit) : Type 0 where
   pub accepted : first_refused first lines ≡ None
   pub changed : now ≡ after_all first (edits_of lines)
   pub taken_back : undo ≡ undo_list first (edits_of lines)
 
--- the first line of another form than these
+-- the first line whose edit is not of these forms
 abbrev pub first_other : Forms → List Line → Option ℕ
 first_other Every lines = None
 first_other Neutral lines = first_not_neutral lines
 
--- what comes of a script where all edits have to be of these forms
+-- the outcome of a script whose edits must be of these forms
 abbrev pub after_lines : Forms → Parts → Result (List Line) ScriptFault → Result Done RunFault
 after_lines Every b lines = after_script b lines
 after_lines Neutral b lines = after_neutral_script b lines
 
--- what comes of a file and such a script
+-- the outcome of a file and such a script
 abbrev pub outcome_of : Forms → List ℕ → List ℕ → Result Done RunFault
 outcome_of forms file script = after_reading (fault_of file) (after_lines forms (bank_in file) (script_of script))
 
--- all lines are of the forms that are taken, or this is the first that is not
+-- all lines are of the accepted forms, or the first that is not
 abbrev pub AllOf : {U : Type 0} → Option ℕ → Result U RunFault → Type 0
 AllOf first (Ok u) = first ≡ None
 AllOf first (Err (run.NotNeutral number)) = first ≡ Some number

@@ -1,4 +1,4 @@
--- What a plan will write.
+-- The texts that a plan will write.
 use Rattle.sfbank.specs.declared.plan.Plan.{Plan}
 use Rattle.bank_format.specs.Canon.{canon}
 use Rattle.edit_script.specs.Printing.{texts_of}

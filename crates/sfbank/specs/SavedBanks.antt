@@ -1,4 +1,4 @@
--- What a live session saves, as a run.
+-- What a live session saves, as the input of a run.
 use Rattle.std.specs.Prelude.{◌≡◌, List, ℕ, Some, None}
 use Rattle.bank_parts.specs.declared.parts.Parts.{Parts}
 use Rattle.hydra_records.specs.Records.{AreBytes}
@@ -11,12 +11,12 @@ use Rattle.live_sessions.specs.Turns.{Turn, AreTurns}
 use Rattle.sfbank.specs.Outcome.{bank_in, outcome}
 use Rattle.sfbank.specs.BankScripts.{WritesFile}
 
--- the script that is saved, run on the file that is saved with it alone, writes this file
+-- the saved script, run on the saved file, writes this file
 abbrev pub LeadsTo : Saved → List ℕ → Type 0
 LeadsTo saved file = WritesFile (outcome saved.out saved.undo) file
 
--- Wherever a session on the bank of a file stands, what it saves leads to the canonical file of that bank. (What a
--- session is then has a type that live_sessions keeps to itself.)
+-- At any time in a session on the bank of a file, what it saves leads to the canonical file of that bank. (The type of
+-- a session's state is private to `live_sessions`.)
 abbrev pub SavedBanksLeadBack : Type 0
 SavedBanksLeadBack =
     (file : List ℕ) (ts : List Turn) (last : _) (c : Parts) → AreBytes file → fault_of file ≡ None

@@ -1,4 +1,4 @@
-//! A bank in its one spelling, from bytes to bytes.
+//! The canonical form of a bank, from bytes to bytes.
 ghost use Rattle.sfbank.specs.Outcome.{canon_outcome, IsEmptyEdit, IsFixed};
 ghost use Rattle.sfbank.specs.Written.{RunsAlone};
 
@@ -8,16 +8,16 @@ use sfbank_program::RunFault;
 use std::alloc::Global;
 use std::io::Write;
 
-/// Reads the file, and writes the canonical file of its bank to `out`, whole and flushed.
+/// Reads the file, writes the canonical file of its bank to `out`, and flushes `out`.
 ///
-/// Where the file has a fault, not one byte goes to the writer; so it is when out of memory. A
-/// writer's fault, which is of `Which::Out`, tells how many bytes of the text it took.
+/// Where the file has a fault or an allocation fails, nothing is written. A fault of the writer (`Which::Out`) has the
+/// number of bytes written.
 pub fn canon_run<W: Write>(alloc: Global, file: &[u8], out: &mut W) -> Result<(), RunFault>
-    // The outcome of these bytes goes out: the fault of the file, else the canonical file.
+    // The outcome is the fault of the file, else the canonical file.
     ensures runs { RunsAlone (W.contents out.old) (W.contents out.new) (canon_outcome file.now) result }
-    // An edit by the empty script has this outcome too, with an empty undo text.
+    // An edit by the empty script has the same outcome, with an empty undo text.
     ensures edit { IsEmptyEdit file.now }
-    // What it writes is its own canonical file.
+    // The canonical file of the written file is that file itself.
     ensures fixed { IsFixed file.now }
 {
     let (bank, _counts) = read(alloc, file)?;

@@ -1,4 +1,4 @@
-//! Texts go out, each whole and flushed.
+//! Writes each text of a run whole, and flushes it.
 ghost use Rattle.std.specs.Prelude.{◌≡◌, ◌≤◌, Ok, length};
 ghost use Rattle.outputs.specs.Output.{Puts};
 ghost use Rattle.bank_format.specs.Canon.{canon};
@@ -32,7 +32,7 @@ use std::io::Write;
 use wave_file::{put_sample_wave, put_wave};
 use zone_map::put_map;
 
-/// The bank's file goes out, and then the undo text. It takes no memory.
+/// Writes the bank's file to `out`, then the undo text to `undo`. Allocates nothing.
 pub(crate) fn deliver<W: Write, V: Write>(
     plan: &Plan<'_>,
     out: &mut W,
@@ -45,7 +45,7 @@ pub(crate) fn deliver<W: Write, V: Write>(
     deliver_edits(Which::Undo, plan.undo.as_slice(), undo)
 }
 
-/// The canonical file of a bank goes out. It takes no memory.
+/// Writes the canonical file of a bank. Allocates nothing.
 #[tactic(auto, using(crate::proofs::Texts::text_goes_out))]
 pub(crate) fn deliver_bank<W: Write>(bank: &Bank<'_>, out: &mut W) -> Result<(), RunFault>
     ensures { GoesOut Out (W.contents out.old) (W.contents out.new) (canon bank.now) result }
@@ -55,7 +55,7 @@ pub(crate) fn deliver_bank<W: Write>(bank: &Bank<'_>, out: &mut W) -> Result<(),
     told(Which::Out, output.deliver())
 }
 
-/// The listing of a bank and of the counts of reading it goes out. It takes no memory.
+/// Writes the listing of a bank and of the counts of reading it. Allocates nothing.
 #[tactic(auto, using(crate::proofs::Texts::text_goes_out))]
 pub(crate) fn deliver_listing<W: Write>(
     bank: &Bank<'_>,
@@ -69,7 +69,7 @@ pub(crate) fn deliver_listing<W: Write>(
     told(Which::Out, output.deliver())
 }
 
-/// The listing of a bank with details goes out. Where there is no memory to count uses, nothing does.
+/// Writes the detailed listing of a bank. Nothing is written if an allocation fails.
 pub(crate) fn deliver_details<W: Write>(
     alloc: Global,
     bank: &Bank<'_>,
@@ -84,7 +84,7 @@ pub(crate) fn deliver_details<W: Write>(
     told(Which::Out, output.deliver())
 }
 
-/// The picture of the zones of a preset or an instrument goes out. It takes no memory.
+/// Writes the SVG map of the zones of a preset or an instrument. Allocates nothing.
 #[tactic(auto, using(crate::proofs::Texts::text_goes_out))]
 pub(crate) fn deliver_map<W: Write>(
     bank: &Bank<'_>,
@@ -98,8 +98,7 @@ pub(crate) fn deliver_map<W: Write>(
     told(Which::Out, output.deliver())
 }
 
-/// The WAVE file of frames goes out, which are samples of the left and the right side in turn. It takes
-/// no memory.
+/// Writes frames as a WAVE file: left and right samples in turn. Allocates nothing.
 #[tactic(auto, using(crate::proofs::Texts::text_goes_out))]
 pub(crate) fn deliver_wave<W: Write>(frames: &[i16], out: &mut W) -> Result<(), RunFault>
     requires { FitsWave frames.now }
@@ -110,7 +109,7 @@ pub(crate) fn deliver_wave<W: Write>(frames: &[i16], out: &mut W) -> Result<(), 
     told(Which::Out, output.deliver())
 }
 
-/// The WAVE file of a sample goes out. It takes no memory.
+/// Writes a sample as a WAVE file. Allocates nothing.
 #[tactic(auto, using(crate::proofs::Texts::text_goes_out))]
 pub(crate) fn deliver_sample<W: Write>(sample: &Sample<'_>, out: &mut W) -> Result<(), RunFault>
     requires { length sample.now.points ≤ POINTS }
@@ -121,7 +120,7 @@ pub(crate) fn deliver_sample<W: Write>(sample: &Sample<'_>, out: &mut W) -> Resu
     told(Which::Out, output.deliver())
 }
 
-/// The script of a bank goes out, with the points of its samples or without. It takes no memory.
+/// Writes the script of a bank, with or without the points of its samples. Allocates nothing.
 #[tactic(auto, using(crate::proofs::Texts::text_goes_out))]
 pub(crate) fn deliver_script<W: Write>(
     bank: &Bank<'_>,
@@ -135,7 +134,7 @@ pub(crate) fn deliver_script<W: Write>(
     told(Which::Out, output.deliver())
 }
 
-/// The script that replaces a bank by another goes out. It takes no memory.
+/// Writes the script that replaces one bank by another. Allocates nothing.
 #[tactic(auto, using(crate::proofs::Texts::text_goes_out))]
 pub(crate) fn deliver_replacement<W: Write>(
     from: &Bank<'_>,
@@ -149,7 +148,7 @@ pub(crate) fn deliver_replacement<W: Write>(
     told(Which::Out, output.deliver())
 }
 
-/// The lines of edits go out. It takes no memory.
+/// Writes edits as script lines. Allocates nothing.
 #[tactic(auto, using(crate::proofs::Texts::text_goes_out))]
 pub(crate) fn deliver_edits<W: Write>(
     which: Which,
@@ -163,8 +162,7 @@ pub(crate) fn deliver_edits<W: Write>(
     told(which, output.deliver())
 }
 
-/// The script goes out that takes a session's bank back, by the edits that do so, of which the oldest one's comes
-/// first. It takes no memory.
+/// Writes the undo script of a session from its undo list, oldest entry first. Allocates nothing.
 #[tactic(auto, using(crate::proofs::Texts::text_goes_out))]
 pub(crate) fn deliver_undo<W: Write>(back: &[Edit<'_>], out: &mut W) -> Result<(), RunFault>
     ensures { GoesOut Undo (W.contents out.old) (W.contents out.new) (undo_text back.now) result }
@@ -174,7 +172,7 @@ pub(crate) fn deliver_undo<W: Write>(back: &[Edit<'_>], out: &mut W) -> Result<(
     told(Which::Undo, output.deliver())
 }
 
-/// Puts the lines of the edits. It takes no memory.
+/// Puts edits as script lines. Allocates nothing.
 pub(crate) fn put_edits<W: Write>(edits: &[Edit<'_>], output: &mut Output<'_, W>)
     ensures { Puts W.contents output.old output.new (texts_of edits.now) }
 {
@@ -183,7 +181,7 @@ pub(crate) fn put_edits<W: Write>(edits: &[Edit<'_>], output: &mut Output<'_, W>
     }
 }
 
-// Of which text a writer's fault is.
+// The fault of the writer, with the text that it is about.
 fn told(which: Which, delivered: Result<u64, WriteFault>) -> Result<(), RunFault>
     ensures { IsTold which delivered result }
 {

@@ -1,4 +1,4 @@
-//! A script that makes one bank of another.
+//! A script that turns one bank into another.
 ghost use Rattle.sfbank.specs.Differences.{Pairs, RunsDifference, WritesNothing, both, pair_of};
 
 use crate::deliver::{deliver_edits, deliver_replacement};
@@ -9,21 +9,20 @@ use sfbank_program::{RunFault, Which};
 use std::alloc::Global;
 use std::io::Write;
 
-/// Reads both files, and writes a script that makes the bank of the second of that of the first to `out`,
-/// whole and flushed. The banks are of one minor version, which no edit changes.
+/// Reads both files, writes a script that turns the first bank into the second to `out`, and flushes `out`.
 ///
-/// Where a file has a fault, or the versions differ, not one byte goes to the writer; so it is when out of
-/// memory. A writer's fault, which is of `Which::Out`, tells how many bytes of the script it took.
+/// Both banks must have the same minor version, which no edit changes. Where a file has a fault, the versions differ
+/// or an allocation fails, nothing is written. A fault of the writer (`Which::Out`) has the number of bytes written.
 pub fn diff_run<W: Write>(
     alloc: Global,
     first: &[u8],
     second: &[u8],
     out: &mut W,
 ) -> Result<(), RunFault>
-    // The fault of the first file, else of the second, else `OtherVersion`; else a script goes out that
-    // writes the canonical file of the second, and whose undo text writes that of the first.
+    // The fault of the first file, else of the second, else `OtherVersion`; else a script is written that turns the
+    // first file into the canonical file of the second, and whose undo text restores the canonical file of the first.
     ensures runs { RunsDifference (W.contents out.old) (W.contents out.new) first.now second.now result }
-    // Of files of one bank the script is empty.
+    // The script for two files of the same bank is empty.
     ensures nothing { WritesNothing (W.contents out.old) (W.contents out.new) first.now second.now result }
 {
     let (from, to) = banks_of(alloc, first, second)?;
@@ -33,7 +32,7 @@ pub fn diff_run<W: Write>(
     }
 }
 
-// The banks of both files, which are of one minor version.
+// Reads both banks, and checks that they have the same minor version.
 fn banks_of<'a>(
     alloc: Global,
     first: &'a [u8],

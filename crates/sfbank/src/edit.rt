@@ -14,11 +14,11 @@ use sfbank_program::RunFault;
 use std::alloc::Global;
 use std::io::Write;
 
-/// Reads the file, runs the script on its bank, and writes the edited bank to `out` and the script
-/// that takes the edits back to `undo`, each whole and flushed.
+/// Reads the file, runs the script on its bank, and writes the edited bank to `out` and the undo script to `undo`.
+/// Both writers are flushed.
 ///
-/// Where the file has a fault, the script has one, or an edit is refused, not one byte goes to either
-/// writer; so it is when out of memory. A writer's fault tells how many bytes of its text it took.
+/// Where the file or the script has a fault, an edit is refused or an allocation fails, nothing is written. A fault of
+/// a writer has the number of bytes written to it.
 pub fn edit_run<W: Write, V: Write>(
     alloc: Global,
     file: &[u8],
@@ -26,19 +26,18 @@ pub fn edit_run<W: Write, V: Write>(
     out: &mut W,
     undo: &mut V,
 ) -> Result<(), RunFault>
-    // The outcome of these bytes goes out: of the file, else of the script, else of the first refused
-    // line, else both texts.
+    // The outcome is the fault of the file, else of the script, else the first refused line, else both texts.
     ensures runs { Runs (record { out = W.contents out.old; out_new = W.contents out.new; undo = V.contents undo.old; undo_new = V.contents undo.new })
         (outcome file.now script.now) result }
-    // Run on the written file alone, the undo text writes the canonical file of the first bank.
+    // Run on the written file, the undo text restores the canonical file of the first bank.
     ensures restores { IsUndone file.now script.now }
-    // Each list of notes sounds on the file that is written then as on the first.
+    // Each note list renders identically on that restored file and on the first file.
     ensures sounds { SoundsAgain file.now script.now }
 {
     edit_run_with_progress(alloc, file, script, out, undo, &mut Unheard)
 }
 
-/// Does what `edit_run` does. As the lines are done, `progress` hears how far they are.
+/// Does what `edit_run` does, and reports to `progress` as lines are done.
 pub fn edit_run_with_progress<W: Write, V: Write, P: Progress>(
     alloc: Global,
     file: &[u8],
@@ -47,20 +46,19 @@ pub fn edit_run_with_progress<W: Write, V: Write, P: Progress>(
     undo: &mut V,
     progress: &mut P,
 ) -> Result<(), RunFault>
-    // The outcome of these bytes goes out: of the file, else of the script, else of the first refused
-    // line, else both texts.
+    // The outcome is the fault of the file, else of the script, else the first refused line, else both texts.
     ensures runs { Runs (record { out = W.contents out.old; out_new = W.contents out.new; undo = V.contents undo.old; undo_new = V.contents undo.new })
         (outcome file.now script.now) result }
-    // Run on the written file alone, the undo text writes the canonical file of the first bank.
+    // Run on the written file, the undo text restores the canonical file of the first bank.
     ensures restores { IsUndone file.now script.now }
-    // Each list of notes sounds on the file that is written then as on the first.
+    // Each note list renders identically on that restored file and on the first file.
     ensures sounds { SoundsAgain file.now script.now }
 {
     run_script(alloc, file, script, Forms::Every, out, undo, progress)
 }
 
-/// Does what `edit_run` does, with a script of neutral edits alone: those that change no sound, whatever
-/// the bank. The first line with another edit is the fault `NotNeutral`, before any edit is done or refused.
+/// Does what `edit_run` does, but accepts neutral edits only: those that never change a sound, whatever the bank.
+/// Returns `NotNeutral` for the first line with another edit, before any edit is done or refused.
 pub fn neutral_run<W: Write, V: Write, P: Progress>(
     alloc: Global,
     file: &[u8],
@@ -69,21 +67,21 @@ pub fn neutral_run<W: Write, V: Write, P: Progress>(
     undo: &mut V,
     progress: &mut P,
 ) -> Result<(), RunFault>
-    // The outcome of these bytes goes out: of the file, else of the script, else of the first line that is
-    // not neutral, else of the first refused line, else both texts.
+    // The outcome is the fault of the file, else of the script, else the first line that is not neutral, else the
+    // first refused line, else both texts.
     ensures runs { Runs (record { out = W.contents out.old; out_new = W.contents out.new; undo = V.contents undo.old; undo_new = V.contents undo.new })
         (neutral_outcome file.now script.now) result }
-    // Where it is done, `edit_run` does the same.
+    // If it succeeds, `edit_run` does the same.
     ensures edits { IsRunOfEdits file.now script.now }
-    // The undo text is neutral too. Run on the written file alone, it writes the canonical file of the first bank.
+    // The undo text is neutral too. Run on the written file, it restores the canonical file of the first bank.
     ensures restores { IsNeutrallyUndone file.now script.now }
-    // Each list of notes sounds on the written file as on the first.
+    // Each note list renders identically on the written file and on the first file.
     ensures sounds { SoundsTheSame file.now script.now }
 {
     run_script(alloc, file, script, Forms::Neutral, out, undo, progress)
 }
 
-// Runs a script of edits of these forms.
+// Runs a script whose edits must be of these forms.
 fn run_script<W: Write, V: Write, P: Progress>(
     alloc: Global,
     file: &[u8],

@@ -1,4 +1,4 @@
-//! WAVE files as samples of a bank.
+//! Imports a WAVE file as samples of a bank.
 ghost use Rattle.std.specs.Prelude.{◌≡◌, ◌≤◌, length, Ok, IfOk};
 ghost use Rattle.edit_script.specs.Printing.{numbered};
 ghost use Rattle.recordings.specs.Imports.{import_edits, sides_of};
@@ -20,15 +20,15 @@ use sfbank_program::RunFault;
 use std::alloc::Global;
 use std::io::Write;
 
-/// Reads the file and the WAVE file, puts the recording at the end of the bank's samples, and writes the edited bank to
-/// `out` and the script that takes the import back to `undo`, each whole and flushed. One channel comes as one sample, two
-/// as a left and a right one, linked with each other.
+/// Reads the file and the WAVE file, appends the recording to the bank's samples, and writes the edited bank to `out`
+/// and the undo script to `undo`. Both writers are flushed. A mono recording becomes one sample, a stereo recording a
+/// left and a right sample that are linked to each other.
 ///
-/// The name is cut before a zero byte and after 20 bytes; of two channels after 18, and ` L` or ` R` stands behind it.
+/// The name is truncated at a zero byte and to 20 bytes; for a stereo recording to 18 bytes, followed by ` L` or ` R`.
 ///
-/// Where the file or the WAVE file has a fault, or an edit is refused, not one byte goes to either writer; so it is for
-/// out of memory. A refused edit is told by its line in the script of the import. A writer's fault tells how many bytes
-/// of its text it took.
+/// Where the file or the WAVE file has a fault, an edit is refused or an allocation fails, nothing is written. A
+/// refused edit is reported by its line in the import's script. A fault of a writer has the number of bytes written to
+/// it.
 pub fn import_run<W: Write, V: Write>(
     alloc: Global,
     file: &[u8],
@@ -37,19 +37,18 @@ pub fn import_run<W: Write, V: Write>(
     out: &mut W,
     undo: &mut V,
 ) -> Result<(), RunFault>
-    // The outcome of these bytes goes out: of the file, else of the WAVE file, else of the first refused edit, else both
-    // texts.
+    // The outcome is the fault of the file, else of the WAVE file, else the first refused edit, else both texts.
     ensures runs { Runs (record { out = W.contents out.old; out_new = W.contents out.new; undo = V.contents undo.old; undo_new = V.contents undo.new })
         (import_outcome file.now wave.now name.now) result }
-    // It is what the script of the import's edits comes to.
+    // It is the outcome of the script of the import's edits.
     ensures script { IsScripted file.now wave.now name.now }
-    // Run on the written file alone, the undo text writes the canonical file of the first bank.
+    // Run on the written file, the undo text restores the canonical file of the first bank.
     ensures restores { IsImportUndone file.now wave.now name.now }
 {
     import(alloc, file, wave, name, out, undo)
 }
 
-// Puts the recording at the end of the bank's samples.
+// Appends the recording to the bank's samples, and writes both texts.
 fn import<'a, W: Write, V: Write>(
     alloc: Global,
     file: &'a [u8],
@@ -68,7 +67,7 @@ fn import<'a, W: Write, V: Write>(
     deliver(&plan, out, undo)
 }
 
-// What comes of the edits that put a recording, whose points are parted, at the end of the bank's samples.
+// Applies the edits that append a recording, whose points are split by side, to the bank's samples.
 fn plan_of_recording<'a>(
     alloc: Global,
     bank: Bank<'a>,
@@ -84,7 +83,7 @@ fn plan_of_recording<'a>(
     plan_of(alloc, bank, edits)
 }
 
-// What comes of edits in a row, as lines from 1 on. Nothing goes out.
+// Applies edits as the lines of a script, numbered from 1. Writes nothing.
 fn plan_of<'a>(
     alloc: Global,
     mut bank: Bank<'a>,
@@ -98,7 +97,7 @@ fn plan_of<'a>(
     Ok(Plan { bank, undo })
 }
 
-// Edits on lines in a row, the first on line 1.
+// Numbers edits as the lines of a script, from 1.
 fn numbered_lines<'a>(alloc: Global, edits: Vec<Edit<'a>>) -> Result<Vec<Line<'a>>, OutOfMemory>
     requires { length edits.items ≤ 3 }
     ensures { IfOk result (λ lines. lines.items ≡ numbered 1 edits.entry.items) }

@@ -4,20 +4,18 @@ ghost use Rattle.sfbank.specs.SavedBanks.{SavedBanksLeadBack};
 
 use live_sessions::saved_ways_lead_back;
 
-/// Two files that are read have the same script, points kept, exactly where their canonical files are the
-/// same.
+/// Two readable files have the same script with all points if and only if they have the same canonical file.
 pub fn scripts_tell_banks()
     ensures { ScriptsTell }
 {}
 
-/// Each list of notes sounds on the file that a script makes of the empty bank as on the file that the
-/// script is of.
+/// Each note list renders identically on a file and on the file that its script makes of the empty bank.
 pub fn remade_banks_sound()
     ensures { RemadeSounds }
 {}
 
-/// Wherever a live session stands, the script that it saves, run by `edit_run` on the file that it saves with it
-/// alone, writes the canonical file of the bank with which the session began.
+/// At any time in a live session, the undo script that `save` writes, run by `edit_run` on the bank file that it
+/// writes, restores the canonical file of the bank with which the session began.
 pub fn saved_banks_lead_back()
     ensures { SavedBanksLeadBack }
 {

@@ -1,8 +1,8 @@
-//! Bytes in to bytes out: a bank and a script of edits go in, the edited bank and the script that
-//! takes the edits back come out; a bank goes in, and its canonical file or its listing comes out; or a
-//! bank and notes go in, and a WAVE file comes out; or one sample of it goes out as a WAVE file, or a WAVE
-//! file comes in as samples. The program is these runs on the files that its words
-//! name: words in, an exit status out.
+//! The runs of the program, from bytes to bytes, and the program itself, from arguments to an exit status.
+//!
+//! A run edits a bank by a script, writes a bank's canonical file, listing, script or map, compares two banks, renders
+//! notes as a WAVE file, or moves a sample between a bank and a WAVE file. The program reads and writes the files that
+//! its arguments name.
 #![tactic(auto)]
 
 mod canon;

@@ -1,4 +1,4 @@
-//! Where notes select the zones of a preset or an instrument, as a picture.
+//! The map of a preset or an instrument: where notes select its zones.
 ghost use Rattle.std.specs.Prelude.{◌≡◌};
 ghost use Rattle.sfbank.specs.Maps.{has_owner, missing, map_outcome};
 ghost use Rattle.sfbank.specs.Written.{RunsAlone};
@@ -11,20 +11,18 @@ use sfbank_program::RunFault;
 use std::alloc::Global;
 use std::io::Write;
 
-/// Reads the file, and writes the picture of the zones of one of its presets or instruments to `out`,
-/// whole and flushed: an SVG text of the keys and velocities in which notes select each.
+/// Reads the file, writes the map of one of its presets or instruments to `out`, and flushes `out`. The map is an SVG
+/// text of the key and velocity ranges in which notes select each zone.
 ///
-/// Where the file has a fault, or no such preset or instrument, not one byte goes to the writer; so it
-/// is when out of memory. A writer's fault, which is of `Which::Out`, tells how many bytes of the text
-/// it took.
+/// Where the file has a fault, there is no such preset or instrument or an allocation fails, nothing is written. A
+/// fault of the writer (`Which::Out`) has the number of bytes written.
 pub fn map_run<W: Write>(
     alloc: Global,
     file: &[u8],
     owner: Owner,
     out: &mut W,
 ) -> Result<(), RunFault>
-    // The outcome of these bytes goes out: the fault of the file, else that the owner is not there, else
-    // the picture.
+    // The outcome is the fault of the file, else `NoSuchPreset` or `NoSuchInstrument`, else the map.
     ensures runs { RunsAlone (W.contents out.old) (W.contents out.new) (map_outcome file.now owner) result }
 {
     let (bank, _counts) = read(alloc, file)?;
@@ -35,7 +33,7 @@ pub fn map_run<W: Write>(
     }
 }
 
-// Whether the owner is one of the bank's presets, or instruments.
+// Whether the owner is one of the bank's presets or instruments.
 fn has_owner(bank: &Bank<'_>, owner: Owner) -> bool
     ensures { result ≡ has_owner bank.now owner }
 {
@@ -45,7 +43,7 @@ fn has_owner(bank: &Bank<'_>, owner: Owner) -> bool
     }
 }
 
-// What is said where it is none.
+// The cause reported for an owner that the bank does not have.
 fn missing(owner: Owner) -> Cause
     ensures { result ≡ missing owner }
 {

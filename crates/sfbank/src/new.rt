@@ -12,12 +12,11 @@ use sfbank_program::RunFault;
 use std::alloc::Global;
 use std::io::Write;
 
-/// Writes the canonical file of the empty bank of version 2.`minor` to `out`, whole and flushed: 308 bytes.
+/// Writes the canonical file of the empty bank of version 2.`minor`, 308 bytes, to `out`, and flushes `out`.
 ///
-/// Where memory is out, not one byte goes to the writer. A writer's fault, which is of `Which::Out`,
-/// tells how many bytes of the file it took.
+/// If an allocation fails, nothing is written. A fault of the writer (`Which::Out`) has the number of bytes written.
 pub fn new_run<W: Write>(alloc: Global, minor: u16, out: &mut W) -> Result<(), RunFault>
-    // The canonical file of the empty bank goes out.
+    // The canonical file of the empty bank is written.
     ensures runs { RunsAlone (W.contents out.old) (W.contents out.new) (new_outcome minor) result }
     // It is its own canonical file, and reads as the empty bank.
     ensures fixed { IsNew minor }

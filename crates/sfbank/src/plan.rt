@@ -1,4 +1,4 @@
-//! What a run will write, before a byte goes out.
+//! The edited bank and the undo list of a run, before anything is written.
 ghost use Rattle.std.specs.Prelude.{◌≡◌, ◌∷◌, List, reverse, Ok, MatchResult, IfOk, IfErr};
 ghost use Rattle.bank_edits.specs.EditChanges.{IsDone};
 ghost use Rattle.edit_script.specs.declared.parsing.Line.{Line};
@@ -20,22 +20,22 @@ use progress::{Progress, Work};
 use sfbank_program::RunFault;
 use std::alloc::Global;
 
-/// The edited bank, and the edits that take its edits back, the last one's first. They borrow from the
-/// bank's file and from the script's pool.
+/// The edited bank, and the inverses of its edits, the last edit's first. They borrow from the bank's file and from
+/// the script's pool.
 pub(crate) struct Plan<'a> {
     pub(crate) bank: Bank<'a>,
     pub(crate) undo: Vec<Edit<'a>>,
 }
 
-// Not derived: a derived drop is written out, and proved, wherever a value is dropped; this one is a call.
+// Not derived: a derived drop is inlined, and proved, wherever a value is dropped; this one is a call.
 impl Drop for Plan<'_> {
     fn drop(self) {
         let Plan { bank: _, undo: _ } = self;
     }
 }
 
-/// Runs a script of edits of these forms on a bank, over the pool of its literals, and tells how far it is.
-/// Nothing goes out.
+/// Runs a script whose edits must be of these forms on a bank. `pool` holds the script's literals. Reports to
+/// `progress`, and writes nothing.
 pub(crate) fn make_plan<'a, P: Progress>(
     alloc: Global,
     mut bank: Bank<'a>,
@@ -53,7 +53,7 @@ pub(crate) fn make_plan<'a, P: Progress>(
     Ok(Plan { bank, undo })
 }
 
-// The first line of another form is a fault.
+// Checks the forms: the first line of another form is a fault.
 fn all_of(forms: Forms, lines: &[Line<'_>]) -> Result<(), RunFault>
     ensures { AllOf (first_other forms lines.now) result }
 {
@@ -74,8 +74,7 @@ fn all_neutral(lines: &[Line<'_>]) -> Result<(), RunFault>
     Ok(())
 }
 
-/// Applies the edits in order, and gives those that take them back, the last one's first. It is told how
-/// far they are.
+/// Applies the edits in order, and returns their inverses, the last edit's first. Reports to `progress`.
 pub(crate) fn apply_all<'a, P: Progress>(
     alloc: Global,
     bank: &mut Bank<'a>,
@@ -93,7 +92,7 @@ pub(crate) fn apply_all<'a, P: Progress>(
     Ok(inverses)
 }
 
-// Applies them one after the other, and gives the edits that take them back in the same order.
+// Applies the edits in order, and returns their inverses in the same order.
 fn apply_each<'a, P: Progress>(
     alloc: Global,
     bank: &mut Bank<'a>,
@@ -111,8 +110,7 @@ fn apply_each<'a, P: Progress>(
     Ok(inverses)
 }
 
-// Applies the edit of a line, and gives the one that takes it back. It is a function of its own, so that the loop
-// drops no edit.
+// Applies the edit of a line, and returns its inverse. A function of its own, so that the loop drops no edit.
 fn apply_line<'a>(alloc: Global, bank: &mut Bank<'a>, line: Line<'a>) -> Result<Edit<'a>, RunFault>
     ensures done { IfOk result (λ back. IsDone bank.old bank.new line.entry.edit back) }
     ensures refused { (rest : List Line) → IfErr result (λ fault. StopsAtLine fault (first_refused bank.old (line.entry ∷ rest))) }

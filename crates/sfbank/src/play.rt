@@ -1,4 +1,4 @@
-//! Notes on a bank, as a WAVE file.
+//! Renders notes on a bank as a WAVE file.
 ghost use Rattle.sfbank.specs.Outcome.{play_outcome, SoundsInCanon};
 ghost use Rattle.sfbank.specs.Written.{RunsAlone};
 
@@ -11,26 +11,26 @@ use sfbank_program::RunFault;
 use std::alloc::Global;
 use std::io::Write;
 
-/// Reads the file and the text of notes, plays the notes on the bank, and writes the WAVE file of their
-/// frames to `out`, whole and flushed.
+/// Reads the file and the note list, renders the notes on the bank, writes the frames as a WAVE file to `out`, and
+/// flushes `out`.
 ///
-/// Where the file has a fault, or the notes have one, not one byte goes to the writer; so it is when out
-/// of memory. A writer's fault, which is of `Which::Out`, tells how many bytes of the file it took.
+/// Where the file or the note list has a fault or an allocation fails, nothing is written. A fault of the writer
+/// (`Which::Out`) has the number of bytes written.
 pub fn play_run<W: Write>(
     alloc: Global,
     file: &[u8],
     notes: &[u8],
     out: &mut W,
 ) -> Result<(), RunFault>
-    // The outcome of these bytes goes out: the fault of the file, else of the notes, else the WAVE file.
+    // The outcome is the fault of the file, else of the notes, else the WAVE file.
     ensures runs { RunsAlone (W.contents out.old) (W.contents out.new) (play_outcome file.now notes.now) result }
-    // On the canonical file of the bank it is the same.
+    // It is the same for the canonical file of the bank.
     ensures canon { SoundsInCanon file.now notes.now }
 {
     play_run_with_progress(alloc, file, notes, out, &mut Unheard)
 }
 
-/// Does what `play_run` does. As the frames are done, `progress` hears how far they are.
+/// Does what `play_run` does, and reports to `progress` as frames are rendered.
 pub fn play_run_with_progress<W: Write, P: Progress>(
     alloc: Global,
     file: &[u8],
@@ -38,9 +38,9 @@ pub fn play_run_with_progress<W: Write, P: Progress>(
     out: &mut W,
     progress: &mut P,
 ) -> Result<(), RunFault>
-    // The outcome of these bytes goes out: the fault of the file, else of the notes, else the WAVE file.
+    // The outcome is the fault of the file, else of the notes, else the WAVE file.
     ensures runs { RunsAlone (W.contents out.old) (W.contents out.new) (play_outcome file.now notes.now) result }
-    // On the canonical file of the bank it is the same.
+    // It is the same for the canonical file of the bank.
     ensures canon { SoundsInCanon file.now notes.now }
 {
     let (bank, _counts) = read(alloc, file)?;

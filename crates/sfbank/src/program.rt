@@ -1,4 +1,4 @@
-//! From words to an exit status.
+//! The program, from its arguments to its exit status.
 ghost use Rattle.sfbank_program.specs.Telling.{Ends};
 
 mod apply;
@@ -41,7 +41,7 @@ use std::rt::Files;
 use std::{env, io};
 use wave::wave;
 
-/// Runs the program on the words that it was started with, and returns its exit status.
+/// Runs the program on its arguments, and returns its exit status.
 pub fn run_with_arguments<R: Env + Files + AllocGlobal, I: Read, O: Write, E: Write, P: Progress>(
     rt: &R,
     input: &mut I,
@@ -66,7 +66,7 @@ pub fn run_with_arguments<R: Env + Files + AllocGlobal, I: Read, O: Write, E: Wr
     }
 }
 
-/// The words that the program was started with.
+/// Collects the arguments of the program.
 fn arguments<R: Env + AllocGlobal>(rt: &R) -> Result<Vec<String>, Fault<'static>> {
     let words = match env::args(rt) {
         Ok(words) => words.collect(rt.alloc()),
@@ -76,23 +76,24 @@ fn arguments<R: Env + AllocGlobal>(rt: &R) -> Result<Vec<String>, Fault<'static>
     Ok(words?)
 }
 
-/// Runs the program on its words, of which the first is its own name. Returns the exit status:
+/// Runs the program on these arguments, of which the first is its own name. Returns the exit status:
 ///
 /// | status | when |
 /// |---|---|
 /// | 0 | done, or help or the version was asked for |
-/// | 1 | the words are refused |
-/// | 2 | a file is no bank, or no WAVE file that is taken |
-/// | 3 | the script or the text of notes has a fault |
-/// | 4 | an edit is refused, or there is no such member, or two banks are of different versions |
+/// | 1 | the arguments are rejected |
+/// | 2 | a file is not a bank, or not a WAVE file that can be imported |
+/// | 3 | the script or the note list has a fault |
+/// | 4 | an edit is refused, a preset, instrument or sample does not exist, or the versions of two banks differ |
 /// | 5 | an input can't be read or is too long, or an output is rejected or can't be written |
-/// | 6 | out of memory |
+/// | 6 | an allocation failed |
 ///
-/// The lines of `live` come from `input`. What `show` and `explain` tell, the answers of `live`, help and the version
-/// go to `output`. `progress` hears how far `apply` and `play` are.
-/// Where it is not 0, one line (of clap's text, more) goes to `errors`, but none where the reader of an output
-/// closed it early. `is_terminal` says that `errors` is a terminal: there the reason why an input can't be read
-/// follows on a second line. If that can't be written, the status is the same.
+/// `live` reads its lines from `input`. The texts of `show` and `explain`, the answers of `live`, help and the version
+/// are written to `output`. `apply` and `play` report to `progress`.
+///
+/// If the status is not 0, one line (for arguments that clap rejects, its whole text) is written to `errors`, except
+/// where the reader of an output closed it early. If `is_terminal`, which means that `errors` is a terminal, a second
+/// line has the reason why an input can't be read. A failed write to `errors` does not change the status.
 pub fn run<R: Files + AllocGlobal, S: AsStr, I: Read, O: Write, E: Write, P: Progress>(
     rt: &R,
     words: &[S],
@@ -111,7 +112,7 @@ pub fn run<R: Files + AllocGlobal, S: AsStr, I: Read, O: Write, E: Write, P: Pro
     }
 }
 
-/// Does what the words ask for.
+/// Runs the command that the arguments name.
 fn serve<'a, R: Files + AllocGlobal, S: AsStr, I: Read, O: Write, P: Progress>(
     rt: &'a R,
     words: &'a [S],
@@ -136,7 +137,7 @@ fn serve<'a, R: Files + AllocGlobal, S: AsStr, I: Read, O: Write, P: Progress>(
     }
 }
 
-/// Writes help or the version to the standard output. Else clap refused the words.
+/// Writes help or the version to the standard output; other errors of clap mean that it rejects the arguments.
 fn answer<'a, O: Write>(
     alloc: Global,
     error: clap::Error,

@@ -1,4 +1,4 @@
-//! A bank as a script.
+//! The script of a bank, from bytes to bytes.
 ghost use Rattle.sfbank.specs.BankScripts.{IsRemade, script_outcome};
 ghost use Rattle.sfbank.specs.Written.{RunsAlone};
 
@@ -9,20 +9,20 @@ use sfbank_program::RunFault;
 use std::alloc::Global;
 use std::io::Write;
 
-/// Reads the file, and writes the script that makes its bank of the empty one of its minor version to
-/// `out`, whole and flushed; with the points of its samples, or without.
+/// Reads the file, writes the script that makes its bank of the empty bank of the same minor version to `out`, with
+/// or without the points of its samples, and flushes `out`.
 ///
-/// Where the file has a fault, not one byte goes to the writer; so it is when out of memory. A
-/// writer's fault, which is of `Which::Out`, tells how many bytes of the script it took.
+/// Where the file has a fault or an allocation fails, nothing is written. A fault of the writer (`Which::Out`) has the
+/// number of bytes written.
 pub fn script_run<W: Write>(
     alloc: Global,
     file: &[u8],
     points: SamplePoints,
     out: &mut W,
 ) -> Result<(), RunFault>
-    // The outcome of these bytes goes out: the fault of the file, else the script.
+    // The outcome is the fault of the file, else the script.
     ensures runs { RunsAlone (W.contents out.old) (W.contents out.new) (script_outcome points file.now) result }
-    // With all points, the script makes the canonical file of the bank of that of the empty bank.
+    // With all points, the script run on the file of the empty bank writes the canonical file of the bank.
     ensures remade { IsRemade file.now }
 {
     let (bank, _counts) = read(alloc, file)?;

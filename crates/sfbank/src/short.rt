@@ -1,4 +1,4 @@
-//! Which of two scripts is shorter, without writing them.
+//! Finds which of two scripts is shorter, without writing them.
 ghost use Rattle.std.specs.Prelude.{◌≡◌, [], IsTrue, IfOk, IfSome, IsSomeAnd};
 ghost use Rattle.bank_text.specs.Whole.{Leads};
 
@@ -13,8 +13,8 @@ use std::alloc::Global;
 use std::io;
 use std::io::{ErrorKind, Write};
 
-/// The edits that were found between two banks, if their script is not longer than the one that replaces the
-/// first bank by the second.
+/// The edits found between two banks, if their script is not longer than the one that replaces the first bank by the
+/// second.
 pub(crate) fn short_difference<'a>(
     alloc: Global,
     from: &Bank<'a>,
@@ -31,14 +31,14 @@ pub(crate) fn short_difference<'a>(
     Ok(None)
 }
 
-// Of the choice no more is proved than that no edits are short.
+// Proved only: no edits are always short.
 fn are_short(edits: &[Edit<'_>], from: &Bank<'_>, to: &Bank<'_>) -> bool
     ensures { edits.now ≡ [] → IsTrue result }
 {
     edits.is_empty() || !replacement_fits(length_of(edits).saturating_sub(1), from, to)
 }
 
-/// Takes so many bytes, of which it holds none, and fails at the first piece that is longer than what is left.
+/// Accepts at most `left` bytes, of which it keeps none, and fails at the first write that is longer.
 #[derive(Drop)]
 struct Room {
     left: u64,
@@ -59,7 +59,7 @@ impl Write for Room {
     }
 }
 
-// The length of the lines of edits.
+// The length of edits as script lines, in bytes.
 fn length_of(edits: &[Edit<'_>]) -> u64 {
     let mut room = Room { left: u64::MAX };
     let mut output = Output::to(&mut room);
@@ -67,7 +67,7 @@ fn length_of(edits: &[Edit<'_>]) -> u64 {
     output.end().unwrap_or(u64::MAX)
 }
 
-// Whether the script that replaces a bank has at most so many bytes.
+// Whether the script that replaces a bank by another has at most `most` bytes.
 fn replacement_fits(most: u64, from: &Bank<'_>, to: &Bank<'_>) -> bool {
     let mut room = Room { left: most };
     let mut output = Output::to(&mut room);

@@ -1,4 +1,4 @@
-//! What a file has, as lines of text.
+//! The listing of a bank, from bytes to bytes.
 ghost use Rattle.sfbank.specs.Outcome.{show_outcome, show_details_outcome};
 ghost use Rattle.sfbank.specs.Written.{RunsAlone};
 
@@ -9,32 +9,30 @@ use sfbank_program::RunFault;
 use std::alloc::Global;
 use std::io::Write;
 
-/// Reads the file, and writes the listing of its bank and of the counts of reading it to `out`, whole
-/// and flushed.
+/// Reads the file, writes the listing of its bank and of the counts of reading it to `out`, and flushes `out`.
 ///
-/// Where the file has a fault, not one byte goes to the writer; so it is when out of memory. A
-/// writer's fault, which is of `Which::Out`, tells how many bytes of the text it took.
+/// Where the file has a fault or an allocation fails, nothing is written. A fault of the writer (`Which::Out`) has the
+/// number of bytes written.
 pub fn show_run<W: Write>(alloc: Global, file: &[u8], out: &mut W) -> Result<(), RunFault>
-    // The outcome of these bytes goes out: the fault of the file, else the listing.
+    // The outcome is the fault of the file, else the listing.
     ensures runs { RunsAlone (W.contents out.old) (W.contents out.new) (show_outcome file.now) result }
 {
     let (bank, counts) = read(alloc, file)?;
     deliver_listing(&bank, &counts, out)
 }
 
-/// Reads the file, and writes the listing of its bank and of the counts of reading it to `out`, whole and
-/// flushed, with these details: behind the line of each member how often it is named, or its zones, or
-/// both. With neither it is the listing of `show_run`.
+/// Does what `show_run` does, with details: after the line of each preset, instrument or sample how often it is used,
+/// its zones, or both. With neither it writes the listing of `show_run`.
 ///
-/// Where the file has a fault, not one byte goes to the writer; so it is when out of memory. A
-/// writer's fault, which is of `Which::Out`, tells how many bytes of the text it took.
+/// Where the file has a fault or an allocation fails, nothing is written. A fault of the writer (`Which::Out`) has the
+/// number of bytes written.
 pub fn show_details_run<W: Write>(
     alloc: Global,
     file: &[u8],
     details: Details,
     out: &mut W,
 ) -> Result<(), RunFault>
-    // The outcome of these bytes goes out: the fault of the file, else the listing with these details.
+    // The outcome is the fault of the file, else the listing with these details.
     ensures runs { RunsAlone (W.contents out.old) (W.contents out.new) (show_details_outcome details file.now) result }
 {
     let (bank, counts) = read(alloc, file)?;

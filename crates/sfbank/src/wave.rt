@@ -1,4 +1,4 @@
-//! A sample as a WAVE file.
+//! A sample as a WAVE file, from bytes to bytes.
 ghost use Rattle.sfbank.specs.Recordings.{wave_outcome};
 ghost use Rattle.sfbank.specs.Written.{RunsAlone};
 
@@ -9,18 +9,18 @@ use sfbank_program::RunFault;
 use std::alloc::Global;
 use std::io::Write;
 
-/// Reads the file, and writes sample `sample` of its bank, counted from 0, to `out` as a WAVE file, whole and flushed: one
-/// channel of 16 bits, its points as they are, and a sampler chunk with its key, correction and loop.
+/// Reads the file, writes sample `sample` of its bank, counted from 0, to `out` as a WAVE file, and flushes `out`. The
+/// file is 16-bit mono: the sample's points, and a `smpl` chunk with its key, correction and loop.
 ///
-/// Where the file has a fault, or the bank no such sample, not one byte goes to the writer; so it is when out of memory.
-/// A writer's fault, which is of `Which::Out`, tells how many bytes of the WAVE file it took.
+/// Where the file has a fault, the bank has no such sample or an allocation fails, nothing is written. A fault of the
+/// writer (`Which::Out`) has the number of bytes written.
 pub fn wave_run<W: Write>(
     alloc: Global,
     file: &[u8],
     sample: u32,
     out: &mut W,
 ) -> Result<(), RunFault>
-    // The outcome of these bytes goes out: the fault of the file, else `NoSuchSample`, else the WAVE file.
+    // The outcome is the fault of the file, else `NoSuchSample`, else the WAVE file.
     ensures runs { RunsAlone (W.contents out.old) (W.contents out.new) (wave_outcome file.now sample) result }
 {
     let (bank, _counts) = read(alloc, file)?;

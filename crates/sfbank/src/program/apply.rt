@@ -12,8 +12,7 @@ use std::alloc::Global;
 use std::io::Write;
 use std::rt::Files;
 
-/// Runs the script on the bank, if its edits are of the forms that are taken. Both are read whole
-/// first, so an output may be one of them.
+/// Runs the script on the bank. Both files are read whole first, so either output may replace an input.
 pub(crate) fn apply<'a, R: Files + AllocGlobal, P: Progress>(
     rt: &'a R,
     paths: ApplyPaths<'a>,
@@ -38,7 +37,7 @@ pub(crate) fn apply<'a, R: Files + AllocGlobal, P: Progress>(
     end_both_at(paths.out, paths.undo, out, undo, run)
 }
 
-/// The run that takes these forms of edits.
+/// Runs `edit_run_with_progress` or `neutral_run`, by the forms of edits that are accepted.
 #[tactic(auto, unfolding(crate::specs::Outcome::outcome, crate::specs::Outcome::neutral_outcome))]
 fn run_asked<W: Write, V: Write, P: Progress>(
     alloc: Global,

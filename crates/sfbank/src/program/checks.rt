@@ -1,9 +1,9 @@
-//! Outputs that are rejected before anything is read.
+//! Checks of output paths, before anything is read.
 
 use sfbank_program::{Fault, check_apart, check_no_bank};
 use std::rt::Files;
 
-/// Rejects an output that is one file with one of the others.
+/// Rejects an output that is the same file as one of the others.
 pub(super) fn apart<'a, R: Files + AllocGlobal>(
     rt: &R,
     output: &'a str,
@@ -15,7 +15,7 @@ pub(super) fn apart<'a, R: Files + AllocGlobal>(
     }
 }
 
-/// Rejects an output that would replace a bank, unless that is forced.
+/// Rejects an output that would replace a bank, except with `force`.
 pub(super) fn no_bank<'a, R: Files + AllocGlobal>(
     rt: &R,
     output: &'a str,

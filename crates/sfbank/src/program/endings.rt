@@ -1,10 +1,10 @@
-//! How a command ends, by how its run did.
+//! Ends a command by the result of its run: finishes the output files, and adds paths to faults.
 
 use sfbank_program::{Fault, OutputFile, RunFault, Sink, Which, end_both};
 use std::io::Write;
 use std::rt::Files;
 
-/// The end of a run whose output is at a path.
+/// Adds the path of the output to the fault of a run.
 pub(super) fn at<'a>(path: &'a str, run: Result<(), RunFault>) -> Result<(), Fault<'a>> {
     match run {
         Ok(()) => Ok(()),
@@ -12,7 +12,7 @@ pub(super) fn at<'a>(path: &'a str, run: Result<(), RunFault>) -> Result<(), Fau
     }
 }
 
-/// The end of a run whose one output is at a path.
+/// Ends a run with one output.
 pub(super) fn end_at<'a, R: Files, O: Write>(
     path: &'a str,
     out: Sink<'a, '_, R, O>,
@@ -25,7 +25,7 @@ pub(super) fn end_at<'a, R: Files, O: Write>(
     }
 }
 
-/// The end of a run whose two outputs are files, each at its path.
+/// Ends a run with two output files.
 pub(super) fn end_both_at<'a, R: Files>(
     out_path: &'a str,
     undo_path: &'a str,
@@ -40,7 +40,7 @@ pub(super) fn end_both_at<'a, R: Files>(
     }
 }
 
-/// The end of a run with two outputs, each at its path.
+/// Adds the path of the output that a fault is about.
 fn at_either<'a>(out: &'a str, undo: &'a str, run: Result<(), RunFault>) -> Result<(), Fault<'a>> {
     match run {
         Err(RunFault::Write(Which::Undo, written)) => {

@@ -4,7 +4,7 @@ use fault_explanations::{explain as explained, write_explanation};
 use sfbank_program::{Fault, RunFault, STANDARD_OUTPUT, Which};
 use std::io::Write;
 
-/// Tells on the standard output what the fault or the refusal of a number means.
+/// Writes the meaning of a fault or cause number to the standard output.
 pub(crate) fn explain<'a, O: Write>(number: u32, output: &mut O) -> Result<(), Fault<'a>> {
     let Some(explanation) = explained(number) else {
         return Err(Fault::Unexplained(number));

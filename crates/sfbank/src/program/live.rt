@@ -19,11 +19,11 @@ use sfbank_program::{
 use std::io::{BufReader, Read, Write};
 use std::rt::Files;
 
-/// The path by which the standard input is named in a fault.
+/// The path reported for the standard input in a fault.
 const STANDARD_INPUT: &str = "-";
 
-/// Edits and plays the bank by the lines of the input, and answers them. The bank is read whole first. The frames
-/// go to a file that is written as it is, so it may be a pipe to a player.
+/// Runs a live session on the bank. The bank is read whole first. Frames are written directly to their file, so it may
+/// be a pipe to a player.
 pub(crate) fn live<'a, R: Files + AllocGlobal, I: Read, O: Write>(
     rt: &'a R,
     paths: LivePaths<'a>,
@@ -48,7 +48,7 @@ pub(crate) fn live<'a, R: Files + AllocGlobal, I: Read, O: Write>(
         &mut host,
     );
     match run {
-        // Where no frame was asked for, the file of frames is made all the same.
+        // Creates the file of frames even if no frame was written.
         Ok(()) => match pcm.flush() {
             Ok(()) => Ok(()),
             Err(_) => at(paths.pcm, Err(RunFault::Write(Which::Out, 0))),
@@ -57,7 +57,7 @@ pub(crate) fn live<'a, R: Files + AllocGlobal, I: Read, O: Write>(
     }
 }
 
-/// Why the command is not done, by the session's fault.
+/// The program's fault for a session's fault.
 fn ended(fault: LiveFault, pcm: &str) -> Fault<'_> {
     match fault {
         LiveFault::File(fault) => Fault::Run(RunFault::Read(fault), STANDARD_OUTPUT),
@@ -70,8 +70,8 @@ fn ended(fault: LiveFault, pcm: &str) -> Fault<'_> {
     }
 }
 
-/// Saves a session's bank to files, as `apply` writes them: UNDO first where a file is replaced. The paths are
-/// those of the session's bank and of its frames.
+/// Saves a session's bank to files as `apply` does: where it replaces a file, the undo script is written first.
+/// `paths` are those of the session's bank and frames.
 #[derive(Drop)]
 struct Host<'a, R: Files> {
     rt: &'a R,
@@ -79,7 +79,7 @@ struct Host<'a, R: Files> {
 }
 
 impl<R: Files + AllocGlobal> Host<'_, R> {
-    /// Rejects a save that would destroy the session's bank or frames, or a bank by an undo script.
+    /// Rejects a save that would overwrite the session's bank or frames, or replace a bank by an undo script.
     fn check(&self, out: &str, undo: &str) -> Result<(), SaveFault> {
         check_apart(self.rt, out, &[self.paths.pcm]).map_err(out_rejected)?;
         check_apart(self.rt, undo, &[self.paths.input, self.paths.pcm, out]).map_err(
@@ -132,7 +132,7 @@ impl<R: Files + AllocGlobal> Saves for Host<'_, R> {
     }
 }
 
-/// The canonical file of the bank goes out, and then the script that takes it back.
+/// Writes the canonical file of the bank, then its undo script.
 fn deliver_save<W: Write, V: Write>(
     bank: &Bank<'_>,
     back: &[Edit<'_>],

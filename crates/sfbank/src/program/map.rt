@@ -7,7 +7,7 @@ use sfbank_program::{Fault, Sink, read_file};
 use std::io::Write;
 use std::rt::Files;
 
-/// Draws the ranges of a preset or an instrument. The bank is read whole first, so the output may be the input.
+/// Writes the map of a preset or an instrument. The bank is read whole first, so the output may replace it.
 pub(crate) fn map<'a, R: Files + AllocGlobal, O: Write>(
     rt: &'a R,
     paths: MapPaths<'a>,

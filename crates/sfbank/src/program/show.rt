@@ -7,7 +7,7 @@ use sfbank_program::{Fault, STANDARD_OUTPUT, read_file};
 use std::io::Write;
 use std::rt::Files;
 
-/// Tells on the standard output what a bank has.
+/// Writes the listing of a bank to the standard output.
 pub(crate) fn show<'a, R: Files + AllocGlobal, O: Write>(
     rt: &'a R,
     paths: ShowPaths<'a>,

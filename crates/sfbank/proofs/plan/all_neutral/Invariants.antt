@@ -2,6 +2,6 @@ use Rattle.std.proofs.Common.{◌≡◌, drop}
 use Rattle.sfbank.specs.Outcome.{first_not_neutral}
 use Rattle.sfbank.proofs.plan.all_neutral.Given as goal
 
--- no line that is behind is another than neutral
+-- all lines so far are neutral
 abbrev pub invariant-loop-line : goal.invariant-loop-line
 invariant-loop-line l = first_not_neutral l.lines ≡ first_not_neutral (drop l.line-index l.lines)

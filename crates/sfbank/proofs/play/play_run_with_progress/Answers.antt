@@ -36,7 +36,7 @@ returns-clause-runs g c =
     c.in_ok-bank.ensures.ok (c.in_ok-notes.ensures.answers ∙ ap Ok (sym c.as_slice.ensures.value))
     (c.as_slice-2.ensures.value ∙ c.in_ok-frames.ensures.value) c.deliver_wave.ensures
 
--- ---- on the canonical file
+-- ---- the canonical file
 
 pub returns-in_err-bank-clause-canon : goal.returns-in_err-bank-clause-canon
 returns-in_err-bank-clause-canon g c =
