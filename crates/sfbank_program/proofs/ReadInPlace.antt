@@ -1,10 +1,10 @@
--- A read into the rear of a buffer.
+-- A read into the end of a buffer.
 use Rattle.std.proofs.Common.{◌≡◌, ℕ, ◌≤◌, List, ◌++◌, length, take, drop, sym, ap, subst, ◌∙◌, drop_at}
 use Rattle.std.proofs.lemmas.List.{take-append-le}
 use Rattle.std.specs.Prelude.{Option}
 use Rattle.std.specs.Io.KnownBytes.{Consumes}
 
--- what was read into the part stands after the front
+-- the bytes read follow the front
 pub Consumes-in_place : (a b : Option (List ℕ)) (n : ℕ) (front part rest : List ℕ) (at : ℕ) → length front ≡ at
     → n ≤ length part
     → Consumes a b (take n part) → Consumes a b (take n (drop at (front ++ (part ++ rest))))

@@ -5,7 +5,7 @@ use Rattle.outputs.specs.declared.writing.WriteFault.{WriteFault}
 use Rattle.outputs.specs.Writing.{Writes}
 use Rattle.sfbank_program.specs.Telling.{GoesOut}
 
--- a text that was written went out, or a front of it
+-- a prefix of a written text was written
 pub written_goes_out : {U : Type 0} (a b : Option (List ℕ)) (line : List ℕ) (r : Result U WriteFault)
     → Writes a b line r → GoesOut a b line
 written_goes_out a b line (Ok u) h =

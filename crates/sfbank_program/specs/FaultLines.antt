@@ -1,4 +1,4 @@
--- The lines by which faults are told, and the exit status of a run's fault.
+-- The lines that report faults, and the exit status of a run's fault.
 use Rattle.std.specs.Prelude.{ℕ, List, [], ◌∷◌, ◌++◌, codes, decimal, Bool, true, false, Option, Some, None}
 use Rattle.std.specs.List.{concat}
 use Rattle.bank_format.specs.declared.fault.ReadFault.{ReadFault}
@@ -30,21 +30,21 @@ use Rattle.sfbank_program.specs.declared.run_fault.RunFault.TheVariants.{Recordi
 abbrev pub named_line : List ℕ → ℕ → List ℕ → List ℕ
 named_line start number name = concat (start ∷ decimal number ∷ codes " " ∷ name ∷ codes "\n" ∷ [])
 
--- a fault of reading, by its number and its name
+-- a read fault, by its number and its name
 abbrev pub read_text : ReadFault → List ℕ
 read_text fault = named_line (codes "read fault ") (reading.number_of fault) (reading.name_of fault)
 
 abbrev pub read_line : ReadFault → List ℕ
 read_line fault = codes "sfbank: " ++ read_text fault
 
--- of the first and the second of two files
+-- a read fault of the first or the second of two files
 abbrev pub first_read_line : ReadFault → List ℕ
 first_read_line fault = codes "sfbank: A: " ++ read_text fault
 
 abbrev pub second_read_line : ReadFault → List ℕ
 second_read_line fault = codes "sfbank: B: " ++ read_text fault
 
--- a fault on a line of a text, by its number and its name
+-- a fault in a line of a text, by its number and its name
 abbrev pub text_line : ℕ → ℕ → List ℕ → List ℕ
 text_line line number name =
     concat
@@ -57,26 +57,26 @@ script_line fault = text_line (scripts.line_of fault) (scripts.number_of fault) 
 abbrev pub notes_line : NoteFault → List ℕ
 notes_line fault = text_line (notes.line_of fault) (notes.number_of fault) (notes.name_of fault)
 
--- the limit that a bank would break
+-- the limit that a bank would exceed
 abbrev pub limit_text : Option Limit → List ℕ
 limit_text (Some limit) = codes " " ++ word_of limit
 limit_text None = []
 
--- the line and why it is refused, by its number and its name
+-- a line and why it is refused, by number and name
 abbrev pub refusal_text : ℕ → Refusal → List ℕ
 refusal_text line why =
     concat
     (codes "sfbank: line " ∷ decimal line ∷ codes ": refused " ∷ decimal (refusals.refusal_number why) ∷ codes " "
     ∷ refusals.refusal_name why ∷ [])
 
--- the step of a group, counted from 0, and the cause that stands against it
+-- the index of a step of a group, counted from 0, and the cause to refuse it
 abbrev pub step_text : ℕ → Cause → List ℕ
 step_text step cause =
     concat
     (codes " " ∷ decimal step ∷ codes " " ∷ decimal (causes.number_of cause) ∷ codes " " ∷ causes.name_of cause
     ∷ [])
 
--- what stands behind the name
+-- what follows the name
 abbrev pub detail_text : Refusal → List ℕ
 detail_text (Of cause) = limit_text (causes.limit_of cause)
 detail_text (GroupRefused step cause) = step_text step cause ++ limit_text (causes.limit_of cause)
@@ -87,7 +87,7 @@ detail_text NothingToRedo = []
 abbrev pub refused_line : ℕ → Refusal → List ℕ
 refused_line line why = refusal_text line why ++ (detail_text why ++ codes "\n")
 
--- a line whose edit is not neutral, where all have to be
+-- a line that is not neutral, in a run that accepts neutral edits only
 abbrev pub not_neutral_line : ℕ → List ℕ
 not_neutral_line line = concat (codes "sfbank: line " ∷ decimal line ∷ codes ": refused 50 NotNeutral\n" ∷ [])
 
@@ -95,7 +95,7 @@ not_neutral_line line = concat (codes "sfbank: line " ∷ decimal line ∷ codes
 abbrev pub recording_line : WaveFault → List ℕ
 recording_line fault = named_line (codes "sfbank: wave fault ") (recordings.number_of fault) (recordings.name_of fault)
 
--- a member that isn't there, which no line asked for
+-- a preset, instrument or sample that does not exist, in a command without script lines
 abbrev pub no_member_line : Cause → List ℕ
 no_member_line cause = named_line (codes "sfbank: refused ") (causes.number_of cause) (causes.name_of cause)
 
@@ -103,7 +103,7 @@ abbrev pub write_line : List ℕ → ℕ → List ℕ
 write_line path written =
     concat (codes "sfbank: write fault " ∷ path ∷ codes " after " ∷ decimal written ∷ codes " bytes\n" ∷ [])
 
--- an input at a path that can't be read whole
+-- an input that can't be read whole
 abbrev pub file_line : List ℕ → List ℕ
 file_line path = concat (codes "sfbank: file fault " ∷ path ∷ codes "\n" ∷ [])
 
@@ -111,12 +111,12 @@ file_line path = concat (codes "sfbank: file fault " ∷ path ∷ codes "\n" ∷
 abbrev pub reason_line : List ℕ → List ℕ
 reason_line reason = concat (codes "  " ∷ reason ∷ codes "\n" ∷ [])
 
--- the reason is for a person at a terminal alone
+-- the reason is shown on a terminal only
 abbrev pub shown_reason : Bool → InputFault → List ℕ
 shown_reason true fault = reason_line (reason_of fault)
 shown_reason false fault = []
 
--- what is written of an input that can't be read whole, on a terminal or elsewhere
+-- the report of an input that can't be read whole, on a terminal or elsewhere
 abbrev pub file_text : Bool → List ℕ → InputFault → List ℕ
 file_text is_terminal path fault = file_line path ++ shown_reason is_terminal fault
 
@@ -129,7 +129,7 @@ rejected_line number name path =
 abbrev pub output_line : List ℕ → OutputFault → List ℕ
 output_line path fault = rejected_line (rejected.number_of fault) (rejected.name_of fault) path
 
--- a number that no fault and no refusal has
+-- a number that no fault and no cause has
 abbrev pub unexplained_line : ℕ → List ℕ
 unexplained_line number =
     concat (codes "error: no fault and no refusal has the number " ∷ decimal number ∷ codes "\n" ∷ [])

@@ -1,4 +1,4 @@
--- The reason by which each fault of an input is told.
+-- The reason that is shown for each fault of an input.
 use Rattle.std.specs.Prelude.{ℕ, List, codes}
 use Rattle.sfbank_program.specs.declared.input_fault.InputFault.{InputFault}
 use Rattle.sfbank_program.specs.declared.input_fault.InputFault.TheVariants.{NotFound, Denied, IsFolder, NotFolder}

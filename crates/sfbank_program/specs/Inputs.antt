@@ -2,19 +2,19 @@
 use Rattle.std.specs.Prelude.{◌≡◌, ◌<◌, ◌++◌, ℕ, List, length, Option}
 use Rattle.std.specs.Io.KnownBytes.{Consumes, IsAtEnd}
 
--- The bytes that are read at most: one more than a file has, which shows that it is too long.
+-- The most bytes that are read: one more than the longest file, to detect that an input is too long.
 abbrev pub most_bytes : ℕ
 most_bytes = 4294967304
 
--- the next bytes of an input are put after those before; none are its end
+-- The next bytes of an input are appended; no bytes mean its end.
 abbrev pub TakesPiece : Option (List ℕ) → Option (List ℕ) → List ℕ → List ℕ → ℕ → Type 0
 TakesPiece old new before after n =
     (piece : List ℕ) × (after ≡ before ++ piece) × (length piece ≡ n) × Consumes old new piece × (n ≡ 0 → IsAtEnd new)
 
--- an input of no more than a file has is taken whole
+-- an input within the limit is read whole
 abbrev pub TakesAll : Option (List ℕ) → Option (List ℕ) → List ℕ → Type 0
 TakesAll old new bytes = Consumes old new bytes × IsAtEnd new × (length bytes < most_bytes)
 
--- an input has a byte more than a file has at most
+-- an input is longer than the limit
 abbrev pub TakesMost : Option (List ℕ) → Option (List ℕ) → Type 0
 TakesMost old new = (bytes : List ℕ) × Consumes old new bytes × (length bytes ≡ most_bytes)

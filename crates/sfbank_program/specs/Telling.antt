@@ -6,7 +6,7 @@ use Rattle.sfbank_program.specs.declared.fault.Fault.{Fault}
 use Rattle.sfbank_program.specs.declared.fault.Fault.TheVariants.{Words, NotText, Unexplained, File, Output, Run}
 use Rattle.sfbank_program.specs.declared.fault.Fault.TheVariants.{Unread}
 
--- the exit status
+-- the exit status of a fault
 abbrev pub status_of : Fault → ℕ
 status_of (Words error) = 1
 status_of NotText = 1
@@ -16,12 +16,12 @@ status_of (Output fault path) = 5
 status_of (Run fault path) = lines.status_of fault
 status_of Unread = 5
 
--- the line goes out, or a front of it where a write fails, and nothing else
+-- a prefix of the line is written: all of it, or less if a write fails
 abbrev pub GoesOut : Option (List ℕ) → Option (List ℕ) → List ℕ → Type 0
 GoesOut old new line = (written : ℕ) × Appends old new (take written line)
 
--- A fault is reported by its line; on a terminal the reason of a file fault follows. A pipe that its reader closed is
--- reported by no line. What clap says of refused words is its own.
+-- A fault is reported by its line, followed on a terminal by the reason of a file fault. A pipe that its reader
+-- closed is not reported. Clap's text for rejected arguments is not specified.
 abbrev pub Tells : Bool → Option (List ℕ) → Option (List ℕ) → Fault → Type 0
 Tells is_terminal old new (Words error) = ⊤
 Tells is_terminal old new NotText = GoesOut old new (codes "error: a word is not text\n")
@@ -31,7 +31,7 @@ Tells is_terminal old new (Output fault path) = GoesOut old new (lines.output_li
 Tells is_terminal old new (Run fault path) = GoesOut old new (lines.fault_line path.now fault)
 Tells is_terminal old new Unread = Keeps old new
 
--- A run that is done writes nothing, with status 0. Any other reports its fault, with the status of it.
+-- A run that succeeds writes nothing, with status 0. Any other reports its fault, with the fault's status.
 abbrev pub Ends : Bool → Option (List ℕ) → Option (List ℕ) → ℕ → Type 0
 Ends is_terminal old new status =
     ((status ≡ 0) × Keeps old new) ⊎ ((fault : Fault) × (status ≡ status_of fault) × Tells is_terminal old new fault)

@@ -1,4 +1,4 @@
-//! A descriptor that the program was started with, which is written where it stands.
+//! A descriptor that the program was started with, written from its current position.
 
 use itoa::Buffer;
 use std::alloc::AllocError;
@@ -7,25 +7,25 @@ use std::io;
 use std::io::{ErrorKind, Read, Seek, SeekFrom};
 use std::rt::Files;
 
-/// The most bytes of what the system reports of a descriptor in its first lines.
+/// The most bytes that are read of `/proc/self/fdinfo/N`; `pos` and `flags` are in its first lines.
 const INFO_LENGTH: usize = 256;
 
-/// The most bytes of the path of that report.
+/// The capacity for the path of that file, in bytes.
 const INFO_PATH_ROOM: usize = 32;
 
-/// The flag of a descriptor that appends.
+/// The bit of `flags` for `O_APPEND`.
 const APPENDS: u64 = 0o2000;
 
-/// A descriptor by its number.
+/// An open descriptor of this process.
 #[derive(Drop)]
 pub(crate) struct Descriptor {
     number: i32,
-    /// Room for the path of what the system reports of it.
+    /// Capacity for the path of its `fdinfo` file.
     info_path: String,
 }
 
 impl Descriptor {
-    /// The descriptor of a number, with all memory that opening it needs.
+    /// A descriptor by its number. All memory that opening it needs is allocated here.
     pub(crate) fn new<R: AllocGlobal>(rt: &R, number: i32) -> Result<Descriptor, AllocError> {
         Ok(Descriptor {
             number,
@@ -33,8 +33,8 @@ impl Descriptor {
         })
     }
 
-    /// Opens once more what the descriptor has open, by a path that leads to it. A regular file is neither emptied nor
-    /// written from its start: writing goes on where the descriptor stands, or at the file's end if it appends.
+    /// Opens the descriptor's file again, by a path that leads to it. A regular file is not truncated: it is written
+    /// from the descriptor's position on, or appended to if the descriptor appends.
     pub(crate) fn open<R: Files>(&mut self, rt: &R, path: &str) -> io::Result<R::File> {
         if !is_regular(rt, path)? {
             return OpenOptions::new().write(true).open(rt, path);
@@ -64,14 +64,14 @@ fn is_regular<R: Files>(rt: &R, path: &str) -> io::Result<bool> {
     Ok(std::fs::metadata(rt, path)?.is_file())
 }
 
-/// Where the next bytes of a descriptor go.
+/// Where the next bytes of a descriptor are written.
 #[derive(Clone, Copy)]
 enum Standing {
     AtEnd,
     At(u64),
 }
 
-/// Makes the path of what the system reports of a descriptor, in room that the text has.
+/// Sets the path of the descriptor's `fdinfo` file, within its capacity.
 fn set_info_path(info_path: &mut String, number: i32) -> Result<(), AllocError> {
     let mut digits = Buffer::new();
     info_path.clear();
@@ -79,7 +79,7 @@ fn set_info_path(info_path: &mut String, number: i32) -> Result<(), AllocError> 
     info_path.push_str(digits.format(number))
 }
 
-/// Reads the lines `pos:` and `flags:`, the second in octal digits.
+/// Parses the lines `pos:`, and `flags:`, which is octal.
 fn standing_in(info: &[u8]) -> Option<Standing> {
     let text = std::str::from_utf8(info).ok()?;
     let flags = u64::from_str_radix(value_of(text, "flags:")?, 8).ok()?;

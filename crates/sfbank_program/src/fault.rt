@@ -1,4 +1,4 @@
-//! How a command ends that is not done.
+//! Why a command fails.
 ghost use Rattle.std.specs.Prelude.{◌≡◌};
 ghost use Rattle.sfbank_program.specs.Ending.{unread_if};
 
@@ -7,30 +7,30 @@ use crate::run_fault::RunFault;
 use outputs::OutputFault;
 use std::alloc::AllocError;
 
-/// The path by which the standard output is named in a fault.
+/// The path reported for the standard output in a fault.
 pub const STANDARD_OUTPUT: &str = "-";
 
-/// Why the program is not done.
+/// Why a command fails.
 #[derive(Drop)]
 pub enum Fault<'a> {
-    /// The words are refused, by clap's text.
+    /// clap rejects the arguments, with this text.
     Words(clap::Error),
-    /// A word is not text.
+    /// An argument is not valid UTF-8.
     NotText,
-    /// No fault and no refusal has this number.
+    /// No fault or cause has this number.
     Unexplained(u32),
-    /// An input at this path is not there as a whole, and why.
+    /// The input at this path can't be read whole.
     File(&'a str, InputFault),
-    /// An output at this path is rejected.
+    /// The output at this path is rejected.
     Output(OutputFault, &'a str),
-    /// The run is not done. Where a write failed, it is at this path.
+    /// The run failed. A write fault is about this path.
     Run(RunFault, &'a str),
-    /// The reader of an output closed its pipe early, which needs no words.
+    /// The reader of an output closed its pipe early, which is not reported.
     Unread,
 }
 
 impl<'a> Fault<'a> {
-    /// The fault itself, or `Unread` where a write failed since the reader of the output closed its pipe.
+    /// Returns `Unread` for a write fault if the reader of the output closed its pipe, else this fault.
     pub fn unread_if(self, is_unread: bool) -> Fault<'a>
         ensures { result ≡ unread_if is_unread self.entry }
     {

@@ -1,4 +1,4 @@
-//! The lines by which faults are told.
+//! The lines that report faults.
 ghost use Rattle.std.specs.Prelude.{◌≡◌, IfOk};
 ghost use Rattle.outputs.specs.Output.{Puts};
 ghost use Rattle.outputs.specs.Writing.{Writes};
@@ -17,8 +17,8 @@ use outputs::{Output, OutputFault, WriteFault};
 use recordings::WaveFault;
 use std::io::Write;
 
-/// Writes the line of a run's fault, with its line feed, and gives the exit status that goes with it.
-/// The line of a write fault names `path`.
+/// Writes the line of a run's fault, with its line feed, and returns its exit status. The line of a write fault has
+/// `path`.
 pub fn fault_text<W: Write>(fault: &RunFault, path: &str, out: &mut W) -> Result<u8, WriteFault>
     ensures line { Writes (W.contents out.old) (W.contents out.new) (fault_line path.now fault.now) result }
     ensures status { IfOk result (λ status. status ≡ status_of fault.now) }
@@ -29,9 +29,9 @@ pub fn fault_text<W: Write>(fault: &RunFault, path: &str, out: &mut W) -> Result
     Ok(exit_status(fault))
 }
 
-/// The exit status of a program whose run ends so: 2 for a fault of a file, a WAVE file included, 3 of the
-/// script or of the notes, 4 for a refused edit, a member that isn't there or banks of different versions, 5 for
-/// a write fault, and 6 when out of memory.
+/// The exit status of a run's fault: 2 for a fault of a bank file or a WAVE file, 3 of a script or notes, 4 for a
+/// refused edit, a preset, instrument or sample that does not exist or banks of different versions, 5 for a write
+/// fault, and 6 for a failed allocation.
 pub fn exit_status(fault: &RunFault) -> u8
     ensures { result ≡ status_of fault.now }
 {
@@ -77,7 +77,7 @@ fn put_read_fault<W: Write>(fault: ReadFault, output: &mut Output<'_, W>)
     put_read_text(fault, output);
 }
 
-// A fault of the first or the second of two files, which the words of the program call A and B.
+// A fault of the first or the second of two files, which help calls A and B.
 fn put_first_read_fault<W: Write>(fault: ReadFault, output: &mut Output<'_, W>)
     ensures { Puts W.contents output.old output.new (first_read_line fault) }
 {
@@ -110,7 +110,7 @@ fn put_notes_fault<W: Write>(fault: NoteFault, output: &mut Output<'_, W>)
     put_text_fault(fault.line(), fault.number(), fault.name(), output);
 }
 
-// A fault on a line of a text, by its number and its name.
+// A fault in a line of a text, by its number and its name.
 fn put_text_fault<W: Write>(line: u64, number: u8, name: &str, output: &mut Output<'_, W>)
     ensures { Puts W.contents output.old output.new (text_line line number name.now) }
 {
@@ -138,7 +138,7 @@ fn put_refused<W: Write>(line: u64, why: Refusal, output: &mut Output<'_, W>)
     output.put(b"\n");
 }
 
-// The line and why it is refused, by its number and its name.
+// A line and why it is refused, by number and name.
 fn put_refusal<W: Write>(line: u64, why: Refusal, output: &mut Output<'_, W>)
     ensures { Puts W.contents output.old output.new (refusal_text line why) }
 {
@@ -178,7 +178,7 @@ fn put_recording_fault<W: Write>(fault: WaveFault, output: &mut Output<'_, W>)
     put_named("sfbank: wave fault ", fault.number(), fault.name(), output);
 }
 
-// A member that isn't there, which no line asked for.
+// A preset, instrument or sample that does not exist, in a command without script lines.
 fn put_no_member<W: Write>(cause: Cause, output: &mut Output<'_, W>)
     ensures { Puts W.contents output.old output.new (no_member_line cause) }
 {
@@ -202,7 +202,7 @@ fn put_named<'t, W: Write>(start: &'t str, number: u8, name: &'t str, output: &m
     );
 }
 
-// What stands behind the name.
+// What follows the name.
 fn put_detail<W: Write>(why: Refusal, output: &mut Output<'_, W>)
     ensures { Puts W.contents output.old output.new (detail_text why) }
 {
@@ -216,7 +216,7 @@ fn put_detail<W: Write>(why: Refusal, output: &mut Output<'_, W>)
     }
 }
 
-// The step of a group, and the cause that stands against it.
+// The index of a step of a group, and the cause to refuse it.
 fn put_step<W: Write>(step: usize, cause: Cause, output: &mut Output<'_, W>)
     ensures { Puts W.contents output.old output.new (step_text step cause) }
 {
@@ -235,7 +235,7 @@ fn put_step<W: Write>(step: usize, cause: Cause, output: &mut Output<'_, W>)
     );
 }
 
-// The limit that a bank would break.
+// The limit that a bank would exceed.
 fn put_limit<W: Write>(limit: Option<Limit>, output: &mut Output<'_, W>)
     ensures { Puts W.contents output.old output.new (limit_text limit) }
 {
@@ -260,7 +260,7 @@ fn put_write_fault<W: Write>(path: &str, written: u64, output: &mut Output<'_, W
     );
 }
 
-/// Writes the line of an input at a path that can't be read whole, and on a terminal its reason below.
+/// Writes the line of an input that can't be read whole, and on a terminal its reason on a second line.
 pub(crate) fn file_fault_text<W: Write>(
     path: &str,
     fault: InputFault,
@@ -292,7 +292,7 @@ fn put_file_line<W: Write>(path: &str, output: &mut Output<'_, W>)
     put_pieces(&[b"sfbank: file fault ", path.as_bytes(), b"\n"], output);
 }
 
-// Programs that read the line expect nothing after it, so the reason is for a person at a terminal alone.
+// Only on a terminal: programs that read the line expect nothing after it.
 fn put_shown_reason<W: Write>(fault: InputFault, is_terminal: bool, output: &mut Output<'_, W>)
     ensures { Puts W.contents output.old output.new (shown_reason is_terminal fault) }
 {
@@ -307,7 +307,7 @@ fn put_reason<W: Write>(reason: &str, output: &mut Output<'_, W>)
     put_pieces(&[b"  ", reason.as_bytes(), b"\n"], output);
 }
 
-/// Writes the line of an output at a path that is rejected.
+/// Writes the line of an output that is rejected.
 pub(crate) fn output_fault_text<W: Write>(
     path: &str,
     fault: OutputFault,
@@ -344,7 +344,7 @@ fn put_rejected<'t, W: Write>(number: u8, name: &'t str, path: &'t str, output: 
     );
 }
 
-/// Writes the line of a number that no fault and no refusal has.
+/// Writes the line for a number that no fault and no cause has.
 pub(crate) fn unexplained_text<W: Write>(number: u32, out: &mut W) -> Result<u64, WriteFault>
     ensures { Writes (W.contents out.old) (W.contents out.new) (unexplained_line number) result }
 {
@@ -367,7 +367,7 @@ fn put_unexplained<W: Write>(number: u32, output: &mut Output<'_, W>)
     );
 }
 
-/// Puts the pieces one after the other.
+/// Puts the pieces in order.
 pub(crate) fn put_pieces<W: Write>(pieces: &[&[u8]], output: &mut Output<'_, W>)
     ensures { Puts W.contents output.old output.new (joined_bytes pieces.now) }
 {

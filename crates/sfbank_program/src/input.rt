@@ -1,4 +1,4 @@
-//! Inputs, which are read whole before anything else is done.
+//! Inputs, which are read whole before anything is done.
 ghost use Rattle.std.specs.Prelude.{◌≡◌, ◌≢◌, ◌+◌, ◌<◌, ◌≤◌, IfOk, IfErr, OnOk, vec_len, length, take, drop};
 ghost use Rattle.std.specs.Io.KnownBytes.{Consumes, IsAtEnd};
 ghost use Rattle.sfbank_program.specs.Inputs.{most_bytes, TakesPiece, TakesAll, TakesMost};
@@ -15,14 +15,14 @@ use std::fs::{File, OpenFile};
 use std::io::Read;
 use std::rt::Files;
 
-/// The bytes that are asked of an input at once.
+/// The bytes requested of an input in one read.
 const PIECE: usize = 262_144;
 
-/// The bytes that are read of an input at most: one past the limit shows that it is too long.
+/// The most bytes that are read of an input: one more than the limit, to detect that it is too long.
 const MOST: usize = FILE_LENGTH as usize + 1;
 
-/// Reads an input to its end, its first read error, or one byte past the limit. Room for `expected`
-/// bytes is taken at once, so an input of that length is held with nothing to spare.
+/// Reads an input to its end, its first read error, or one byte past the limit. Capacity for `expected` bytes and one
+/// more is allocated first, so an input of that length needs no reallocation.
 pub fn read_whole<R: Read>(
     alloc: Global,
     input: &mut R,
@@ -41,7 +41,7 @@ pub fn read_whole<R: Read>(
     Err(Failure::Fault(InputFault::TooLong))
 }
 
-/// Reads the next bytes of an input after those that it gave before, and returns how many.
+/// Appends the next bytes of an input, and returns how many.
 fn read_piece<R: Read>(input: &mut R, bytes: &mut Vec<u8>) -> Result<usize, Failure<InputFault>>
     requires { vec_len bytes.old < most_bytes }
     ensures within { OnOk result (vec_len bytes.new ≤ most_bytes) }
@@ -55,8 +55,8 @@ fn read_piece<R: Read>(input: &mut R, bytes: &mut Vec<u8>) -> Result<usize, Fail
     Ok(count)
 }
 
-/// Puts room for a read of up to `most` bytes after the bytes: what the vector has, or what it takes
-/// where it has none.
+/// Extends the bytes by zeros, at least one and at most `most`, for the next read. Allocates only if there is no spare
+/// capacity.
 fn add_room(bytes: &mut Vec<u8>, most: usize) -> Result<(), AllocError>
     requires positive { 0 < most }
     requires bounded { vec_len bytes.old + most ≤ most_bytes }
@@ -72,7 +72,7 @@ fn add_room(bytes: &mut Vec<u8>, most: usize) -> Result<(), AllocError>
     bytes.resize(at + room, 0)
 }
 
-/// One read, to place `at` of a buffer.
+/// Reads once, into the buffer from `at` on.
 fn read_at<R: Read>(input: &mut R, buffer: &mut [u8], at: usize) -> Result<usize, InputFault>
     requires { at < length buffer.old }
     ensures front { take at buffer.new ≡ take at buffer.old }
@@ -88,7 +88,7 @@ fn read_at<R: Read>(input: &mut R, buffer: &mut [u8], at: usize) -> Result<usize
     }
 }
 
-/// Reads the file at a path whole.
+/// Reads a whole file.
 pub fn read_file<'a, R: Files + AllocGlobal>(rt: &R, path: &'a str) -> Result<Vec<u8>, Fault<'a>> {
     let mut file = match File::open(rt, path) {
         Ok(file) => file,

@@ -1,4 +1,4 @@
-//! Why an input is not there as a whole.
+//! Why an input can't be read whole.
 ghost use Rattle.std.specs.Prelude.{◌≡◌, ◌≢◌};
 ghost use Rattle.sf_base.specs.declared.memory.Failure.TheVariants.{Fault as FaultOf};
 ghost use Rattle.sfbank_program.specs.declared.input_fault.InputFault.TheVariants.{TooLong};
@@ -7,29 +7,29 @@ ghost use Rattle.sfbank_program.specs.InputFaults.{reason_of};
 use sf_base::Failure;
 use std::io::ErrorKind;
 
-/// Why an input is not there as a whole.
+/// Why an input can't be read whole.
 #[derive(Clone, Copy, Debug, PartialEq, Eq)]
 pub enum InputFault {
-    /// Nothing has its path.
+    /// There is no file at the path.
     NotFound,
-    /// It may not be read, or a folder of its path not be searched.
+    /// No permission to read it, or to search a folder of its path.
     Denied,
-    /// Its path names a folder.
+    /// The path names a folder.
     IsFolder,
-    /// Its path goes through what is no folder.
+    /// A part of the path is not a folder.
     NotFolder,
-    /// Its path, or a name in it, is too long.
+    /// The path, or a name in it, is too long.
     LongName,
-    /// Its path goes through too many links.
+    /// The path has too many symbolic links.
     LinkLoop,
-    /// It can't be opened or read, for another reason.
+    /// It can't be opened or read for another reason.
     Unreadable,
-    /// It has more bytes than a file has at most: 4,294,967,303.
+    /// It is longer than the longest file, 4,294,967,303 bytes.
     TooLong,
 }
 
 impl InputFault {
-    /// The fault of an input that is not opened, or not read on, for an error of this kind.
+    /// The fault of an error of this kind in opening or reading an input.
     pub fn of(kind: ErrorKind) -> InputFault
         ensures { result ≢ TooLong }
     {
@@ -44,7 +44,7 @@ impl InputFault {
         }
     }
 
-    /// The reason, as the system words it, where it is the system's.
+    /// The reason, in the system's words where it is the system's.
     pub fn reason(self) -> &'static str
         ensures { result.now ≡ reason_of self }
     {

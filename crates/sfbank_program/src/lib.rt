@@ -1,6 +1,6 @@
-//! What the program has beside its runs: the files that it reads and writes, how a run ends that is not
-//! done, and the lines by which that is told. None of it needs a run, so it is proved beside the crates
-//! that the runs depend on.
+//! The parts of the program that need no run: input and output files, faults, and the lines that report them.
+//!
+//! A crate of its own, so that it is proved in parallel with the crates that the runs depend on.
 #![tactic(auto)]
 
 mod descriptor;

@@ -1,5 +1,5 @@
-//! An output file, which is not there before its first write or flush, or is left as it is until all of
-//! the new text is written.
+//! An output file, which is created at its first write or flush, or replaces a file once all of the new text is
+//! written.
 ghost use Rattle.std.specs.Prelude.{◌≡◌, IfOk, IfErr, OnOk, IsSome, None};
 ghost use Rattle.std.specs.Io.{WritesAtMost};
 ghost use Rattle.std.specs.Io.KnownBytes.{WriteAppends, Keeps};
@@ -17,9 +17,9 @@ use std::io::{ErrorKind, Write};
 use std::rt::Files;
 use std::{fs, io};
 
-/// A file that its first write or flush creates. Where the path leads to a regular file that is there, what
-/// is written goes to a new file beside it, and `end` puts that in its place. A descriptor of the program,
-/// such as `/dev/stdout`, is written where it stands, and a device or a pipe as it is.
+/// A file that its first write or flush creates. If a regular file exists at the path, the text is written to a new
+/// file beside it, and `end` renames that over it. A descriptor of the program, such as `/dev/stdout`, is written from
+/// its position, a device or a pipe directly.
 #[derive(Drop)]
 pub struct OutputFile<'a, R: Files> {
     rt: &'a R,
@@ -28,27 +28,27 @@ pub struct OutputFile<'a, R: Files> {
     file: Option<R::File>,
     /// The bytes that the file accepted.
     written: u64,
-    /// Whether a write failed since nothing reads the other end of a pipe any more.
+    /// Whether the last write failed because nothing reads the other end of the pipe.
     is_unread: bool,
 }
 
-/// Where an output goes.
+/// Where an output is written.
 #[derive(Drop)]
 enum Place {
-    /// To a new file beside the one that is there.
+    /// To a new file beside the existing one.
     Replacement(Replacement),
-    /// To a file that is made at this path, where nothing is yet.
+    /// To a new file at this path.
     New(String),
     /// To an open descriptor.
     Descriptor(Descriptor),
-    /// To what is there, which is no regular file.
+    /// To an existing device or pipe.
     Existing,
-    /// To the file at the path, which is made or emptied.
+    /// To the file at the path, created or truncated.
     Emptied,
 }
 
 impl<'a, R: Files + AllocGlobal> OutputFile<'a, R> {
-    /// The output at a path, or out of memory. Nothing is created yet.
+    /// The output at a path. Nothing is created yet; a failed allocation is the only error.
     pub fn new(rt: &'a R, path: &'a str) -> Result<OutputFile<'a, R>, AllocError>
         ensures closed { IfOk result (λ output. output.file ≡ None) }
         ensures path { IfOk result (λ output. output.path ≡ path.entry) }
@@ -63,7 +63,7 @@ impl<'a, R: Files + AllocGlobal> OutputFile<'a, R> {
         Ok(OutputFile::closed(rt, path, place))
     }
 
-    /// The output at a path that is written as it is, as a pipe: a regular file is emptied first. Nothing is
+    /// The output at a path that is written directly, such as a pipe: a regular file is truncated first. Nothing is
     /// created yet.
     pub fn in_place(rt: &'a R, path: &'a str) -> Result<OutputFile<'a, R>, AllocError>
         ensures closed { IfOk result (λ output. output.file ≡ None) }
@@ -96,9 +96,9 @@ impl<'a, R: Files> OutputFile<'a, R> {
 }
 
 impl<R: Files> OutputFile<'_, R> {
-    /// Ends the output as its run ended. After a run that is done the new file is synced and put in the place
-    /// of the one that is there; where it can't be, that is a write fault after all that was written. After any
-    /// other run the fault stays, and what is there stays as it is. Either way no new file stays beside it.
+    /// Ends the output after its run. If the run succeeded, the new file is synced and renamed over the existing one;
+    /// if that fails, it is a write fault after all bytes written. If the run failed, its fault is returned and the
+    /// existing file is unchanged. In both cases no temporary file remains.
     pub fn end(self, which: Which, run: Result<(), RunFault>) -> Result<(), RunFault>
         ensures { EndsAs which self.entry.written run result }
     {
@@ -112,7 +112,7 @@ impl<R: Files> OutputFile<'_, R> {
         }
     }
 
-    /// Puts what was written in its place.
+    /// Syncs and replaces, or discards the new file.
     fn finish(&mut self, which: Which) -> Result<(), RunFault>
         ensures { IfErr result (λ fault. fault ≡ run.Write which self.old.written) }
     {
@@ -133,26 +133,26 @@ impl<R: Files> OutputFile<'_, R> {
         self.put_in_place()
     }
 
-    /// Whether a file is there that this output replaces.
+    /// Whether this output replaces an existing file.
     pub(crate) fn replaces(&self) -> bool {
         matches!(self.place, Place::Replacement(_))
     }
 
-    /// Whether a write failed since nothing reads the other end of a pipe any more.
+    /// Whether the last write failed because nothing reads the other end of the pipe.
     pub fn is_unread(&self) -> bool
         ensures { result ≡ self.now.is_unread }
     {
         self.is_unread
     }
 
-    /// The bytes that the file accepted.
+    /// The number of bytes that the file accepted.
     pub(crate) fn written(&self) -> u64
         ensures { result ≡ self.now.written }
     {
         self.written
     }
 
-    /// Syncs what is written so far, where that is kept at all: a device or a pipe has nothing to sync.
+    /// Syncs what is written so far. A device or a pipe has nothing to sync.
     pub(crate) fn sync(&self) -> io::Result<()> {
         let Some(file) = &self.file else {
             return Ok(());
@@ -163,7 +163,7 @@ impl<R: Files> OutputFile<'_, R> {
         }
     }
 
-    /// Puts a new file, which was synced, in the place of the one that is there.
+    /// Renames the new file, which is synced, over the existing one.
     pub(crate) fn put_in_place(&mut self) -> io::Result<()>
         ensures { self.new.written ≡ self.old.written }
     {
@@ -173,7 +173,7 @@ impl<R: Files> OutputFile<'_, R> {
         }
     }
 
-    /// The same, which `restore` can undo until `forget_old` is called.
+    /// Does what `put_in_place` does, but `restore` can undo it until `forget_old` is called.
     pub(crate) fn put_for_now(&mut self) -> io::Result<()>
         ensures { self.new.written ≡ self.old.written }
     {
@@ -187,7 +187,7 @@ impl<R: Files> OutputFile<'_, R> {
         }
     }
 
-    /// Keeps what was put in place.
+    /// Makes the replacement final.
     pub(crate) fn forget_old(&mut self)
         ensures { self.new.written ≡ self.old.written }
     {
@@ -196,7 +196,7 @@ impl<R: Files> OutputFile<'_, R> {
         }
     }
 
-    /// Leaves all as it was: what was there is in its place, and no new file is left.
+    /// Restores the old file, and removes the new one.
     pub(crate) fn restore(&mut self)
         ensures { self.new.written ≡ self.old.written }
     {
@@ -214,7 +214,7 @@ impl<R: Files> OutputFile<'_, R> {
         }
     }
 
-    /// Leaves what is there as it is, and no new file beside it.
+    /// Removes the new file. The existing file is unchanged.
     pub(crate) fn discard(&mut self)
         ensures { self.new.written ≡ self.old.written }
     {
@@ -223,7 +223,7 @@ impl<R: Files> OutputFile<'_, R> {
         }
     }
 
-    /// The file that accepts what is written, which is created where it is not open yet.
+    /// The open file, which is created if it is not open yet.
     fn opened(&mut self) -> io::Result<R::File>
         ensures { self.new.written ≡ self.old.written }
     {
@@ -240,7 +240,7 @@ impl<R: Files> OutputFile<'_, R> {
     }
 }
 
-/// Opens a device or a pipe. A regular file is replaced as a whole, so it is none of these.
+/// Opens a device or a pipe. Fails for a regular file, which is replaced as a whole instead.
 fn open_existing<R: Files>(rt: &R, path: &str) -> io::Result<R::File> {
     let file = OpenOptions::new().write(true).open(rt, path)?;
     if file.metadata()?.is_file() {

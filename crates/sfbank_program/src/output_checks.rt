@@ -1,4 +1,4 @@
-//! Outputs that would destroy what is there, which are rejected before anything is read.
+//! Rejects outputs that would destroy a file, before anything is read.
 ghost use Rattle.std.specs.Prelude.{◌≡◌};
 ghost use Rattle.sfbank_program.specs.Ending.{fault_of_check};
 
@@ -13,16 +13,16 @@ use std::io::Read;
 use std::os::unix::fs::MetadataExt;
 use std::rt::Files;
 
-/// The bits of a file's mode that name its type, and those of a device without a place of its own for what is
-/// written, such as /dev/null or a terminal.
+/// The bits of `st_mode` that hold the file type (`S_IFMT`), and the type of character devices such as /dev/null, which
+/// store nothing that is written to them.
 const TYPE_BITS: u32 = 0o170000;
 
 const CHARACTER_DEVICE: u32 = 0o020000;
 
-/// The bytes by which a file begins as a bank: `RIFF`, a length of four bytes, `sfbk`.
+/// The length of the header of a bank: `RIFF`, a length of four bytes, `sfbk`.
 const HEAD: usize = 12;
 
-/// Why a check of outputs has no answer, or has found a fault.
+/// Why an output is rejected or can't be checked.
 #[derive(Clone, Copy, Debug, PartialEq, Eq)]
 pub enum OutputCheck {
     Rejected(OutputFault),
@@ -36,7 +36,7 @@ impl From<AllocError> for OutputCheck {
 }
 
 impl OutputCheck {
-    /// The fault of a run with this output.
+    /// The fault of a command with this output.
     pub fn at(self, path: &str) -> Fault<'_>
         ensures { result ≡ fault_of_check self path.entry }
     {
@@ -47,8 +47,8 @@ impl OutputCheck {
     }
 }
 
-/// Rejects an output that is one file with one of the others, by whatever paths: through links, as hard links, or
-/// as a new file of one folder. Devices such as /dev/null are apart.
+/// Rejects an output that is the same file as one of the others: by links, by hard links, or as a new file in the same
+/// folder. Character devices such as /dev/null are never rejected.
 pub fn check_apart<R: Files + AllocGlobal>(
     rt: &R,
     output: &str,
@@ -62,7 +62,7 @@ pub fn check_apart<R: Files + AllocGlobal>(
     Ok(())
 }
 
-/// Rejects an output at a regular file that begins as a bank.
+/// Rejects an output at a regular file that begins like a bank.
 pub fn check_no_bank<R: Files + AllocGlobal>(rt: &R, output: &str) -> Result<(), OutputCheck> {
     let Target::Regular(path) = target_of(rt, output)? else {
         return Ok(());
@@ -81,8 +81,8 @@ fn is_one_file<R: Files + AllocGlobal>(rt: &R, one: &str, other: &str) -> Result
     }
 }
 
-/// Whether two paths at which nothing is yet are one name in one folder that is there, once links are followed. Where a
-/// folder isn't there no file can be made, which is a write fault.
+/// Whether two paths without a file are the same name in the same existing folder, once links are followed. If the
+/// folder does not exist, creating the file is a write fault later.
 fn is_one_new_file<R: Files + AllocGlobal>(
     rt: &R,
     one: &str,
@@ -98,7 +98,7 @@ fn is_one_new_file<R: Files + AllocGlobal>(
     }
 }
 
-/// Whether two paths lead to one folder that is there.
+/// Whether two paths lead to the same existing folder.
 fn is_one_folder<R: Files>(rt: &R, one: &str, other: &str) -> bool {
     match (place_of(rt, one), place_of(rt, other)) {
         (Some(one), Some(other)) => one == other,
@@ -106,7 +106,7 @@ fn is_one_folder<R: Files>(rt: &R, one: &str, other: &str) -> bool {
     }
 }
 
-/// Where a file is, by which it is known under each of its names.
+/// The identity of a file: the same for each of its names.
 #[derive(Clone, Copy, PartialEq, Eq)]
 struct FilePlace {
     device: u64,

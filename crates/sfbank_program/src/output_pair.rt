@@ -1,4 +1,4 @@
-//! Two outputs of one run, which end together.
+//! Ends the two outputs of one run together.
 ghost use Rattle.std.specs.Prelude.{Ok};
 ghost use Rattle.sfbank_program.specs.Saving.{BothEnd};
 
@@ -6,9 +6,9 @@ use crate::output::OutputFile;
 use crate::run_fault::{RunFault, Which};
 use std::rt::Files;
 
-/// Ends both outputs as the run ended. Where the bank replaces a file that is there, the undo script is whole
-/// and on the disk before: that file may be the bank that was read, which is never without its undo script.
-/// Where either can't be put in place then, both files are as they were.
+/// Ends both outputs after their run. Where the bank replaces a file, the undo script is complete and on disk first:
+/// the replaced file may be the bank that was read, which is never without its undo script. If either file can't be
+/// put in place, both are restored.
 pub fn end_both<R: Files>(
     out: OutputFile<'_, R>,
     undo: OutputFile<'_, R>,

@@ -1,4 +1,4 @@
-//! A new file that takes the place of one that is there.
+//! A new file that replaces an existing one.
 
 use crate::target::folder_of;
 use itoa::Buffer;
@@ -9,24 +9,24 @@ use std::os::unix::fs::{MetadataExt, OpenOptionsExt, chown};
 use std::rt::Files;
 use std::{fs, io};
 
-/// The numbers that the name of a new file may have. Runs that were killed leave files of these names.
+/// How many names a temporary file may have. A run that is killed leaves its files behind.
 const NUMBERS: u16 = 10_000;
 
-/// The most bytes of the name of a new file, beside its folder.
+/// The most bytes of the name of a temporary file, without its folder.
 const NAME_ROOM: usize = 32;
 
-/// A regular file that is there, and the new one beside it that is to take its place.
+/// An existing regular file, and the new file in the same folder that is to replace it.
 #[derive(Drop)]
 pub(crate) struct Replacement {
-    /// Where the file is that is there, behind links.
+    /// The path of the existing file, with all links followed.
     path: String,
-    /// Where the new file is, in the same folder.
+    /// The path of the new file, in the same folder.
     new_path: String,
     /// Where the old file is kept until it is no longer needed, in the same folder.
     old_path: String,
-    /// Whether there is the new file, beside the old one.
+    /// Whether the new file exists and is not yet in place.
     is_made: bool,
-    /// Whether the new file has the owner of the old one, who may remove each of its names.
+    /// Whether the new file has the owner of the old one, who may remove every hard link to it.
     is_owned: bool,
     kept: Kept,
 }
@@ -35,9 +35,9 @@ pub(crate) struct Replacement {
 #[derive(Clone, Copy, PartialEq, Eq)]
 enum Kept {
     Not,
-    /// By a second name.
+    /// By a hard link.
     Linked,
-    /// Moved there, where it can't be linked.
+    /// By renaming, where it can't be linked.
     Moved,
 }
 
@@ -58,7 +58,7 @@ impl Replacement {
         })
     }
 
-    /// Makes the new file, which others may not read yet. A file that may not be written is not replaced.
+    /// Creates the new file, which others can't read yet. Fails if there is no permission to write the existing file.
     pub(crate) fn open<R: Files>(&mut self, rt: &R) -> io::Result<R::File> {
         let there = OpenOptions::new().write(true).open(rt, self.path.as_str())?;
         let found = there.metadata()?;
@@ -88,7 +88,7 @@ impl Replacement {
         Err(io::Error::from(ErrorKind::AlreadyExists))
     }
 
-    /// Puts the new file, which was written and synced, in place.
+    /// Renames the new file, which is written and synced, over the existing one.
     pub(crate) fn put_in_place<R: Files>(&mut self, rt: &R) -> io::Result<()> {
         if !self.is_made {
             return Ok(());
@@ -109,7 +109,7 @@ impl Replacement {
         result
     }
 
-    /// Keeps the old file under another name, which it has when the first one becomes the new file's.
+    /// Keeps the old file under another name.
     fn keep_old<R: Files>(&mut self, rt: &R) -> io::Result<()> {
         for number in 1..=NUMBERS {
             set_name(
@@ -135,7 +135,7 @@ impl Replacement {
         Err(io::Error::from(ErrorKind::AlreadyExists))
     }
 
-    /// Puts the old file back in place, if it was kept.
+    /// Restores the old file, if it was kept.
     pub(crate) fn restore_old<R: Files>(&mut self, rt: &R) {
         match self.kept {
             Kept::Not => {}
@@ -165,7 +165,7 @@ impl Replacement {
     }
 }
 
-/// Makes the path of a numbered file in the folder of another one, in room that it has.
+/// Sets the path of a numbered file in the folder of another file, within its capacity.
 fn set_name(name: &mut String, path: &str, start: &str, number: u16) -> Result<(), AllocError> {
     let mut digits = Buffer::new();
     name.clear();
@@ -174,8 +174,8 @@ fn set_name(name: &mut String, path: &str, start: &str, number: u16) -> Result<(
     name.push_str(digits.format(number))
 }
 
-/// Keeps a file as another path, which has to be free. A link to a file of another user can't always be removed
-/// again, and some file systems have none: there the file is moved.
+/// Keeps a file at another path, which must be free. It is moved where it can't be linked: a link to a file of another
+/// user can't always be removed again, and some file systems have no links.
 fn keep_as<R: Files>(rt: &R, path: &str, kept: &str, is_owned: bool) -> io::Result<Kept> {
     if is_owned {
         match fs::hard_link(rt, path, kept) {
@@ -201,14 +201,14 @@ fn create_private<R: Files>(rt: &R, path: &str) -> io::Result<R::File> {
         .open(rt, path)
 }
 
-/// Gives a new file the group, the owner and the permissions of another one, as far as the system allows.
+/// Gives a new file the group, owner and permissions of another one, as far as the system allows.
 fn keep_access<R: Files>(rt: &R, path: &str, file: &R::File, found: &Metadata) {
     let _ = chown(rt, path, None, Some(found.gid()));
     let _ = chown(rt, path, Some(found.uid()), None);
     let _ = file.set_permissions(found.permissions());
 }
 
-/// Syncs the folder of a file, so that its name is on the disk too, where the folder can be opened.
+/// Syncs the folder of a file, so that its name is on disk too, if the folder can be opened.
 pub(crate) fn sync_folder<R: Files>(rt: &R, path: &str) {
     if let Ok(folder) = File::open(rt, folder_of(path)) {
         let _ = folder.sync_all();

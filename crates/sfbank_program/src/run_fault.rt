@@ -1,4 +1,4 @@
-//! How a run ends that is not done.
+//! Why a run fails.
 ghost use Rattle.std.specs.Prelude.{◌≡◌};
 ghost use Rattle.sfbank_program.specs.declared.run_fault.RunFault.TheVariants.{Read, ReadFirst, ReadSecond, Script, Notes, Recording, Memory};
 ghost use Rattle.sfbank_program.specs.RunFaults.{in_run};
@@ -12,56 +12,56 @@ use sf_base::{Failure, OutOfMemory};
 use std::alloc::AllocFailed;
 use thiserror::Error;
 
-/// Which of the two texts.
+/// The text that a write fault is about.
 #[derive(Clone, Copy, Debug, PartialEq, Eq)]
 pub enum Which {
     Out,
     Undo,
 }
 
-/// Why a run is not done.
+/// Why a run fails.
 #[derive(Drop, Clone, Copy, Debug, PartialEq, Eq, Error)]
 pub enum RunFault {
-    /// The first step of reading that the file breaks.
+    /// The first failed check of reading the file.
     #[error("{0}")]
     Read(ReadFault),
-    /// The same of the first file, where there are two banks.
+    /// The same for the first of two files.
     #[error("A: {0}")]
     ReadFirst(ReadFault),
-    /// The same of the second file, where there are two banks.
+    /// The same for the second of two files.
     #[error("B: {0}")]
     ReadSecond(ReadFault),
     /// The first fault of the script.
     #[error("{0}")]
     Script(ScriptFault),
-    /// The first refused line, and why it is. Out of memory for an edit is `Memory`.
+    /// The first refused line, and why. A failed allocation in an edit is `Memory` instead.
     #[error("line {0}: {1}")]
     Refused(u64, Refusal),
-    /// The first line with an edit that is not neutral, where all have to be.
+    /// The first line with an edit that is not neutral, in a run that accepts neutral edits only.
     #[error("line {0}: this edit may change the sound of notes")]
     NotNeutral(u64),
-    /// Two banks are of different minor versions, where they have to be of one.
+    /// The minor versions of two banks differ.
     #[error("the banks are of different versions")]
     OtherVersion,
     /// The first fault of the notes.
     #[error("{0}")]
     Notes(NoteFault),
-    /// The first step of reading that the WAVE file breaks.
+    /// The first failed check of reading the WAVE file.
     #[error("{0}")]
     Recording(WaveFault),
-    /// The bank has no member of the number that is asked for.
+    /// The bank has no preset, instrument or sample of this number.
     #[error("{0}")]
     NoMember(Cause),
-    /// A writer took exactly so many bytes of its text, or all of them where its flush failed.
+    /// A writer accepted exactly this many bytes of its text, or all of them but failed to flush.
     #[error("write fault after {1} bytes")]
     Write(Which, u64),
-    /// A growth was refused.
+    /// An allocation failed.
     #[error("out of memory")]
     Memory,
 }
 
 impl RunFault {
-    /// The fault of a run that could not read the first of two banks.
+    /// The run's fault for the first of two banks that can't be read.
     pub fn of_first(failure: Failure<ReadFault>) -> RunFault
         ensures { result ≡ in_run ReadFirst failure }
     {
@@ -71,7 +71,7 @@ impl RunFault {
         }
     }
 
-    /// The same for the second one.
+    /// The run's fault for the second of two banks that can't be read.
     pub fn of_second(failure: Failure<ReadFault>) -> RunFault
         ensures { result ≡ in_run ReadSecond failure }
     {

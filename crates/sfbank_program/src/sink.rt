@@ -1,4 +1,4 @@
-//! Where the one output of a run goes: the standard output, or a file.
+//! Where the output of a run is written: to the standard output or to a file.
 ghost use Rattle.std.specs.Prelude.{◌≡◌, None};
 ghost use Rattle.std.specs.Io.{WritesAtMost};
 ghost use Rattle.std.specs.Io.KnownBytes.{WriteAppends, Keeps};
@@ -11,8 +11,7 @@ use std::io;
 use std::io::Write;
 use std::rt::Files;
 
-/// The standard output, where the path of an output leads to it, so that what others write there later comes after;
-/// or else a file.
+/// The standard output, if the output's path leads to it (so that later writes of others follow in order), else a file.
 #[derive(Drop)]
 pub enum Sink<'a, 's, R: Files, O: Write> {
     Output(&'s mut O),
@@ -20,7 +19,7 @@ pub enum Sink<'a, 's, R: Files, O: Write> {
 }
 
 impl<'a, 's, R: Files + AllocGlobal, O: Write> Sink<'a, 's, R, O> {
-    /// The output at a path, or out of memory. Nothing is created yet.
+    /// The output at a path. Nothing is created yet; a failed allocation is the only error.
     pub fn new(
         rt: &'a R,
         path: &'a str,
@@ -34,7 +33,7 @@ impl<'a, 's, R: Files + AllocGlobal, O: Write> Sink<'a, 's, R, O> {
 }
 
 impl<R: Files, O: Write> Sink<'_, '_, R, O> {
-    /// Ends the output as its run ended, as [`OutputFile::end`].
+    /// Ends the output after its run, as [`OutputFile::end`] does.
     pub fn end(self, run: Result<(), RunFault>) -> Result<(), RunFault> {
         match self {
             Sink::Output(_output) => run,
@@ -42,7 +41,7 @@ impl<R: Files, O: Write> Sink<'_, '_, R, O> {
         }
     }
 
-    /// Whether a write to a file failed since nothing reads the other end of a pipe any more.
+    /// Whether the last write to a file failed because nothing reads the other end of the pipe.
     pub fn is_unread(&self) -> bool {
         match self {
             Sink::Output(_) => false,

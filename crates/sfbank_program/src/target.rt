@@ -5,29 +5,29 @@ use std::fs;
 use std::io::{Error, ErrorKind};
 use std::rt::Files;
 
-/// The most links that are followed, as many as Linux follows.
+/// The most links that are followed; Linux has the same limit.
 const MOST_LINKS: usize = 40;
 
-/// The descriptor of the standard output.
+/// The descriptor number of the standard output.
 pub(crate) const STANDARD_OUTPUT: i32 = 1;
 
-/// The folder of the descriptors that the program was started with.
+/// The folder of the process's open descriptors.
 const OWN_DESCRIPTORS: &str = "/proc/self/fd";
 
-/// What a path leads to, once all links are followed.
+/// What a path leads to, with all links followed.
 #[derive(Drop)]
 pub(crate) enum Target {
     /// A regular file, at this path.
     Regular(String),
-    /// Nothing yet, in a folder that may not be there either.
+    /// No file, at this path. Its folder may be missing too.
     Nothing(String),
-    /// An open descriptor of this program, by its number.
+    /// An open descriptor of this process, by its number.
     Descriptor(i32),
-    /// Anything else, such as a device or a pipe, and whatever can't be found out.
+    /// Anything else, such as a device or a pipe, and whatever can't be resolved.
     Other,
 }
 
-/// What a path leads to; out of memory is the only error.
+/// Resolves a path. A failed allocation is the only error.
 pub(crate) fn target_of<R: Files + AllocGlobal>(rt: &R, path: &str) -> Result<Target, AllocError> {
     let mut path = String::from_str(rt.alloc(), path)?;
     for _ in 0..MOST_LINKS {
@@ -39,7 +39,7 @@ pub(crate) fn target_of<R: Files + AllocGlobal>(rt: &R, path: &str) -> Result<Ta
     Ok(Target::Other)
 }
 
-/// What is at a path: a link to another path, or what it leads to.
+/// One step of resolving a path: a link to another path, or the target.
 #[derive(Drop)]
 enum Sight {
     LinkTo(String),
@@ -62,7 +62,7 @@ fn look_at<R: Files + AllocGlobal>(rt: &R, path: String) -> Result<Sight, AllocE
     }
 }
 
-/// Where the link at a path leads.
+/// Reads the link at a path.
 fn link_at<R: Files + AllocGlobal>(rt: &R, path: &str) -> Result<Sight, AllocError> {
     let Some(link) = if_found(fs::read_link(rt, path))? else {
         return Ok(Sight::Target(Target::Other));
@@ -77,7 +77,7 @@ fn link_at<R: Files + AllocGlobal>(rt: &R, path: &str) -> Result<Sight, AllocErr
     Ok(Sight::LinkTo(next))
 }
 
-/// What a path in a folder below /proc leads to: an own descriptor, or anything else.
+/// Resolves a path in a folder below /proc: a descriptor of this process, or anything else.
 fn in_proc<R: Files + AllocGlobal>(rt: &R, folder: &str, path: &str) -> Result<Target, AllocError> {
     let Some(own) = real_path(rt, OWN_DESCRIPTORS)? else {
         return Ok(Target::Other);
@@ -92,7 +92,7 @@ fn is_below_proc(folder: &str) -> bool {
     folder == "/proc" || folder.starts_with("/proc/")
 }
 
-/// The path of a folder without links; none where the system doesn't find it.
+/// The path of a folder without links, or `None` if the system can't find it.
 fn real_path<R: Files + AllocGlobal>(rt: &R, folder: &str) -> Result<Option<String>, AllocError> {
     match if_found(fs::canonicalize(rt, folder))? {
         Some(path) => Ok(Some(path.into_string())),
@@ -100,7 +100,7 @@ fn real_path<R: Files + AllocGlobal>(rt: &R, folder: &str) -> Result<Option<Stri
     }
 }
 
-/// What the system found, if it did; out of memory stays an error.
+/// Turns errors into `None`, except a failed allocation.
 fn if_found<T: Drop>(found: Result<T, Error>) -> Result<Option<T>, AllocError> {
     match found {
         Ok(found) => Ok(Some(found)),
@@ -109,7 +109,7 @@ fn if_found<T: Drop>(found: Result<T, Error>) -> Result<Option<T>, AllocError> {
     }
 }
 
-/// The folder in which a file is: `/` or a path without its last slash.
+/// The folder of a file: `/`, or the path up to its last slash.
 pub(crate) fn folder_of(path: &str) -> &str {
     match path.rsplit_once('/') {
         Some(("", _)) => "/",
@@ -118,7 +118,7 @@ pub(crate) fn folder_of(path: &str) -> &str {
     }
 }
 
-/// The last part of a path.
+/// The last component of a path.
 pub(crate) fn name_of(path: &str) -> &str {
     match path.rsplit_once('/') {
         Some((_, name)) => name,

@@ -1,4 +1,4 @@
-//! How a fault is told.
+//! Reports a fault on the standard error.
 ghost use Rattle.std.specs.Prelude.{◌≡◌};
 ghost use Rattle.sfbank_program.specs.Telling.{Tells, status_of};
 
@@ -11,8 +11,8 @@ use std::io::Write;
 
 const NOT_TEXT: &[u8] = b"error: a word is not text\n";
 
-/// Reports a fault, and returns the exit status, which is the same where the fault could not be written. Where
-/// `errors` is a terminal, the reason of a file fault follows its line.
+/// Reports a fault, and returns its exit status, also if the fault could not be written. If `errors` is a terminal, the
+/// reason of a file fault follows on a second line.
 pub fn tell<E: Write>(fault: &Fault<'_>, is_terminal: bool, errors: &mut E) -> u8
     ensures status { result ≡ status_of fault.now }
     ensures told { Tells is_terminal (E.contents errors.old) (E.contents errors.new) fault.now }

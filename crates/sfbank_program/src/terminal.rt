@@ -1,4 +1,4 @@
-//! A terminal, at which a person types, and on which one reads how far long work is.
+//! What the program writes on a terminal: the prompt of a live session, and the progress of long work.
 
 use outputs::put_all;
 use progress::{Progress, Work};
@@ -6,13 +6,13 @@ use std::io;
 use std::io::{Read, Write};
 use std::time::{Clock, Duration, Instant};
 
-/// What goes out before the first line that is typed.
+/// Written before the first prompt.
 const GREETING: &[u8] = b"A live session: help tells its lines, quit ends it.\n";
 
-/// What goes out before each line that is typed.
+/// Written before each line is read.
 const PROMPT: &[u8] = b"> ";
 
-/// An input that asks before each read, where it is a terminal. Before the first one it greets.
+/// An input that writes a prompt before each read if it is a terminal, and a greeting before the first.
 #[derive(Drop)]
 pub struct Prompted<I: Read, O: Write> {
     input: I,
@@ -22,7 +22,7 @@ pub struct Prompted<I: Read, O: Write> {
 }
 
 impl<I: Read, O: Write> Prompted<I, O> {
-    /// The input, and the output to which what is asked goes.
+    /// An input, and the output for its prompts.
     pub fn new(input: I, output: O, is_terminal: bool) -> Prompted<I, O> {
         Prompted {
             input,
@@ -50,34 +50,34 @@ impl<I: Read, O: Write> Read for Prompted<I, O> {
     }
 }
 
-/// Of scripts with more lines it is told how far they are.
+/// Progress is shown for scripts with more lines.
 const FEW_LINES: u64 = 10_000;
 
-/// Of sound that takes longer, in seconds.
+/// Progress is shown for rendering that takes longer, in seconds.
 const SHORT_TIME: u64 = 2;
 
-/// Goes back to the first column, and clears the line.
+/// Returns to the first column, and clears the line.
 const CLEARED: &str = "\r\x1b[K";
 
-/// Tells on a terminal how far long work is, by a line that is written again and again, and cleared when the work
-/// ends. On anything else, and of short work, nothing is told.
+/// Shows the progress of long work on a terminal, in a line that is overwritten, and cleared at the end. On anything
+/// else, and for short work, it writes nothing.
 #[derive(Drop)]
 pub struct Meter<'a, C: Clock, O: Write> {
     clock: &'a C,
     output: O,
     is_terminal: bool,
     work: Work,
-    // How much there is in all, and how much is done.
+    // The size of the work and how much is done, in lines or frames.
     count: u64,
     done: u64,
-    // When the work began, by a clock that can be read.
+    // When the work began, if the clock can be read.
     began: Option<Instant>,
-    // The hundredths that were told last.
+    // The percentage shown last.
     told: Option<u64>,
 }
 
 impl<'a, C: Clock, O: Write> Meter<'a, C, O> {
-    /// A meter of no work, and the output that tells.
+    /// A meter of no work yet, which writes to `output`.
     pub fn new(clock: &'a C, output: O, is_terminal: bool) -> Meter<'a, C, O> {
         Meter {
             clock,
@@ -91,7 +91,7 @@ impl<'a, C: Clock, O: Write> Meter<'a, C, O> {
         }
     }
 
-    // Whether what goes on is worth a line.
+    // Whether the work is long enough to show.
     fn is_long(&self) -> bool {
         match self.work {
             Work::Lines => self.count > FEW_LINES,
@@ -119,7 +119,7 @@ impl<'a, C: Clock, O: Write> Meter<'a, C, O> {
     }
 }
 
-// How many hundredths of a whole are done, at most all.
+// The percentage done, at most 100.
 fn hundredths_of(done: u64, count: u64) -> u64 {
     match (100 * u128::from(done)).checked_div(u128::from(count)) {
         Some(hundredths) => hundredths.min(100) as u64,

@@ -6,7 +6,7 @@ ghost use Rattle.std.specs.Io.KnownBytes.{WriteAppends, Keeps};
 use std::io;
 use std::io::{ErrorKind, Write};
 
-/// A writer that notices when nothing reads the other end of its pipe any more.
+/// A writer that notices that nothing reads the other end of its pipe.
 #[derive(Drop)]
 pub struct Watched<'a, O: Write> {
     output: &'a mut O,
@@ -14,7 +14,7 @@ pub struct Watched<'a, O: Write> {
 }
 
 impl<'a, O: Write> Watched<'a, O> {
-    /// A writer that passes everything on to the output.
+    /// A writer that passes everything on to `output`.
     pub fn new(output: &'a mut O) -> Watched<'a, O> {
         Watched {
             output,
@@ -22,7 +22,7 @@ impl<'a, O: Write> Watched<'a, O> {
         }
     }
 
-    /// Whether a write or a flush failed for that reason.
+    /// Whether the last write or flush failed for that reason.
     pub fn is_unread(&self) -> bool
         ensures { result ≡ self.now.is_unread }
     {
@@ -49,7 +49,7 @@ impl<O: Write> Write for Watched<'_, O> {
     }
 }
 
-/// Whether a call failed since nothing reads the other end of a pipe any more.
+/// Whether a call failed because nothing reads the other end of a pipe.
 pub(crate) fn is_broken_pipe<T>(answer: &io::Result<T>) -> bool {
     match answer {
         Ok(_) => false,

@@ -3,7 +3,7 @@ use Rattle.outputs.proofs.OutputLaws.{Putting}
 use Rattle.sample_view.specs.Pieces.{joined_bytes}
 use Rattle.sfbank_program.proofs.fault_lines.put_pieces.Given as goal
 
--- the pieces that are behind were put
+-- the pieces so far were put
 abbrev pub invariant-loop-piece : goal.invariant-loop-piece
 invariant-loop-piece g l =
     Putting g.W.Write.contents l.initial.output l.output (joined_bytes l.pieces)

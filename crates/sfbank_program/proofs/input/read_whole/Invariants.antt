@@ -3,7 +3,7 @@ use Rattle.std.specs.Io.KnownBytes.{Consumes}
 use Rattle.sfbank_program.specs.Inputs.{most_bytes}
 use Rattle.sfbank_program.proofs.input.read_whole.Given as goal
 
--- the bytes are those that the input gave
+-- the bytes are those read from the input
 abbrev pub invariant-loop-input : goal.invariant-loop-input
 invariant-loop-input g l = record {
   within : vec_len l.bytes ≤ most_bytes;
