@@ -1,4 +1,4 @@
--- The WAVE file of a sample reads as the sample.
+-- The WAVE file of a sample reads back as the sample.
 use Rattle.std.proofs.Common.{◌≡◌, ◌≤◌, ◌<◌, ◌+◌, ◌-◌, ◌%◌, ◌^◌, ℕ, ℤ, pos, negsuc, true, cond, leb, ltb, eqb, ◌&&◌}
 use Rattle.std.proofs.Common.{min, List, [], ◌∷◌, ◌++◌, length, drop, codes, Option, Some, None, Ok, FitsSigned}
 use Rattle.std.proofs.Common.{refl, ap, ◌∙◌, arith}
@@ -44,7 +44,7 @@ use Rattle.bank_format.proofs.StepLaws.{then_none}
 use Rattle.bank_format.proofs.FormLaws.{same_bytes, form_window, form_holds}
 use Rattle.recordings.specs.declared.fault.WaveFault.TheVariants.{NotWave, Truncated}
 
--- ---- the sampler chunk
+-- ---- the `smpl` chunk
 
 abbrev head : ℕ → ℕ → ℕ → ℕ → List ℕ
 head time note fraction loops = numbers (0 ∷ 0 ∷ time ∷ note ∷ fraction ∷ 0 ∷ 0 ∷ loops ∷ 8 ∷ [])
@@ -52,7 +52,7 @@ head time note fraction loops = numbers (0 ∷ 0 ∷ time ∷ note ∷ fraction 
 abbrev held : ℕ → ℕ → List ℕ
 held key byte = codes "sfbk" ++ (key ∷ byte ∷ 0 ∷ 0 ∷ [])
 
--- what such a chunk says
+-- the fields of such a chunk
 record Says (b : List ℕ) (note fraction : ℕ) (inner : List ℕ) (found : Option SamplerLoop) : Type 0 where
   whole : has_loops b ≡ true
   bytes : data_in b ≡ inner
@@ -89,7 +89,7 @@ says_one time note fraction key byte first last n f a l =
       found_is = λ i. Some (record { kind = 0; first = first_is i; last = last_is i });
     }
 
--- the key and the correction are held
+-- the key and the correction are stored
 held_back : (b : List ℕ) (key : ℕ) (c : ℤ) → FitsSigned w8 c → data_in b ≡ held_pitch key c
     → unity_note_in b ≡ unity_note key c → fraction_in b ≡ pitch_fraction key c
     → held_in b ≡ Some (record { key = key; correction = c })
@@ -109,12 +109,12 @@ pitch_small : (key : ℕ) (c : ℤ) → pitch key c ≤ 12799
 pitch_small key (pos up) = omega arith
 pitch_small key (negsuc down) = omega arith
 
--- what the sampler chunk of a sample says
+-- the fields of the `smpl` chunk of a sample
 record SaysSample (b : List ℕ) (n key : ℕ) (c : ℤ) (looped : Option (ℕ × ℕ)) : Type 0 where
   holds : first_broken (chunk_steps n b) ≡ None
   is : sampler_in (Some b) ≡ record { pitch = record { key = key; correction = c }; looped = looped }
 
--- a loop of so many points, where there is one
+-- a loop among `n` points, if there is one
 record Found (n : ℕ) (looped : Option (ℕ × ℕ)) (found : Option SamplerLoop) : Type 0 where
   inside : first_broken (loop_steps n found) ≡ None
   ends : option_map ends_of found ≡ looped
@@ -146,7 +146,7 @@ a_loop n first end some in_it most =
     let e : (end - 1) + 1 ≡ end = omega (arith, some) in
     record { inside = rw (t1, t2) refl; ends = λ i. Some (first, e i) }
 
--- a sampler chunk, by what it is made of
+-- a `smpl` chunk, by its parts
 abbrev sampler_of : ℕ → ℕ → ℤ → Option (ℕ × ℕ) → List ℕ
 sampler_of time key c looped =
     head time (unity_note key c) (pitch_fraction key c) (loop_count looped)

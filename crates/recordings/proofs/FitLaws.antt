@@ -1,4 +1,4 @@
--- A recording of bytes is in the ranges of its fields, and so are the edits of its import.
+-- The fields of a recording read from bytes are in range, and so are the edits of its import.
 use Rattle.std.proofs.Common.{◌≡◌, ◌≤◌, ◌<◌, ◌+◌, ◌-◌, ◌^◌, ℕ, zero, suc, pos, neg_ℤ, Bool, true, false, cond, leb}
 use Rattle.std.proofs.Common.{ltb, eqb, ◌&&◌, ◌||◌, List, [], ◌∷◌, length, take, drop, get_or, codes, Option, Some}
 use Rattle.std.proofs.Common.{None, Ok, FitsSigned, refl, inl, inr, arith}
@@ -143,7 +143,7 @@ loop_fits n (Some l) h =
     let last = ltb-true _ _ both.1 in
     (omega (arith, first, last), omega (arith, last))
 
--- ---- the sampler chunk
+-- ---- the `smpl` chunk
 
 sampler_fits : (n : ℕ) (o : Option (List ℕ)) → AreBytes (unwrap_or o []) → first_broken (sampler_steps n o) ≡ None
     → FitsSampler (sampler_in o)
@@ -170,7 +170,7 @@ content_fits chunks b h =
       sampler = sampler_fits _ (first_body SAMPLER chunks) (body_bytes SAMPLER chunks b) past_data.1;
     }
 
--- what is read breaks no step
+-- a WAVE file that fails no check
 pub record IsRead (wave : List ℕ) (r : Recording) : Type 0 where
   pub holds : first_broken (steps wave) ≡ None
   pub is : content_in (chunks_in (walk (window wave))) ≡ r

@@ -1,4 +1,4 @@
--- The names of imported samples, and what is there.
+-- The names of imported samples, and the chunks that are present.
 use Rattle.std.proofs.Common.{◌≡◌, ◌≤◌, ◌<◌, ◌↔◌, ◌+◌, ◌*◌, ◌%◌, ℕ, Bool, true, false, cond, ltb, zero, suc, List}
 use Rattle.std.proofs.Common.{[], ◌∷◌, ◌++◌, length, take, drop, get_or, Fits, w8, Option, Some, None, MatchOption}
 use Rattle.std.proofs.Common.{IsSome, Result, Ok, Err, refl, ap, arith}
@@ -20,18 +20,18 @@ use Rattle.bank_format.proofs.AllLaws.{all-append}
 use Rattle.bank_format.proofs.NameLaws.{before_zero-bytes, length-before_zero}
 use Rattle.bank_format.proofs.ReadBytes.{take_bytes, in_turn}
 
--- what a slice of `u8` says of its elements
+-- the elements of a `u8` slice are bytes
 pub are_bytes : (xs : List ℕ) → ((i : ℕ) → Fits w8 (get_or xs i 0)) → AreBytes xs
 are_bytes xs fits =
     λ k d lt. let here =
     fits k in let small : get_or xs k 0 < 256 = omega (arith, here) in rw (get_or_default xs k d 0 lt) small
 
--- what is not missing is there
+-- an option that is not `None` is `Some`
 pub is_there : {X P : Type 0} (Q : X → Type 0) (o : Option X) → MatchOption o P Q → (P → ⊥) → IsSome o
 is_there Q None h none = absurd (none h)
 is_there Q (Some x) h none = refl
 
--- the loops of a sampler chunk that has them are whole
+-- the loops of a `smpl` chunk that holds them are whole records
 pub loops_whole : (s loops : List ℕ) (n m : ℕ) → n ≡ m → 36 + 24 * m ≤ length s → loops ≡ take (24 * n) (drop 36 s)
     → length loops % 24 ≡ 0
 loops_whole s loops n m e h is =
@@ -47,7 +47,7 @@ no_zero_at [] k h lt e = omega (arith, lt)
 no_zero_at (b ∷ text) zero h lt e = let some = h.0.0 in omega (arith, e, some)
 no_zero_at (b ∷ text) (suc k) h lt e = no_zero_at text k h.1 (omega (arith, lt)) e
 
--- a name is taken as such
+-- a name is accepted
 pub name_ok : (text : List ℕ) (r : Result (List ℕ) NameFault) → IsName text → ((r ≡ Err TooLong) ↔ (20 < length text))
     → ((r ≡ Err ZeroByte) ↔ ((length text ≤ 20) × Contains text 0)) → IsOk r
 name_ok text (Ok name) named long none = refl
@@ -55,7 +55,7 @@ name_ok text (Err TooLong) named long none =
     absurd (let h = long.0 refl in let short = named.0 in omega (arith, short, h))
 name_ok text (Err ZeroByte) named long none = let z = (none.0 refl).1 in absurd (no_zero_at text z.0 named.1 z.1 z.2)
 
--- what stands before the first zero of the first n bytes
+-- the bytes before the first zero byte among the first n
 pub cut_text : (n : ℕ) (bytes : List ℕ) → AreBytes bytes → IsText n (before_zero (take n bytes))
 cut_text n bytes b =
     let l = length-before_zero (take n bytes) in

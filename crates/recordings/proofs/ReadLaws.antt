@@ -1,4 +1,4 @@
--- What the parts of the reader say of the whole file.
+-- The parts of the reader make the reading of the whole file.
 use Rattle.std.proofs.Common.{◌≡◌, ℕ, List, [], ◌++◌, Option, Some, None, Result, Ok, Err, sym, ap, ◌∙◌}
 use Rattle.std.specs.Prelude.{unwrap_or}
 use Rattle.std.specs.Result.{IsErrAnd}
@@ -34,7 +34,7 @@ riff_fails file (Err e) f is h =
     (ap (λ (o : Option WaveFault). unless_broken o (said (window file)))
     (first_broken-front (riff_steps file) (window_steps (window file)) f h))
 
--- what the window says is said by the file
+-- the result of reading the window is that of the file
 pub window_says : (file w : List ℕ) (r : Result Recording WaveFault) → first_broken (riff_steps file) ≡ None
     → w ≡ window file
     → Passes (λ (x : Recording). x) r (window_steps w) (said w) → r ≡ recording_in file
@@ -105,7 +105,7 @@ module _ (chunks : List Chunk) (r : Result Recording WaveFault) where
       (data_steps (layout_in f) (first_body DATA chunks)) last_steps is
       ((λ i. first_broken (data_steps (l i) (sym same i))) ∙ h))
 
-  -- the steps of the sampler chunk, where the others hold
+  -- the checks of the `smpl` chunk, if all others hold
   pub sampler_left : (format : Format) (found : Channels) → HasFormat chunks format → HasData chunks format found
       → Passes (λ (x : Recording). x) r last_steps (content_in chunks) → Reads
   unfolding content_steps
@@ -117,7 +117,7 @@ module _ (chunks : List Chunk) (r : Result Recording WaveFault) where
       (first_body DATA chunks)) last_steps
       (ap (λ (x : Layout). first_broken (data_steps x (first_body DATA chunks))) l ∙ there.holds) p)
 
--- how many frames there are
+-- the number of frames
 counted : (chunks : List Chunk) (format : Format) (found : Channels) → HasFormat chunks format
     → HasData chunks format found
     → frame_count found ≡ frame_count (channels_in (layout_in (body_in FORMAT chunks)) (body_in DATA chunks))

@@ -1,4 +1,4 @@
--- The number and the name by which each fault of a WAVE file is told.
+-- The number and the name that each fault of a WAVE file is reported by.
 use Rattle.std.specs.Prelude.{ℕ, List, codes}
 use Rattle.recordings.specs.declared.fault.WaveFault.{WaveFault}
 use Rattle.recordings.specs.declared.fault.WaveFault.TheVariants.{NotWave, Truncated, Compressed, NoFormat}

@@ -1,4 +1,4 @@
--- The edits by which a recording comes into a bank, at the end of its samples.
+-- The edits that append a recording to a bank's samples.
 use Rattle.std.specs.Prelude.{◌+◌, ℕ, nat_lt, if◌then◌else◌, codes, List, [], ◌∷◌, ◌++◌, take}
 use Rattle.std.specs.List.{flat_map}
 use Rattle.sf_base.specs.declared.limits.TheConstants.{SAMPLES}
@@ -36,11 +36,11 @@ sides_of (Stereo frames) = record { left = left_points frames; right = right_poi
 
 -- ---- the names
 
--- what stands before the first zero byte, of the first 20 bytes
+-- the first 20 bytes, up to the first zero byte
 abbrev pub mono_name : List ℕ → List ℕ
 mono_name name = before_zero (take 20 name)
 
--- of the first 18, and the side's letter
+-- the first 18 bytes, up to the first zero byte, then the side's letter
 abbrev pub side_name : List ℕ → List ℕ → List ℕ
 side_name name letter = before_zero (take 18 name) ++ letter
 
@@ -60,15 +60,15 @@ sample_of rate sampler name points kind = record {
 abbrev pub add_edit : ℕ → Sample → Edit
 add_edit at sample = One (steps.Sample (AddSample at sample))
 
--- Two samples come as samples n and n + 1, and the first is linked with the second. A full bank refuses the first
--- edit, and the others can't be said of it.
+-- The samples get the numbers n and n + 1, and the first is linked to the second. In a full bank the first edit is
+-- refused; the later ones, whose numbers would not fit, are left out.
 abbrev pub pair_edits : ℕ → Sample → Sample → List Edit
 pair_edits n left right =
     if nat_lt n SAMPLES then add_edit n left ∷ add_edit (n + 1) right
     ∷ One (steps.Points n (SetKind (kind.Left (n + 1)))) ∷ []
     else add_edit n left ∷ []
 
--- one channel comes as one sample, and two as a left and a right one
+-- a mono recording becomes one sample, a stereo recording a left and a right one
 abbrev pub channel_edits : ℕ → List ℕ → ℕ → Sampler → Channels → List Edit
 channel_edits n name rate sampler (Mono points) =
     add_edit n (sample_of rate sampler (mono_name name) points kind.Mono) ∷ []
@@ -77,6 +77,6 @@ channel_edits n name rate sampler (Stereo frames) =
     (sample_of rate sampler (side_name name (codes " L")) (left_points frames) kind.Mono)
     (sample_of rate sampler (side_name name (codes " R")) (right_points frames) (kind.Right n))
 
--- the edits that put a recording of this name behind n samples
+-- the edits that append a recording with this name to n samples
 unfoldable pub import_edits : ℕ → List ℕ → Recording → List Edit
 import_edits n name r = channel_edits n name r.rate r.sampler r.channels

@@ -1,4 +1,4 @@
--- What holds of the WAVE files that are written, and of reading them.
+-- Laws of the WAVE files that are written, and of reading them.
 use Rattle.std.specs.Prelude.{◌≡◌, ◌≤◌, length, Ok}
 use Rattle.sf_base.specs.declared.limits.TheConstants.{POINTS}
 use Rattle.bank_parts.specs.declared.parts.Sample.{Sample}
@@ -9,7 +9,7 @@ use Rattle.recordings.specs.declared.recording.Channels.TheVariants.{Mono}
 use Rattle.recordings.specs.declared.recording.Recording.{Recording}
 use Rattle.recordings.specs.ReadSteps.{recording_in}
 
--- one channel with the points, the rate, the key, the correction and the loop of a sample
+-- a mono recording with the points, the rate, the key, the correction and the loop of a sample
 abbrev pub recorded : Sample → Recording
 recorded s = record {
   channels = Mono s.points;
@@ -17,7 +17,7 @@ recorded s = record {
   sampler = record { pitch = record { key = s.key; correction = s.correction }; looped = s.looped };
 }
 
--- The WAVE file of a sample that a bank can have reads as that sample.
+-- The WAVE file of a sample that a bank can have reads back as that sample.
 abbrev pub WavesReadBack : Type 0
 WavesReadBack =
     (s : Sample) → FitsSample s → IsLoop (length s.points) s.looped → length s.points ≤ POINTS

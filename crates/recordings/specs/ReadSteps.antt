@@ -1,4 +1,4 @@
--- The steps of reading a WAVE file, in their order. The first that a file breaks gives its fault.
+-- The checks of reading a WAVE file, in order. The first that fails gives the fault.
 use Rattle.std.specs.Prelude.{◌+◌, ◌-◌, ◌*◌, ◌%◌, ◌^◌, ◌==◌, ◌&&◌, ◌||◌, ℕ, Bool, min, nat_le, nat_lt, List, [], ◌∷◌}
 use Rattle.std.specs.Prelude.{◌++◌, length, Option, Some, None, is_some, unwrap_or, Result, Ok, Err}
 use Rattle.riff_chunks.specs.Walk.{Chunk, walk}
@@ -17,12 +17,12 @@ use Rattle.recordings.specs.Recordings.{channel_count_in, bits_in, is_plain, lay
 use Rattle.recordings.specs.Recordings.{channels_in, frame_count, loop_count_in, forward_loop, unity_note_in}
 use Rattle.recordings.specs.Recordings.{sampler_in}
 
--- ---- the RIFF chunk, whose form is WAVE
+-- ---- the RIFF chunk, whose form type is WAVE
 
 abbrev pub riff_steps : List ℕ → List (Step WaveFault)
 riff_steps file = form_steps WAVE fault.NotWave fault.Truncated fault.NotWave file
 
--- ---- the format chunk
+-- ---- the `fmt ` chunk
 
 unfoldable pub format_steps : List ℕ → List (Step WaveFault)
 format_steps f =
@@ -32,7 +32,7 @@ format_steps f =
     ∷ step (channel_count_in f == 1 || channel_count_in f == 2) fault.ChannelCount
     ∷ []
 
--- ---- the data chunk, of whole frames
+-- ---- the `data` chunk, of whole frames
 
 unfoldable pub frame_steps : Layout → List ℕ → List (Step WaveFault)
 frame_steps layout bytes = step (length bytes % frame_size layout == 0) fault.HalfFrame ∷ []
@@ -40,13 +40,13 @@ frame_steps layout bytes = step (length bytes % frame_size layout == 0) fault.Ha
 unfoldable pub data_steps : Layout → Option (List ℕ) → List (Step WaveFault)
 data_steps layout body = step (is_some body) fault.NoData ∷ frame_steps layout (unwrap_or body [])
 
--- ---- the sampler chunk, if there is one
+-- ---- the `smpl` chunk, if there is one
 
--- the chunk has what stands before its loops, and its loops
+-- the chunk holds its header and all its loops
 abbrev pub has_loops : List ℕ → Bool
 has_loops s = nat_le 36 (length s) && nat_le (36 + 24 * loop_count_in s) (length s)
 
--- a loop of at least one point among so many frames, whose end is a number of 32 bits
+-- a loop of at least one point among these frames, whose end fits into 32 bits
 abbrev pub is_inside : ℕ → SamplerLoop → Bool
 is_inside frames l = nat_le l.first l.last && nat_lt l.last (min frames (2 ^ 32 - 1))
 
@@ -66,7 +66,7 @@ sampler_steps frames (Some s) = chunk_steps frames s
 
 -- ---- together
 
--- what the first chunk of each id says
+-- the first chunk of each id
 unfoldable pub content_steps : List Chunk → List (Step WaveFault)
 content_steps chunks =
     let f = body_in FORMAT chunks in
@@ -90,11 +90,11 @@ window_steps w = step (is_whole (walk w)) fault.Truncated ∷ content_steps (chu
 unfoldable pub steps : List ℕ → List (Step WaveFault)
 steps file = riff_steps file ++ window_steps (window file)
 
--- a value, or the fault
+-- a value, or the fault of a failed check
 abbrev pub unless_broken : {X : Type 0} → Option WaveFault → X → Result X WaveFault
 unless_broken None value = Ok value
 unless_broken (Some fault) value = Err fault
 
--- The recording that a WAVE file says, or the fault of the first step that it breaks.
+-- The recording of a WAVE file, or the fault of the first check that fails.
 unfoldable pub recording_in : List ℕ → Result Recording WaveFault
 recording_in file = unless_broken (first_broken (steps file)) (content_in (chunks_in (walk (window file))))

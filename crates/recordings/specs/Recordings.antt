@@ -1,4 +1,4 @@
--- What the chunks of a WAVE file say.
+-- The content of the chunks of a WAVE file.
 use Rattle.std.specs.Prelude.{◌+◌, ◌-◌, ◌*◌, ◌/◌, ◌^◌, ◌==◌, ◌&&◌, ◌||◌, if◌then◌else◌, ℕ, pos, neg_ℤ, Bool, nat_le}
 use Rattle.std.specs.Prelude.{List, [], ◌∷◌, length, take, drop, find, slice_index, bytes_eq, Option, Some, None}
 use Rattle.std.specs.Option.{option_map}
@@ -18,7 +18,7 @@ use Rattle.recordings.specs.declared.recording.Format.{Format}
 use Rattle.recordings.specs.declared.recording.Pitch.{Pitch}
 use Rattle.recordings.specs.declared.recording.Sampler.{Sampler}
 
--- ---- the format chunk
+-- ---- the `fmt ` chunk
 
 abbrev pub tag_in : List ℕ → ℕ
 tag_in f = field_at 0 2 f
@@ -29,11 +29,11 @@ channel_count_in f = field_at 2 2 f
 abbrev pub bits_in : List ℕ → ℕ
 bits_in f = field_at 14 2 f
 
--- the subformat of plain whole numbers
+-- the subformat GUID of integer PCM
 unfoldable pub PLAIN : List ℕ
 PLAIN = 1 ∷ 0 ∷ 0 ∷ 0 ∷ 0 ∷ 0 ∷ 16 ∷ 0 ∷ 128 ∷ 0 ∷ 0 ∷ 170 ∷ 0 ∷ 56 ∷ 155 ∷ 113 ∷ []
 
--- plain whole numbers, or the extensible format of these
+-- integer PCM, directly or as WAVE_FORMAT_EXTENSIBLE
 abbrev pub is_plain : List ℕ → Bool
 is_plain f = tag_in f == 1 || (tag_in f == 65534 && bytes_eq (take 16 (drop 24 f)) PLAIN)
 
@@ -43,14 +43,14 @@ layout_in f = if channel_count_in f == 2 then layout.Stereo else layout.Mono
 abbrev pub format_in : List ℕ → Format
 format_in f = record { layout = layout_in f; rate = field_at 4 4 f }
 
--- ---- the data chunk
+-- ---- the `data` chunk
 
--- the bytes of a frame
+-- the size of a frame in bytes
 abbrev pub frame_size : Layout → ℕ
 frame_size layout.Mono = 2
 frame_size layout.Stereo = 4
 
--- the bytes of its left point and of its right one
+-- the bytes of its left and of its right point
 abbrev pub frame_of : List ℕ → Frame
 frame_of bytes = record { left = take 2 bytes; right = take 2 (drop 2 bytes) }
 
@@ -62,27 +62,27 @@ abbrev pub frame_count : Channels → ℕ
 frame_count (channels.Mono points) = length points
 frame_count (channels.Stereo frames) = length frames
 
--- ---- the sampler chunk: its loops
+-- ---- the `smpl` chunk: loops
 
 abbrev pub loop_count_in : List ℕ → ℕ
 loop_count_in s = field_at 28 4 s
 
--- its type, its first point and its last
+-- its type, its first point and its last point
 abbrev pub sampler_loop_of : List ℕ → SamplerLoop
 sampler_loop_of bytes = record { kind = field_at 4 4 bytes; first = field_at 8 4 bytes; last = field_at 12 4 bytes }
 
 abbrev pub loops_in : List ℕ → List SamplerLoop
 loops_in s = records 24 sampler_loop_of (take (24 * loop_count_in s) (drop 36 s))
 
--- the first loop that is played forwards
+-- the first forward loop
 abbrev pub forward_loop : List ℕ → Option SamplerLoop
 forward_loop s = find (λ (l : SamplerLoop). l.kind == 0) (loops_in s)
 
--- the first point, and the first point after it
+-- the first point of a loop, and the first point after it
 abbrev pub ends_of : SamplerLoop → ℕ × ℕ
 ends_of l = (l.first, l.last + 1)
 
--- ---- the sampler chunk: its pitch
+-- ---- the `smpl` chunk: pitch
 
 abbrev pub unity_note_in : List ℕ → ℕ
 unity_note_in s = field_at 12 4 s
@@ -90,15 +90,15 @@ unity_note_in s = field_at 12 4 s
 abbrev pub fraction_in : List ℕ → ℕ
 fraction_in s = field_at 16 4 s
 
--- what follows the loops
+-- the sampler data, after the loops
 abbrev pub data_in : List ℕ → List ℕ
 data_in s = take (field_at 32 4 s) (drop (36 + 24 * loop_count_in s) s)
 
--- the key and the correction that such data hold
+-- the key and the correction in sampler data that sfbank wrote
 abbrev pub pitch_held : List ℕ → Pitch
 pitch_held bytes = record { key = slice_index bytes 4; correction = cast_signed w8 (slice_index bytes 5) }
 
--- the chunk is as sfbank writes it for a sample of this key and correction
+-- the chunk is what sfbank writes for a sample of this key and correction
 abbrev pub is_held : List ℕ → Pitch → Bool
 is_held s p =
     bytes_eq (data_in s) (held_pitch p.key p.correction)
@@ -108,17 +108,17 @@ abbrev pub held_in : List ℕ → Option Pitch
 held_in s =
     if length (data_in s) == 8 && is_held s (pitch_held (data_in s)) then Some (pitch_held (data_in s)) else None
 
--- the cents above the unity note, to the nearest
+-- the pitch fraction in cents, rounded to nearest
 abbrev pub cents_in : List ℕ → ℕ
 cents_in s = (100 * fraction_in s + 2 ^ 31) / 2 ^ 32
 
--- the key that is nearest to so many cents above a note, and the correction from it; above 127 there is no key
+-- the nearest key to a note and cents above it, at most 127, and the correction from it
 abbrev pub nearest : ℕ → ℕ → Pitch
 nearest note cents =
     if nat_le cents 50 || note == 127 then record { key = note; correction = neg_ℤ (pos cents) }
     else record { key = note + 1; correction = pos (100 - cents) }
 
--- the key and the correction that the chunk holds, or else those that are nearest
+-- the key and the correction that sfbank stored, else the nearest ones
 abbrev pub pitch_of : Option Pitch → List ℕ → Pitch
 pitch_of (Some p) s = p
 pitch_of None s = nearest (unity_note_in s) (cents_in s)
@@ -126,7 +126,7 @@ pitch_of None s = nearest (unity_note_in s) (cents_in s)
 abbrev pub pitch_in : List ℕ → Pitch
 pitch_in s = pitch_of (held_in s) s
 
--- ---- the sampler chunk, if there is one
+-- ---- the `smpl` chunk, if there is one
 
 -- without one: key 60, no correction and no loop
 abbrev pub sampler_in : Option (List ℕ) → Sampler

@@ -1,4 +1,4 @@
-//! Why a WAVE file is not read.
+//! Why a WAVE file can't be read.
 ghost use Rattle.std.specs.Prelude.{◌≡◌};
 ghost use Rattle.recordings.specs.declared.fault.WaveFault.TheVariants as faults;
 ghost use Rattle.recordings.specs.FaultNames.{number_of, name_of};
@@ -6,14 +6,14 @@ ghost use Rattle.recordings.specs.FaultNames.{number_of, name_of};
 use riff_chunks::Truncated;
 use thiserror::Error;
 
-/// The first step of reading that a WAVE file breaks.
+/// The first check that a WAVE file fails.
 #[derive(Clone, Copy, Debug, PartialEq, Eq, Error)]
 pub enum WaveFault {
     #[error("the file is no RIFF file of the form WAVE")]
     NotWave = 53,
     #[error("a chunk passes the end of what holds it")]
     Truncated = 54,
-    /// What is neither plain whole numbers nor the extensible format of these.
+    /// Neither integer PCM nor WAVE_FORMAT_EXTENSIBLE with integer PCM.
     #[error("the samples are compressed, or no whole numbers")]
     Compressed = 55,
     #[error("there is no format chunk of 16 bytes")]
@@ -35,14 +35,14 @@ pub enum WaveFault {
 }
 
 impl WaveFault {
-    /// The number by which a fault line tells it.
+    /// The number that fault lines report.
     pub fn number(self) -> u8
         ensures { result ≡ number_of self }
     {
         self as u8
     }
 
-    /// The name by which a fault line tells it.
+    /// The name that fault lines report.
     pub fn name(self) -> &'static str
         ensures { result.now ≡ name_of self }
     {

@@ -1,4 +1,4 @@
-//! The format chunk and the data chunk of a WAVE file.
+//! The `fmt ` and `data` chunks of a WAVE file.
 ghost use Rattle.std.specs.Prelude.{◌≡◌, ◌≤◌, [], length, unwrap_or};
 ghost use Rattle.std.specs.Option.{option_copied};
 ghost use Rattle.bank_format.specs.Steps.{Passes};
@@ -12,22 +12,22 @@ use sample_view::Points;
 use sf_base::{part_of, u16_at, u32_at};
 use std::alloc::Global;
 
-/// The bytes of a format chunk at least.
+/// The least size of a `fmt ` chunk, in bytes.
 const FORMAT_SIZE: usize = 16;
 
-/// The tag of plain whole numbers.
+/// The format tag of integer PCM.
 const PLAIN_TAG: u16 = 1;
 
-/// The tag of the extensible format, which has a subformat.
+/// The format tag of WAVE_FORMAT_EXTENSIBLE, which has a subformat.
 const EXTENSIBLE_TAG: u16 = 0xfffe;
 
-/// Where the subformat stands.
+/// The offset of the subformat GUID.
 const SUBFORMAT_PLACE: usize = 24;
 
-/// The subformat of plain whole numbers.
+/// The subformat GUID of integer PCM.
 const PLAIN_SUBFORMAT: [u8; 16] = [1, 0, 0, 0, 0, 0, 16, 0, 128, 0, 0, 170, 0, 56, 155, 113];
 
-/// The layout and the rate of samples of 16 bits that are plain whole numbers.
+/// Reads the `fmt ` chunk, which must be 16-bit integer PCM of one or two channels.
 #[tactic(auto, unfolding(crate::specs::ReadSteps::format_steps))]
 pub(crate) fn read_format(format: &[u8]) -> Result<Format, WaveFault>
     ensures { Passes (λ f. f) result (format_steps format.now) (format_in format.now) }
@@ -55,7 +55,7 @@ pub(crate) fn read_format(format: &[u8]) -> Result<Format, WaveFault>
     }
 }
 
-// Whether samples are plain whole numbers, also in the extensible format.
+// Whether the format is integer PCM, directly or as WAVE_FORMAT_EXTENSIBLE.
 #[tactic(auto, unfolding(crate::specs::Recordings::PLAIN))]
 fn is_plain(format: &[u8]) -> bool
     requires { 16 ≤ length format.now }
@@ -67,7 +67,7 @@ fn is_plain(format: &[u8]) -> bool
             && part_of(format, SUBFORMAT_PLACE, 16) == PLAIN_SUBFORMAT.as_slice())
 }
 
-/// The points or the frames of a data chunk, which has to be there and to be whole frames long. Takes no memory.
+/// Reads the `data` chunk, which must exist and consist of whole frames. Allocates nothing.
 #[tactic(auto, unfolding(crate::specs::ReadSteps::data_steps))]
 pub(crate) fn read_data<'a>(
     alloc: Global,
@@ -83,7 +83,7 @@ pub(crate) fn read_data<'a>(
     }
 }
 
-// The points or the frames in bytes.
+// The points of a mono recording, or the frames of a stereo one.
 #[tactic(auto, unfolding(crate::specs::ReadSteps::frame_steps))]
 fn read_channels<'a>(
     alloc: Global,

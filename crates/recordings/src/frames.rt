@@ -1,4 +1,4 @@
-//! The records of a WAVE file: frames of two channels, and the loops of a sampler chunk.
+//! The records of a WAVE file: stereo frames, and the loops of a `smpl` chunk.
 ghost use Rattle.std.specs.Prelude.{◌≡◌, ◌≤◌, length, take};
 ghost use Rattle.std.proofs.Common.{lit<};
 ghost use Rattle.recordings.specs.Recordings.{frame_of, sampler_loop_of};
@@ -6,7 +6,7 @@ ghost use Rattle.recordings.specs.Recordings.{frame_of, sampler_loop_of};
 use hydra_records::Record;
 use sf_base::{rest_from, u32_at};
 
-/// A frame of two channels: the bytes of its left point and of its right one, the low byte of each first.
+/// A stereo frame: the bytes of its left and of its right point, little-endian.
 #[derive(Clone, Copy, Debug, PartialEq, Eq)]
 pub struct Frame {
     pub left: [u8; 2],
@@ -30,10 +30,10 @@ impl Record for Frame {
     }
 }
 
-/// A loop of a sampler chunk, a record of 24 bytes.
+/// A loop of a `smpl` chunk, a record of 24 bytes.
 #[derive(Clone, Copy, Debug, PartialEq, Eq)]
 pub struct SamplerLoop {
-    /// How it is played: 0 for forwards.
+    /// The loop type: 0 for a forward loop.
     pub kind: u32,
 
     /// Its first frame.

@@ -1,4 +1,4 @@
-//! The edits by which a recording comes into a bank.
+//! The edits that import a recording into a bank.
 ghost use Rattle.std.specs.Prelude.{◌≡◌, ◌≤◌, [], ◌∷◌, IfOk};
 ghost use Rattle.std.specs.List.{AllByRecursion};
 ghost use Rattle.sf_base.specs.Names.{IsName, IsTextByte};
@@ -16,19 +16,18 @@ use sf_base::limits::{NAME_LENGTH, SAMPLES};
 use sf_base::{Name20, OutOfMemory, front_of};
 use std::alloc::Global;
 
-/// What stands behind the name of a left sample and of a right one.
+/// The suffixes of the names of a left and a right sample.
 const LEFT: &[u8; 2] = b" L";
 
 const RIGHT: &[u8; 2] = b" R";
 
-/// The bytes of a name before its side, at most.
+/// The most bytes of a name before its suffix.
 const OWN_LENGTH: usize = 18;
 
-/// The edits that put a recording behind `samples` samples, whose points are parted in `sides`: one sample of one channel, or
-/// a left and a right one of two, linked with each other.
+/// The edits that append a recording to `samples` samples. A mono recording becomes one sample, a stereo recording a
+/// left and a right sample that are linked to each other; `sides` has its split points.
 ///
-/// A name is cut before a zero byte and after 20 bytes. Of two channels it is cut after 18, and ` L` or ` R` stands behind
-/// it.
+/// The name is truncated at a zero byte and to 20 bytes; for a stereo recording to 18 bytes, followed by ` L` or ` R`.
 #[tactic(auto, unfolding(crate::specs::Imports::import_edits))]
 pub fn import_edits<'a>(
     alloc: Global,
@@ -67,14 +66,14 @@ pub fn import_edits<'a>(
     }
 }
 
-// What stands before the first zero byte, of the first 20 bytes.
+// The first 20 bytes, up to the first zero byte.
 fn mono_name(name: &[u8]) -> Name20
     ensures { result ≡ mono_name name.now }
 {
     name_of(before_zero(front_of(name, NAME_LENGTH)))
 }
 
-// The same of the first 18, and then the side.
+// The first 18 bytes, up to the first zero byte, then the suffix.
 fn side_name(name: &[u8], side: &[u8; 2]) -> Name20
     requires { AllByRecursion IsTextByte side.now }
     ensures { result ≡ side_name name.now side.now }
@@ -119,7 +118,7 @@ fn add_edit(at: u32, sample: Sample<'_>) -> Edit<'_>
     Edit::One(Step::Sample(SampleStep::AddSample { at, sample }))
 }
 
-// The edit that puts a sample behind `samples` others.
+// The edit that appends a sample to `samples` others.
 fn single_edit<'a>(
     alloc: Global,
     samples: usize,
@@ -133,8 +132,8 @@ fn single_edit<'a>(
     Ok(edits)
 }
 
-// The edits that put a left sample and a right one behind `samples` others. Where the bank is full the first of them is
-// refused, and stands for all.
+// The edits that append a left and a right sample to `samples` others. In a full bank only the first edit, which is
+// refused: the later ones have numbers that would not fit.
 fn pair_edits<'a>(
     alloc: Global,
     samples: usize,

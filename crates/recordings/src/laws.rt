@@ -1,7 +1,7 @@
 //! Laws of recordings.
 ghost use Rattle.recordings.specs.Laws.{WavesReadBack};
 
-/// The WAVE file of a sample reads as one channel with its points, rate, key, correction and loop.
+/// The WAVE file of a sample reads back as a mono recording with its points, rate, key, correction and loop.
 pub fn sample_waves_read_back()
     ensures { WavesReadBack }
 {}

@@ -1,8 +1,7 @@
-//! Samples as recordings: what a WAVE file says, the faults that it may have, and the edits by which its
-//! samples come into a bank.
+//! Recordings: reads WAVE files, and makes the edits that import them into a bank as samples.
 //!
-//! A WAVE file is a RIFF file whose form is `WAVE`. Of its chunks `fmt `, `data` and `smpl` are read, the first of
-//! each, and all others are passed over.
+//! A WAVE file is a RIFF file with the form type `WAVE`. The first `fmt `, `data` and `smpl` chunk are read; all other
+//! chunks are ignored.
 #![tactic(auto)]
 
 mod fault;

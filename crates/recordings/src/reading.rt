@@ -18,11 +18,11 @@ use std::alloc::Global;
 /// The chunks that are read.
 const IDS: &[[u8; 4]] = &[*b"fmt ", *b"data", *b"smpl"];
 
-/// What a WAVE file says, or the fault of the first step of reading that it breaks. It borrows the points from the
-/// file, and takes no memory.
+/// Reads a WAVE file, or returns the fault of the first check that fails. The recording borrows its points from the
+/// file; nothing is allocated.
 ///
-/// The samples are plain whole numbers of 16 bits, of one channel or of two. The sampler chunk gives key, correction
-/// and loop: of its loops the first that is played forwards.
+/// The samples must be 16-bit integer PCM, mono or stereo. The `smpl` chunk gives key, correction and loop: the first
+/// forward loop of its loops.
 pub fn read_recording<'a>(alloc: Global, file: &'a [u8]) -> Result<Recording<'a>, WaveFault>
     ensures { result ≡ recording_in file.now }
 {
@@ -36,7 +36,7 @@ pub fn read_recording<'a>(alloc: Global, file: &'a [u8]) -> Result<Recording<'a>
     read_window(alloc, window)
 }
 
-// What the chunks of the window say, which is walked to its end.
+// Reads the chunks of the window, which must fill it.
 #[tactic(auto, unfolding(crate::specs::ReadSteps::window_steps))]
 fn read_window<'a>(alloc: Global, window: &'a [u8]) -> Result<Recording<'a>, WaveFault>
     ensures { Passes (λ r. r) result (window_steps window.now) (content_in (chunks_in (walk window.now))) }
@@ -45,7 +45,7 @@ fn read_window<'a>(alloc: Global, window: &'a [u8]) -> Result<Recording<'a>, Wav
     read_content(alloc, &chunks)
 }
 
-// What the first chunk of each id says.
+// Reads the first chunk of each id.
 fn read_content<'a>(alloc: Global, chunks: &FirstChunks<'a>) -> Result<Recording<'a>, WaveFault>
     ensures { Passes (λ r. r) result (content_steps chunks.now) (content_in chunks.now) }
 {
@@ -59,7 +59,7 @@ fn read_content<'a>(alloc: Global, chunks: &FirstChunks<'a>) -> Result<Recording
     })
 }
 
-// The body of the format chunk. A missing one holds no byte.
+// The body of the `fmt ` chunk. A missing chunk is empty.
 #[tactic(auto, unfolding(wave_file::specs::Wave::FORMAT))]
 fn format_of<'a>(chunks: &FirstChunks<'a>) -> &'a [u8]
     ensures { result.now ≡ body_in FORMAT chunks.now }

@@ -1,4 +1,4 @@
-//! What a WAVE file says.
+//! The content of a WAVE file.
 ghost use Rattle.std.specs.Prelude.{◌≡◌};
 ghost use Rattle.recordings.specs.Recordings.{frame_count};
 
@@ -6,40 +6,40 @@ use crate::frames::Frame;
 use hydra_records::Table;
 use sample_view::Points;
 
-/// How many channels the frames of a WAVE file have: one, or a left one and a right one.
+/// The channels of a WAVE file: mono, or left and right.
 #[derive(Clone, Copy, Debug, PartialEq, Eq)]
 pub(crate) enum Layout {
     Mono,
     Stereo,
 }
 
-/// What the format chunk says of samples that can be read.
+/// The format of samples that can be read.
 #[derive(Clone, Copy, Debug, PartialEq, Eq)]
 pub(crate) struct Format {
     pub(crate) layout: Layout,
-    /// Frames a second.
+    /// Frames per second.
     pub(crate) rate: u32,
 }
 
-/// The points of a recording, which lie in the file.
+/// The points of a recording, borrowed from the file.
 #[derive(Drop)]
 pub enum Channels<'a> {
-    /// Those of one channel.
+    /// The points of a mono recording.
     Mono(Points<'a>),
-    /// The frames of two.
+    /// The frames of a stereo recording.
     Stereo(Table<'a, Frame>),
 }
 
-/// The pitch at which a recording sounds.
+/// The pitch of a recording.
 #[derive(Clone, Copy, Debug, PartialEq, Eq)]
 pub struct Pitch {
-    /// The key at which it sounds as recorded; above 127 for none.
+    /// The key at which it sounds as recorded; above 127 for unpitched.
     pub key: u8,
-    /// The correction of its pitch, in cents.
+    /// The pitch correction, in cents.
     pub correction: i8,
 }
 
-/// What the sampler chunk says of a recording.
+/// The content of the `smpl` chunk.
 #[derive(Clone, Copy, Debug, PartialEq, Eq)]
 pub struct Sampler {
     pub pitch: Pitch,
@@ -47,17 +47,17 @@ pub struct Sampler {
     pub looped: Option<(u32, u32)>,
 }
 
-/// What a WAVE file says.
+/// A WAVE file that is read.
 #[derive(Drop)]
 pub struct Recording<'a> {
     pub channels: Channels<'a>,
-    /// Frames a second.
+    /// Frames per second.
     pub rate: u32,
     pub sampler: Sampler,
 }
 
 impl Channels<'_> {
-    /// How many frames there are.
+    /// The number of frames.
     pub fn frame_count(&self) -> usize
         ensures { result ≡ frame_count self.now }
     {

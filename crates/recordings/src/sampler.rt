@@ -1,4 +1,4 @@
-//! The sampler chunk of a WAVE file: its loop and its pitch.
+//! The `smpl` chunk of a WAVE file: loop and pitch.
 ghost use Rattle.std.specs.Prelude.{◌≡◌, ◌+◌, ◌*◌, ◌≤◌, length};
 ghost use Rattle.std.specs.Option.{option_copied, option_map};
 ghost use Rattle.bank_format.specs.Steps.{Passes};
@@ -12,23 +12,23 @@ use hydra_records::Table;
 use sf_base::{part_of, u32_at};
 use wave_file::{pitch_fraction, unity_note};
 
-/// The bytes before the loops.
+/// The size of the header before the loops, in bytes.
 const HEAD_SIZE: usize = 36;
 
-/// The bytes of a loop.
+/// The size of a loop, in bytes.
 const LOOP_SIZE: usize = 24;
 
-/// The bytes of the data by which sfbank keeps a sample's key and correction.
+/// The size of the sampler data in which sfbank stores a sample's key and correction, in bytes.
 const HELD_SIZE: usize = 8;
 
-/// The type of a loop that is played forwards.
+/// The type of a forward loop.
 const FORWARDS: u32 = 0;
 
 /// The highest key.
 const HIGHEST_KEY: u32 = 127;
 
-/// What the sampler chunk says, if there is one, of so many frames. Without it the key is 60, and there is neither a
-/// correction nor a loop.
+/// Reads the `smpl` chunk of a recording of `frames` frames. Without one the key is 60, the correction 0, and there is
+/// no loop.
 pub(crate) fn read_sampler(chunk: Option<&[u8]>, frames: usize) -> Result<Sampler, WaveFault>
     ensures { Passes (λ s. s) result (sampler_steps frames (option_copied chunk.entry)) (sampler_in (option_copied chunk.entry)) }
 {
@@ -60,7 +60,7 @@ fn read_chunk(chunk: &[u8], frames: usize) -> Result<Sampler, WaveFault>
     Ok(Sampler { pitch, looped })
 }
 
-// Whether the chunk has what stands before its loops, and its loops.
+// Whether the chunk holds its header and all its loops.
 fn has_loops(chunk: &[u8]) -> bool
     ensures { result ≡ has_loops chunk.now }
 {
@@ -75,7 +75,7 @@ fn loop_count(chunk: &[u8]) -> usize
     u32_at(chunk, 28) as usize
 }
 
-// The first loop that is played forwards.
+// The first forward loop.
 fn forward_loop(chunk: &[u8]) -> Option<SamplerLoop>
     requires head { 36 ≤ length chunk.now }
     requires loops { 36 + 24 * loop_count_in chunk.now ≤ length chunk.now }
@@ -91,7 +91,7 @@ fn forward_loop(chunk: &[u8]) -> Option<SamplerLoop>
     None
 }
 
-// The ends of a loop, which has to lie among so many frames.
+// The ends of a loop, which must lie within the frames.
 fn read_loop(found: Option<SamplerLoop>, frames: usize) -> Result<Option<(u32, u32)>, WaveFault>
     ensures { Passes (λ looped. looped) result (loop_steps frames found) (option_map ends_of found) }
 {
@@ -104,7 +104,7 @@ fn read_loop(found: Option<SamplerLoop>, frames: usize) -> Result<Option<(u32, u
     Ok(Some((found.first, found.last + 1)))
 }
 
-// The key and the correction that the chunk holds, or else those that are nearest to its pitch.
+// The key and the correction that sfbank stored, else the nearest to the chunk's pitch.
 fn pitch_in(chunk: &[u8]) -> Pitch
     requires head { 36 ≤ length chunk.now }
     requires note { unity_note_in chunk.now ≤ 127 }
@@ -116,7 +116,7 @@ fn pitch_in(chunk: &[u8]) -> Pitch
     }
 }
 
-// The key and the correction that the data of a chunk hold, where it is as sfbank writes it.
+// The key and the correction in the sampler data, if sfbank wrote the chunk.
 fn held_in(chunk: &[u8]) -> Option<Pitch>
     requires { 36 ≤ length chunk.now }
     ensures { result ≡ held_in chunk.now }
@@ -136,7 +136,7 @@ fn held_in(chunk: &[u8]) -> Option<Pitch>
     }
 }
 
-// What follows the loops.
+// The sampler data, after the loops.
 fn data_in(chunk: &[u8]) -> &[u8]
     requires { 36 ≤ length chunk.now }
     ensures { result.now ≡ data_in chunk.now }
@@ -145,7 +145,7 @@ fn data_in(chunk: &[u8]) -> &[u8]
     part_of(chunk, place, u32_at(chunk, 32) as usize)
 }
 
-// Whether the chunk is as sfbank writes it for a sample of this pitch.
+// Whether the chunk is what sfbank writes for a sample of this pitch.
 #[tactic(auto, unfolding(wave_file::specs::SampleWave::held_pitch))]
 fn is_held(chunk: &[u8], pitch: Pitch) -> bool
     requires { 36 ≤ length chunk.now }
@@ -166,7 +166,7 @@ fn is_held(chunk: &[u8], pitch: Pitch) -> bool
         && u32_at(chunk, 16) == pitch_fraction(pitch.key, pitch.correction)
 }
 
-// The cents above the unity note, to the nearest.
+// The pitch fraction in cents, rounded to nearest.
 fn cents_in(chunk: &[u8]) -> u8
     requires { 36 ≤ length chunk.now }
     ensures value { result ≡ cents_in chunk.now }
@@ -176,7 +176,7 @@ fn cents_in(chunk: &[u8]) -> u8
     ((100 * fraction + (1 << 31)) >> 32) as u8
 }
 
-// The key that is nearest to so many cents above a note, and the correction from it.
+// The nearest key to a note and cents above it, at most 127, and the correction from it.
 fn nearest(note: u8, cents: u8) -> Pitch
     requires note { note ≤ 127 }
     requires cents { cents ≤ 100 }

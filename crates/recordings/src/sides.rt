@@ -1,4 +1,4 @@
-//! The points of two channels, each for itself.
+//! The points of a stereo recording, split by channel.
 ghost use Rattle.std.specs.Prelude.{◌≡◌, IfOk};
 ghost use Rattle.recordings.specs.Imports.{sides_of};
 
@@ -10,8 +10,8 @@ use sf_base::OutOfMemory;
 use std::alloc::Global;
 use std::marker::Model;
 
-/// The points of the left channel and of the right one, each for itself. Of one channel there is none here, since its
-/// points lie in the file as they are.
+/// The points of the left and of the right channel, each in a vector. Both are empty for a mono recording, whose points
+/// are borrowed from the file.
 #[derive(Drop)]
 pub struct Sides {
     left: Vec<u8>,
@@ -31,7 +31,7 @@ impl Model for Sides {
 }
 
 impl Sides {
-    /// The sides of these channels.
+    /// Splits the points of these channels.
     pub fn of(alloc: Global, channels: &Channels<'_>) -> Result<Sides, OutOfMemory>
         ensures { IfOk result (λ sides. sides ≡ sides_of channels.now) }
     {
@@ -44,7 +44,7 @@ impl Sides {
         }
     }
 
-    // The sides of frames.
+    // Splits stereo frames.
     fn parted(alloc: Global, frames: &Table<'_, Frame>) -> Result<Sides, OutOfMemory>
         ensures { IfOk result (λ sides. sides ≡ sides_of (Channels.Stereo frames.now)) }
     {

@@ -1,4 +1,4 @@
--- Members that are put piece by piece.
+-- Lists that are put piece by piece.
 use Rattle.std.proofs.Common.{◌≡◌, List, ◌++◌, Option, ℕ, take, drop, take-append-drop, sym, ap, subst, ◌∙◌}
 use Rattle.std.specs.List.{flat_map}
 use Rattle.std.proofs.lemmas.Grind.{flat_map-append}

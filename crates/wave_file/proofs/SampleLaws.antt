@@ -1,4 +1,4 @@
--- The parts of the WAVE file of a sample, none of which has a pad byte.
+-- The parts of the WAVE file of a sample. None has a pad byte.
 use Rattle.std.proofs.Common.{◌≡◌, ◌≤◌, ◌+◌, ◌*◌, ◌%◌, ℕ, false, eqb, List, [], ◌∷◌, ◌++◌, length, Option, Some}
 use Rattle.std.proofs.Common.{None, refl, ap, sym, ◌∙◌, arith}
 use Rattle.std.specs.List.{flat_map}
@@ -13,12 +13,12 @@ use Rattle.wave_file.specs.Wave.{RIFF, WAVE, FORMAT, DATA}
 use Rattle.wave_file.specs.SampleWave.{SAMPLER, mono_format, sampler_head, loop_bytes, loop_count, held_pitch}
 use Rattle.wave_file.specs.SampleWave.{sampler, sample_chunks, sample_wave}
 
--- a body of even size has no pad byte
+-- a body of even size needs no pad byte
 pad-even : (body : List ℕ) (n : ℕ) → n % 2 ≡ 0 → body ++ pad n ≡ body
 unfolding pad
 pad-even body n e = let t : eqb (n % 2) 1 ≡ false = ne_eqb _ _ (omega arith) in rw t (append-nil body)
 
--- a chunk of even size is its head and its body
+-- a chunk of even size is its header and its body
 pub chunk-even : (id body : List ℕ) → length body % 2 ≡ 0 → chunk id body ≡ chunk_head id (length body) ++ body
 chunk-even id body e = ap (λ (t : List ℕ). chunk_head id (length body) ++ t) (pad-even body (length body) e)
 
@@ -53,7 +53,7 @@ sampler-even s = let l = length-sampler s in omega (arith, l)
 pub data-even : (points : List ℕ) → length (flat_map word_bytes points) % 2 ≡ 0
 data-even points = let l = length-word_bytes points in omega (arith, l)
 
--- ---- all of them
+-- ---- all parts
 
 pub length-content : (s : Sample)
     → length (WAVE ++ spell (sample_chunks s)) ≡ 44 + length (sampler s) + 2 * length s.points

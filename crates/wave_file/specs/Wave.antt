@@ -1,10 +1,10 @@
--- The bytes of a WAVE file of two sides, 16 bits, 44,100 frames a second.
+-- The bytes of a WAVE file: 16-bit stereo, 44,100 frames per second.
 use Rattle.std.specs.Prelude.{◌≡◌, ◌≤◌, ◌+◌, ◌*◌, ◌%◌, ℕ, ℤ, codes, List, ◌++◌, length}
 use Rattle.std.specs.List.{flat_map}
 use Rattle.std.specs.Int.{w16, cast_unsigned}
 use Rattle.byteorder.specs.Endian.{little_bytes}
 
--- the ids of the file, of its form and of its two chunks
+-- the ids of the file and of its two chunks, and its form type
 unfoldable pub RIFF : List ℕ
 RIFF = codes "RIFF"
 
@@ -21,22 +21,22 @@ DATA = codes "data"
 abbrev pub chunk_head : List ℕ → ℕ → List ℕ
 chunk_head id size = id ++ little_bytes 4 size
 
--- the format chunk: whole numbers, two sides, frames and bytes a second, bytes of a frame, bits of a sample
+-- the `fmt ` chunk: integer PCM, two channels, frames per second, bytes per second, bytes per frame, bits per sample
 unfoldable pub format : List ℕ
 format =
     chunk_head FORMAT 16
     ++ little_bytes 2 1 ++ little_bytes 2 2 ++ little_bytes 4 44100 ++ little_bytes 4 176400 ++ little_bytes 2 4
     ++ little_bytes 2 16
 
--- what stands before `size` bytes of samples
+-- all bytes before `size` bytes of samples
 unfoldable pub head : ℕ → List ℕ
 head size = chunk_head RIFF (36 + size) ++ WAVE ++ format ++ chunk_head DATA size
 
--- a sample of one side, its low byte first
+-- a sample of one channel, little-endian
 abbrev pub sample_bytes : ℤ → List ℕ
 sample_bytes sample = little_bytes 2 (cast_unsigned w16 sample)
 
--- the whole file of frames, whose samples are left and right in turn
+-- the WAVE file of frames: left and right samples in turn
 abbrev pub wave : List ℤ → List ℕ
 wave frames = head (2 * length frames) ++ flat_map sample_bytes frames
 

@@ -1,4 +1,4 @@
-//! WAVE files: frames of two sides, 16 bits, 44,100 frames a second; and samples, one channel of 16 bits.
+//! Writes WAVE files: rendered frames as 16-bit stereo at 44,100 frames per second, and samples as 16-bit mono.
 #![tactic(auto)]
 
 mod pitch;

@@ -1,22 +1,22 @@
-//! The pitch at which a sample sounds as recorded, as a sampler chunk says it.
+//! The pitch of a sample, as a unity note and a pitch fraction of a `smpl` chunk.
 ghost use Rattle.std.specs.Prelude.{◌≡◌, ◌≤◌};
 ghost use Rattle.wave_file.specs.Pitch.{played_key, pitch, unity_note, pitch_fraction};
 
 /// The cents of a semitone.
 const SEMITONE: u32 = 100;
 
-/// The highest pitch of which a key of MIDI and a fraction tell, in cents above key 0.
+/// The highest pitch that is written, in cents above key 0.
 const HIGHEST: u32 = 12_799;
 
-/// The key, 0 to 127, at or below the pitch at which a sample of this key and correction (in cents) sounds as
-/// recorded. A key above 127 is none, and counts as 60.
+/// The unity note of a sample of this key and correction in cents: the key, 0 to 127, at or below its pitch. A key
+/// above 127 (unpitched) counts as 60.
 pub fn unity_note(key: u8, correction: i8) -> u32
     ensures { result ≡ unity_note key correction }
 {
     pitch(key, correction) / SEMITONE
 }
 
-/// How far that pitch is above the unity note, of 2^32 parts of a semitone.
+/// The pitch above the unity note, in units of 1/2^32 semitone.
 pub fn pitch_fraction(key: u8, correction: i8) -> u32
     ensures { result ≡ pitch_fraction key correction }
 {
@@ -24,7 +24,7 @@ pub fn pitch_fraction(key: u8, correction: i8) -> u32
     ((u64::from(cents) << 32) / u64::from(SEMITONE)) as u32
 }
 
-// The pitch in cents above key 0, at most the highest.
+// The pitch in cents above key 0, clamped to 0 to `HIGHEST`.
 fn pitch(key: u8, correction: i8) -> u32
     ensures { result ≡ pitch key correction }
 {
@@ -37,7 +37,7 @@ fn pitch(key: u8, correction: i8) -> u32
     }
 }
 
-// The key that a sample of this key is played by.
+// The key that a sample is played by: 60 if it is unpitched.
 fn played_key(key: u8) -> u8
     ensures value { result ≡ played_key key }
     ensures bound { result ≤ 127 }

@@ -1,4 +1,4 @@
-//! A sample as a WAVE file: one channel of 16 bits, and a sampler chunk with its loop and its pitch.
+//! The WAVE file of a sample: 16-bit mono, with a `smpl` chunk for its loop and pitch.
 ghost use Rattle.std.specs.Prelude.{◌≡◌, ◌+◌, ◌*◌, ◌≤◌, length};
 ghost use Rattle.std.specs.List.{flat_map};
 ghost use Rattle.outputs.specs.Output.{Puts};
@@ -15,26 +15,26 @@ use riff_chunks::ChunkWriter;
 use sample_view::Points;
 use std::io::Write;
 
-/// The bytes of the file but those of the sampler chunk's body and of the points, and but the first 8.
+/// The bytes of the file without its first 8, the body of the `smpl` chunk and the points.
 const AROUND: u32 = 44;
 
-/// The bytes of the format chunk.
+/// The size of the `fmt ` chunk, in bytes.
 const FORMAT_SIZE: u32 = 16;
 
-/// The bytes of a sampler chunk without loops, with 8 bytes of data.
+/// The size of a `smpl` chunk without loops, with 8 bytes of sampler data.
 const SAMPLER_SIZE: u32 = 44;
 
-/// The bytes of a loop.
+/// The size of a loop, in bytes.
 const LOOP_SIZE: u32 = 24;
 
-/// The nanoseconds of a second.
+/// Nanoseconds per second.
 const SECOND: u32 = 1_000_000_000;
 
-/// Puts a sample as a whole WAVE file: one channel of 16 bits, its points as they are, its rate in frames a
-/// second, and a sampler chunk with its key, its correction in cents and its loop. Takes no memory.
+/// Puts a sample as a whole WAVE file: 16-bit mono at its rate, and a `smpl` chunk with its key, its correction in
+/// cents and its loop. Allocates nothing.
 ///
-/// The sampler chunk tells other programs the pitch, as a unity note of 0 to 127 and a fraction of a semitone above
-/// it. Its data, 8 bytes, keep the key and the correction as they are: several of them have one pitch.
+/// The `smpl` chunk has the pitch for other programs: a unity note of 0 to 127, and a fraction of a semitone above it.
+/// Its 8 bytes of sampler data keep the key and the correction, which the pitch does not determine.
 pub fn put_sample_wave<W: Write>(sample: &Sample<'_>, output: &mut Output<'_, W>)
     requires { length sample.now.points ≤ POINTS }
     ensures { Puts W.contents output.old output.new (sample_wave sample.now) }
@@ -48,7 +48,7 @@ pub fn put_sample_wave<W: Write>(sample: &Sample<'_>, output: &mut Output<'_, W>
     put_points(&sample.points, output);
 }
 
-// Puts the format chunk: whole numbers, one channel, the rate, 16 bits.
+// Puts the `fmt ` chunk: integer PCM, one channel, the rate, 16 bits.
 fn put_mono_format<W: Write>(rate: u32, output: &mut Output<'_, W>)
     ensures { Puts W.contents output.old output.new (chunk FORMAT (mono_format rate)) }
 {
@@ -59,7 +59,7 @@ fn put_mono_format<W: Write>(rate: u32, output: &mut Output<'_, W>)
     output.put(&[2, 0, 16, 0]);
 }
 
-// Puts the sampler chunk.
+// Puts the `smpl` chunk.
 fn put_sampler<W: Write>(sample: &Sample<'_>, output: &mut Output<'_, W>)
     ensures { Puts W.contents output.old output.new (chunk SAMPLER (sampler sample.now)) }
 {
@@ -69,7 +69,7 @@ fn put_sampler<W: Write>(sample: &Sample<'_>, output: &mut Output<'_, W>)
     put_held_pitch(sample, output);
 }
 
-// The bytes of the body of the sampler chunk.
+// The size of the body of the `smpl` chunk, in bytes.
 fn sampler_size(sample: &Sample<'_>) -> u32
     ensures value { result ≡ length (sampler sample.now) }
     ensures bound { result ≤ 68 }
@@ -87,7 +87,7 @@ fn loop_count(looped: Option<(u32, u32)>) -> u32
     }
 }
 
-// Puts what stands in the sampler chunk before the loops.
+// Puts the header of the `smpl` chunk, before the loops.
 #[tactic(auto, unfolding(crate::specs::SampleWave::sampler_head))]
 fn put_sampler_head<W: Write>(sample: &Sample<'_>, output: &mut Output<'_, W>)
     ensures { Puts W.contents output.old output.new (sampler_head sample.now) }
@@ -99,14 +99,14 @@ fn put_sampler_head<W: Write>(sample: &Sample<'_>, output: &mut Output<'_, W>)
     put_numbers(&[0, 0, time, unity_note, fraction, 0, 0, loops, 8], output);
 }
 
-// How long a frame lasts, in nanoseconds.
+// The duration of a frame, in nanoseconds.
 fn frame_time(rate: u32) -> u32
     ensures { result ≡ frame_time rate }
 {
     if rate == 0 { 0 } else { SECOND / rate }
 }
 
-// Puts a loop that is played forwards without end, if there is one.
+// Puts an infinite forward loop, if the sample has a loop.
 #[tactic(auto, unfolding(crate::specs::SampleWave::loop_bytes), using(outputs::proofs::OutputLaws::puts_nothing))]
 fn put_loop<W: Write>(looped: Option<(u32, u32)>, output: &mut Output<'_, W>)
     ensures { Puts W.contents output.old output.new (loop_bytes looped) }
@@ -116,7 +116,7 @@ fn put_loop<W: Write>(looped: Option<(u32, u32)>, output: &mut Output<'_, W>)
     }
 }
 
-// Puts the data of the sampler chunk: the key and the correction as they are.
+// Puts the sampler data: the key and the correction.
 #[tactic(auto, unfolding(crate::specs::SampleWave::held_pitch), using(outputs::proofs::OutputLaws::puts_then))]
 fn put_held_pitch<W: Write>(sample: &Sample<'_>, output: &mut Output<'_, W>)
     ensures { Puts W.contents output.old output.new (held_pitch sample.now.key sample.now.correction) }
@@ -125,7 +125,7 @@ fn put_held_pitch<W: Write>(sample: &Sample<'_>, output: &mut Output<'_, W>)
     output.put(&[sample.key, sample.correction.cast_unsigned(), 0, 0]);
 }
 
-// Puts numbers, the low byte of each first.
+// Puts 32-bit numbers, little-endian.
 #[tactic(auto, using(outputs::proofs::OutputLaws::putting_start, outputs::proofs::OutputLaws::putting_end))]
 fn put_numbers<W: Write>(values: &[u32], output: &mut Output<'_, W>)
     ensures { Puts W.contents output.old output.new (numbers values.now) }
@@ -135,7 +135,7 @@ fn put_numbers<W: Write>(values: &[u32], output: &mut Output<'_, W>)
     }
 }
 
-// Puts points as the slices that they lie in: a long one goes out as it stands.
+// Puts points slice by slice: a long slice bypasses the buffer of the output.
 #[tactic(auto, using(outputs::proofs::OutputLaws::putting_start, outputs::proofs::OutputLaws::putting_end))]
 fn put_points<W: Write>(points: &Points<'_>, output: &mut Output<'_, W>)
     ensures { Puts W.contents output.old output.new (flat_map word_bytes points.now) }

@@ -9,32 +9,32 @@ use byteorder::{ByteOrder, LittleEndian};
 use outputs::{Output, WriteFault};
 use std::io::Write;
 
-/// The frames of a second.
+/// Frames per second.
 const FRAME_RATE: u32 = 44_100;
 
-/// The sides of a frame, left and right.
+/// The channels of a frame, left and right.
 const SIDES: u16 = 2;
 
-/// The bytes of a frame: two of each side.
+/// Bytes per frame.
 const FRAME_SIZE: u16 = 4;
 
-/// The bytes of a second.
+/// Bytes per second.
 const BYTE_RATE: u32 = 176_400;
 
-/// The bits of a sample of one side.
+/// Bits per sample.
 const SAMPLE_BITS: u16 = 16;
 
-/// What the format chunk calls samples of whole numbers.
+/// The format tag of integer PCM.
 const PULSE_CODE: u16 = 1;
 
-/// The bytes that stand after the first 8 of a file and before its samples.
+/// The bytes between the first 8 of a file and its samples.
 const HEAD_REST: u32 = 36;
 
-/// How many samples are spelled at a time.
+/// How many samples are encoded at a time.
 const PIECE: usize = 4096;
 
-/// Writes frames as a whole WAVE file. The frames are samples of the left and the right side in turn. A
-/// fault says how many bytes of the file went out before. It does not flush.
+/// Writes frames as a whole WAVE file: left and right samples in turn. Does not flush. A fault has the number of bytes
+/// written.
 pub fn write_wave<W: Write>(frames: &[i16], out: &mut W) -> Result<(), WriteFault>
     requires { FitsWave frames.now }
     ensures { Writes (W.contents out.old) (W.contents out.new) (wave frames.now) result }
@@ -45,7 +45,7 @@ pub fn write_wave<W: Write>(frames: &[i16], out: &mut W) -> Result<(), WriteFaul
     Ok(())
 }
 
-/// Puts frames as a whole WAVE file. The frames are samples of the left and the right side in turn.
+/// Puts frames as a whole WAVE file: left and right samples in turn.
 pub fn put_wave<W: Write>(frames: &[i16], output: &mut Output<'_, W>)
     requires { FitsWave frames.now }
     ensures { Puts W.contents output.old output.new (wave frames.now) }
@@ -54,7 +54,7 @@ pub fn put_wave<W: Write>(frames: &[i16], output: &mut Output<'_, W>)
     put_samples(frames, output);
 }
 
-// Puts all that stands before so many bytes of samples.
+// Puts all bytes before `size` bytes of samples.
 fn put_head<W: Write>(size: u32, output: &mut Output<'_, W>)
     requires { size ≤ 4294967259 }
     ensures { Puts W.contents output.old output.new (head size) }
@@ -67,7 +67,7 @@ fn put_head<W: Write>(size: u32, output: &mut Output<'_, W>)
     output.put(&size.to_le_bytes());
 }
 
-// Puts the format chunk.
+// Puts the `fmt ` chunk.
 fn put_format<W: Write>(output: &mut Output<'_, W>)
     ensures { Puts W.contents output.old output.new format }
 {
@@ -81,7 +81,7 @@ fn put_format<W: Write>(output: &mut Output<'_, W>)
     output.put(&SAMPLE_BITS.to_le_bytes());
 }
 
-// Puts samples, the low byte of each first, in pieces of 8 kB.
+// Puts samples, little-endian, in pieces of 8 kB.
 fn put_samples<W: Write>(samples: &[i16], output: &mut Output<'_, W>)
     ensures { Puts W.contents output.old output.new (flat_map sample_bytes samples.now) }
 {

@@ -4,7 +4,7 @@ use Rattle.recordings.specs.declared.frames.SamplerLoop.{SamplerLoop}
 use Rattle.recordings.specs.Recordings.{forward_loop}
 use Rattle.recordings.proofs.sampler.forward_loop.Given as goal
 
--- the first loop that is played forwards is among those that are left
+-- the first forward loop is among the remaining loops
 abbrev pub invariant-loop-found : goal.invariant-loop-found
 invariant-loop-found l =
     (goal.iterator-loop-found).can_next l.found-iterator

@@ -3,7 +3,7 @@ use Rattle.sample_view.specs.Pieces.{joined_bytes}
 use Rattle.outputs.proofs.OutputLaws.{Putting}
 use Rattle.wave_file.proofs.sample.put_points.Given as goal
 
--- the slices that are ahead are still to be put
+-- the remaining slices are still to be put
 abbrev pub invariant-loop-piece : goal.invariant-loop-piece
 invariant-loop-piece g l =
     Putting g.W.Write.contents l.initial.output l.output (joined_bytes l.pieces)

@@ -3,7 +3,7 @@ use Rattle.std.specs.List.{flat_map}
 use Rattle.recordings.specs.declared.frames.Frame.{Frame}
 use Rattle.recordings.proofs.sides.Sides.parted.Given as goal
 
--- the points so far, and those of the frames that are left, are all
+-- the points so far, followed by those of the remaining frames, are all points
 abbrev pub invariant-loop-frame : goal.invariant-loop-frame
 invariant-loop-frame l =
     (goal.iterator-loop-frame).can_next l.frame-iterator
