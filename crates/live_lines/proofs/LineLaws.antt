@@ -1,4 +1,4 @@
--- Over the bytes of its literals, a line says what it says by itself.
+-- With the bytes of its literals as pool, a line has its own tokens.
 use Rattle.std.proofs.Common.{◌≡◌, ℕ, Bool, true, false, not, List, [], ◌∷◌, ◌++◌, map, Ok, Err, refl, sym, ap, ◌∙◌}
 use Rattle.std.specs.List.{list_all, list_any}
 use Rattle.std.specs.Result.{is_err}
@@ -14,7 +14,7 @@ use Rattle.line_tokens.specs.Pool.{Grown, and_then, gather, literal_of, literals
 use Rattle.line_tokens.proofs.PoolLaws.{serves}
 use Rattle.live_lines.specs.Requests.{HasNoFeed, is_bad}
 
--- ---- a text without line feeds is one line
+-- ---- a text without line feed is one line
 
 never : (b : Bool) → not b ≡ true → b ≡ true → ⊥
 never true h e = cc
@@ -66,7 +66,7 @@ says_same l pool h e =
     let s = serves 1 (tokens_of l) [] pool (sym (pool_of_one l h) ∙ e) in
     ap (λ (p : List ℕ). all_said_over p (tokens_of l)) (s.parts ∙ sym (append-nil s.bytes)) ∙ s.same []
 
--- ---- literals that are badly spelled
+-- ---- malformed literals
 
 spelled : (n : ℕ) (said : List Said) (pool : List ℕ) (r : Grown ℕ) → literals_of n said pool ≡ r
     → list_any is_bad said ≡ is_err r

@@ -1,4 +1,4 @@
--- What a line asks for, step by step.
+-- The request of a line, step by step.
 use Rattle.std.proofs.Common.{◌≡◌, ℕ, Bool, true, false, List, [], ◌∷◌, drop, Option, Some, None, Result, Ok, Err}
 use Rattle.std.proofs.Common.{refl, sym, ap, ◌∙◌}
 use Rattle.std.specs.List.{list_any}
@@ -42,7 +42,7 @@ pub bad_line : (l : List ℕ) (f : ScriptFault) → HasNoFeed l → pool_bytes l
 unfolding request_of
 bad_line l f h e = rw (badly_spelled l f h e) refl
 
--- ---- a command's word
+-- ---- the word of a command
 
 pub word_taken : (said : List Said) (t : Took (List ℕ)) → word said ≡ Ok t → t.rest ≡ drop 1 said
 unfolding word

@@ -1,4 +1,4 @@
--- The texts of the answers, each one line.
+-- The texts of the answers, one line each.
 use Rattle.std.specs.Prelude.{ℕ, List, [], ◌∷◌, ◌++◌, codes, Option, Some, None}
 use Rattle.bank_validity.specs.declared.limits.Limit.{Limit}
 use Rattle.bank_validity.specs.Limits.{word_of}
@@ -18,16 +18,16 @@ use Rattle.live_lines.specs.declared.answer.Answer.TheVariants as answers
 use Rattle.live_lines.specs.declared.fault.RequestFault.{RequestFault}
 use Rattle.live_lines.specs.Faults as faults
 
--- the limit that a bank would break
+-- the limit that a bank would exceed
 abbrev pub limit_pieces : Option Limit → List Piece
 limit_pieces (Some limit) = Word (word_of limit) ∷ []
 limit_pieces None = []
 
--- the step of a group, counted from 0, and the cause that stands against it
+-- the index of a step of a group, counted from 0, and the cause to refuse it
 abbrev pub step_pieces : ℕ → Cause → List Piece
 step_pieces step cause = Number step ∷ Number (causes.number_of cause) ∷ Word (causes.name_of cause) ∷ []
 
--- what stands behind the name of a refusal
+-- what follows the name of a refusal
 abbrev pub detail_pieces : Refusal → List Piece
 detail_pieces (Of cause) = limit_pieces (causes.limit_of cause)
 detail_pieces (GroupRefused step cause) = step_pieces step cause ++ limit_pieces (causes.limit_of cause)
@@ -35,14 +35,14 @@ detail_pieces OutOfMemory = []
 detail_pieces NothingToUndo = []
 detail_pieces NothingToRedo = []
 
--- why an edit is refused, or a session can't go back or forth, by its number and its name
+-- why an edit, an undo or a redo is refused, by number and name
 abbrev pub reason_pieces : Refusal → List Piece
 reason_pieces why = Number (refusals.refusal_number why) ∷ Word (refusals.refusal_name why) ∷ detail_pieces why
 
 abbrev pub refused_line : Refusal → List ℕ
 refused_line why = line_text (codes "refused") (reason_pieces why)
 
--- out of memory is told in words, whoever tells it
+-- out of memory has no number
 abbrev pub no_memory : List ℕ
 no_memory = codes "out of memory\n"
 
@@ -57,13 +57,13 @@ refused_text (GroupRefused step cause) = refused_line (GroupRefused step cause)
 abbrev pub fault_text : RequestFault → List ℕ
 fault_text fault = line_text (codes "fault") (Number (faults.number_of fault) ∷ Word (faults.name_of fault) ∷ [])
 
--- how much of a file went out
+-- a failed write, and how much of the file was written
 abbrev pub write_text : List ℕ → ℕ → List ℕ
 write_text path written =
     line_text (codes "write")
     (Word (codes "fault") ∷ Word path ∷ Word (codes "after") ∷ Number written ∷ Word (codes "bytes") ∷ [])
 
--- why an output is rejected, by its number and its name, and its path
+-- a rejected output, by the number and the name of its fault, and its path
 abbrev pub rejected_text : List ℕ → OutputFault → List ℕ
 rejected_text path fault =
     line_text (codes "refused")

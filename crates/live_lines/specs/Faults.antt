@@ -1,11 +1,11 @@
--- What a fault of a line is called.
+-- The numbers and names of the faults of a line.
 use Rattle.std.specs.Prelude.{ℕ, List, codes}
 use Rattle.line_tokens.specs.declared.fault.LineFault.{LineFault}
 use Rattle.line_tokens.specs.declared.fault.LineFault.TheVariants as line
 use Rattle.live_lines.specs.declared.fault.RequestFault.{RequestFault}
 use Rattle.live_lines.specs.declared.fault.RequestFault.TheVariants.{Syntax, Number, Literal, BadNote, TooLong}
 
--- the number of each kind of fault, as of scripts and of note lists
+-- the number of a fault, as for scripts and note lists
 abbrev pub number_of : RequestFault → ℕ
 number_of Syntax = 41
 number_of Number = 42
@@ -13,7 +13,7 @@ number_of Literal = 43
 number_of BadNote = 45
 number_of TooLong = 47
 
--- the name of each kind of fault
+-- the name of a fault
 abbrev pub name_of : RequestFault → List ℕ
 name_of Syntax = codes "Syntax"
 name_of Number = codes "Number"

@@ -1,4 +1,4 @@
--- The paths that a line says.
+-- The paths in a line.
 use Rattle.std.specs.Prelude.{ℕ, List, [], ◌∷◌, Option, Some, None, Err, Bool, ◌&&◌, nat_le, if◌then◌else◌}
 use Rattle.std.specs.List.{list_all}
 use Rattle.std.specs.Str.{is_utf8}
@@ -22,7 +22,7 @@ path (Word w ∷ line) = or_fault faults.Syntax (path_of w) line
 path (Literal bytes ∷ line) = or_fault faults.Literal (path_of bytes) line
 path (Bad ∷ line) = Err faults.Syntax
 
--- where the bank goes and where the script goes that takes it back, to the line's end
+-- the paths of the bank and of the undo script, to the line's end
 unfoldable pub paths : Part Paths
 paths = do
   o ← path

@@ -1,4 +1,4 @@
--- What a line of a live session asks for, or its fault.
+-- The request of a line of a live session, or its fault.
 use Rattle.std.specs.Prelude.{ℕ, List, [], ◌∷◌, codes, Option, Some, None, Result, Ok, Err, Bool, true, false, not}
 use Rattle.std.specs.Prelude.{IsTrue, if◌then◌else◌}
 use Rattle.std.specs.List.{list_all, list_any}
@@ -23,7 +23,7 @@ use Rattle.live_lines.specs.declared.request.TheConstants.{MOST_FRAMES}
 use Rattle.live_lines.specs.Faults.{of_line}
 use Rattle.live_lines.specs.Paths.{paths}
 
--- ---- the commands, one line each
+-- ---- the commands
 
 -- the word of a command
 abbrev pub command_word : Command → List ℕ
@@ -42,9 +42,9 @@ commands =
     command.Neutral ∷ command.Undo ∷ command.Redo ∷ command.Note ∷ command.Frames ∷ command.Save
     ∷ command.Show ∷ command.Help ∷ command.Quit ∷ []
 
--- ---- what stands behind a word
+-- ---- what follows the word
 
--- a request, or the fault of its line
+-- the request or the fault of a line
 abbrev pub Asked : Type 0
 Asked = Result Request RequestFault
 
@@ -54,12 +54,12 @@ IsNotOutOfMemory (Ok r) = Unit {0}
 IsNotOutOfMemory (Err (failures.Fault fault)) = Unit {0}
 IsNotOutOfMemory (Err failures.OutOfMemory) = ⊥
 
--- what is made of the value of a part, or its fault
+-- a request made of the value of a part, or the part's fault
 abbrev pub told : {X : Type 0} → (X → Request) → Result (Took X) LineFault → Asked
 told f (Ok t) = Ok (f t.value)
 told f (Err e) = Err (of_line e)
 
--- the numbers of a note that starts now, to the line's end: a note, or none where it is too long
+-- the numbers of a note that starts now, to the line's end: a note, or `None` if it is too long
 unfoldable pub note_now : Part (Option Numbers)
 note_now = do
   l ← number most_double_word
@@ -70,23 +70,23 @@ note_now = do
   u ← ended (tt {0})
   pure (note_of (record { start = 0; length = l; bank = b; number = n; key = k; velocity = v }))
 
--- the note, if it is short enough
+-- the note, unless it is too long
 abbrev pub in_time : Option Numbers → Asked
 in_time (Some note) = Ok (asks.Note note)
 in_time None = Err faults.TooLong
 
--- the note that was read; whatever stands against its line, it is no note
+-- the note, or `BadNote` for any fault of its numbers
 abbrev pub noted : Result (Took (Option Numbers)) LineFault → Asked
 noted (Ok t) = in_time t.value
 noted (Err e) = Err faults.BadNote
 
--- so many frames, to the line's end
+-- a number of frames, to the line's end
 unfoldable pub frames : Part ℕ
 frames = do
   n ← number MOST_FRAMES
   ended n
 
--- what a command asks for, by what is left of its line
+-- the request of a command, by the rest of its line
 abbrev pub asked_by : Command → List Said → Asked
 asked_by command.Neutral line = told asks.Neutral (edit line)
 asked_by command.Undo line = told (λ r. r) (ended asks.Undo line)
@@ -100,7 +100,7 @@ asked_by command.Quit line = told (λ r. r) (ended asks.Quit line)
 
 -- ---- a whole line
 
--- by its command, if it begins with one; else it is an edit
+-- the request of a command, if the line begins with one; else an edit
 abbrev pub by_command : List Said → Result (Took Command) LineFault → Asked
 by_command line (Ok t) = asked_by t.value t.rest
 by_command line (Err e) = told asks.Edit (edit line)
@@ -108,27 +108,26 @@ by_command line (Err e) = told asks.Edit (edit line)
 unfoldable pub request : List Said → Asked
 request line = by_command line (next_named command_word commands line)
 
--- a request, where there is one
+-- a request, if there is one
 abbrev pub some_request : Asked → Result (Option Request) RequestFault
 some_request (Ok r) = Ok (Some r)
 some_request (Err e) = Err e
 
--- a line without tokens asks for nothing
+-- a line without tokens has no request
 abbrev pub if_any : List Said → Result (Option Request) RequestFault
 if_any [] = Ok None
 if_any (s ∷ line) = some_request (request (s ∷ line))
 
--- a literal that is badly spelled
+-- a malformed literal
 abbrev pub is_bad : Said → Bool
 is_bad (Word w) = false
 is_bad (Literal bytes) = false
 is_bad Bad = true
 
--- a line of a text, which holds no line feed
+-- a line without line feed
 abbrev pub HasNoFeed : List ℕ → Type 0
 HasNoFeed line = IsTrue (list_all (λ b. not (is_feed b)) line)
 
--- What a line asks for, or its fault: a badly spelled literal anywhere in the line, and else the first
--- fault from left to right.
+-- The request of a line, or its fault: a malformed literal anywhere in it, else the first fault from left to right.
 unfoldable pub request_of : List Said → Result (Option Request) RequestFault
 request_of said = if list_any is_bad said then Err faults.Literal else if_any said

@@ -1,4 +1,4 @@
-//! What a line is answered.
+//! The answer to a line.
 ghost use Rattle.std.specs.Prelude.{◌≡◌, ◌∷◌, [], codes};
 ghost use Rattle.std.specs.List.{flat_map};
 ghost use Rattle.outputs.specs.Output.{Puts};
@@ -19,15 +19,15 @@ use std::io::Write;
 pub enum Answer<'a> {
     /// `ok`
     Done,
-    /// `ok VOICES`: how many voices a note started.
+    /// `ok VOICES`: a note started this many voices.
     Started(usize),
-    /// `refused NUMBER NAME ..`: why an edit is refused, or a session can't go back or forth.
+    /// `refused NUMBER NAME ..`: an edit, an undo or a redo is refused.
     Refused(Refusal),
-    /// `refused 50 NotNeutral`: the edit could be heard.
+    /// `refused 50 NotNeutral`: the edit may change the sound.
     NotNeutral,
-    /// `refused 52 TooManyFrames`: a session has 100,000,000 frames at most.
+    /// `refused 52 TooManyFrames`: a session has at most 100,000,000 frames.
     TooManyFrames,
-    /// `fault NUMBER NAME`: the line asks for nothing that there is.
+    /// `fault NUMBER NAME`: the line has a fault.
     Fault(RequestFault),
     /// `out of memory`
     OutOfMemory,
@@ -43,7 +43,7 @@ pub enum Answer<'a> {
     },
 }
 
-/// Puts the line of an answer, with its line feed. It takes no memory.
+/// Puts the line of an answer, with its line feed. Allocates nothing.
 #[tactic(auto, unfolding(crate::specs::Answers::answer_text))]
 pub fn put_answer<W: Write>(answer: &Answer<'_>, output: &mut Output<'_, W>)
     ensures { Puts W.contents output.old output.new (answer_text answer.now) }
@@ -61,14 +61,14 @@ pub fn put_answer<W: Write>(answer: &Answer<'_>, output: &mut Output<'_, W>)
     }
 }
 
-// A refusal that no bank and no session tells, by its number and its name.
+// Puts a refusal by its number and name, for refusals that have no detail.
 fn put_named<W: Write>(number: u64, name: &str, output: &mut Output<'_, W>)
     ensures { Puts W.contents output.old output.new (line_text (codes "refused") (Piece.Number number ∷ Piece.Word name.now ∷ [])) }
 {
     put_line(b"refused", &[Piece::Number(number), word(name)], output);
 }
 
-// Why an edit is refused, or a session can't go back or forth.
+// Puts why an edit, an undo or a redo is refused.
 fn put_refused<W: Write>(why: Refusal, output: &mut Output<'_, W>)
     ensures { Puts W.contents output.old output.new (refused_text why) }
 {
@@ -78,7 +78,7 @@ fn put_refused<W: Write>(why: Refusal, output: &mut Output<'_, W>)
     }
 }
 
-// The same by its number and its name.
+// Puts a refusal by its number and name.
 fn put_refusal<W: Write>(why: Refusal, output: &mut Output<'_, W>)
     ensures { Puts W.contents output.old output.new (refused_line why) }
 {
@@ -95,7 +95,7 @@ fn put_reason<W: Write>(why: Refusal, output: &mut Output<'_, W>)
     put_detail(why, output);
 }
 
-// What stands behind the name.
+// Puts what follows the name.
 fn put_detail<W: Write>(why: Refusal, output: &mut Output<'_, W>)
     ensures { Puts W.contents output.old output.new (flat_map spaced (detail_pieces why)) }
 {
@@ -109,7 +109,7 @@ fn put_detail<W: Write>(why: Refusal, output: &mut Output<'_, W>)
     }
 }
 
-// The step of a group, and the cause that stands against it.
+// Puts the index of a step of a group, and the cause to refuse it.
 fn put_step<W: Write>(step: usize, cause: Cause, output: &mut Output<'_, W>)
     ensures { Puts W.contents output.old output.new (flat_map spaced (step_pieces step cause)) }
 {
@@ -120,7 +120,7 @@ fn put_step<W: Write>(step: usize, cause: Cause, output: &mut Output<'_, W>)
     );
 }
 
-// The limit that a bank would break.
+// Puts the limit that a bank would exceed.
 fn put_limit<W: Write>(limit: Option<Limit>, output: &mut Output<'_, W>)
     ensures { Puts W.contents output.old output.new (flat_map spaced (limit_pieces limit)) }
 {
@@ -152,7 +152,7 @@ fn put_write_fault<W: Write>(path: &str, written: u64, output: &mut Output<'_, W
     );
 }
 
-// Why an output is rejected, and its path.
+// Puts why an output is rejected, and its path.
 fn put_rejected<W: Write>(path: &str, fault: OutputFault, output: &mut Output<'_, W>)
     ensures { Puts W.contents output.old output.new (rejected_text path.now fault) }
 {
@@ -164,7 +164,7 @@ fn put_rejected<W: Write>(path: &str, fault: OutputFault, output: &mut Output<'_
     );
 }
 
-// A word that stands as it is.
+// A piece with this word, written as it is.
 fn word(text: &str) -> Piece<'_>
     ensures { result ≡ Piece.Word text.now }
 {

@@ -3,7 +3,7 @@ ghost use Rattle.live_lines.specs.Requests.{commands, command_word};
 
 use script_grammar::HasWord;
 
-/// What a line asks for that begins with its word. A line that begins with no such word is an edit.
+/// A command, by the first word of a line. A line that begins with no such word is an edit.
 #[derive(Debug, Clone, Copy)]
 pub enum Command {
     /// `neutral EDIT`

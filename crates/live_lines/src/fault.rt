@@ -1,4 +1,4 @@
-//! What is wrong with a line.
+//! The fault of a line.
 ghost use Rattle.std.specs.Prelude.{◌≡◌};
 ghost use Rattle.sf_base.specs.declared.memory.Failure.TheVariants.{Fault};
 ghost use Rattle.live_lines.specs.Faults.{number_of, name_of, of_line};
@@ -7,19 +7,19 @@ use line_tokens::LineFault;
 use sf_base::Failure;
 use thiserror::Error;
 
-/// What is wrong with a line of a live session.
+/// The fault of a line of a live session.
 #[derive(Debug, Drop, Clone, Copy, PartialEq, Eq, Error)]
 pub enum RequestFault {
-    /// 41: a token is missing or left over, or a word is wrong.
+    /// 41: a token is missing or unexpected, or a word is wrong.
     #[error("a token is wrong, missing or left over")]
     Syntax,
-    /// 42: a number is none, or out of its range.
+    /// 42: not a number, or a number out of its range.
     #[error("a number is wrong or out of range")]
     Number,
-    /// 43: a literal is badly spelled, or its bytes are not what is needed.
+    /// 43: a malformed literal, or one whose bytes don't fit.
     #[error("a literal is badly spelled, or its bytes do not serve")]
     Literal,
-    /// 45: behind `note` do not stand five numbers in their ranges.
+    /// 45: `note` is not followed by five numbers in their ranges.
     #[error("this is no note")]
     BadNote,
     /// 47: the note is longer than 100,000,000 frames.
@@ -28,7 +28,7 @@ pub enum RequestFault {
 }
 
 impl RequestFault {
-    /// The fault's number, from 41 to 47.
+    /// The number of the fault, from 41 to 47.
     pub fn number(self) -> u8
         ensures { result ≡ number_of self }
     {
@@ -41,7 +41,7 @@ impl RequestFault {
         }
     }
 
-    /// The fault's name, as it is printed behind its number.
+    /// The name of the fault, as it is printed after its number.
     pub fn name(self) -> &'static str
         ensures { result.now ≡ name_of self }
     {

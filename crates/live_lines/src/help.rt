@@ -1,10 +1,10 @@
-//! What a musician is told who asks for help.
+//! The texts that help a musician.
 
-/// The line that a terminal is shown first.
+/// A first line to show on a terminal.
 pub const GREETING: &str =
     "# sfbank live: each line is an edit or a command, and `help` lists them\n";
 
-/// The text that answers `help`: one screen of lines, each of which can be typed as it stands.
+/// The text that answers `help`: one screen of lines, each of which can be typed as it is.
 pub const HELP: &str = "\
 rename-sample 0 \"Piano C4\"       # an edit, as in a script\n\
 group { trim 0 9 0 } { trim 1 9 0 } # several edits, all of them or none\n\

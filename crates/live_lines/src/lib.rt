@@ -1,15 +1,15 @@
-//! The lines of a live session: what each asks for, and what it is answered.
+//! The lines of a live session: their requests and their answers.
 //!
-//! A line is made of tokens as those of scripts and note lists are, with their blanks, comments and
-//! literals. One that begins with the word of a [`Command`] asks for that, and every other is an edit:
+//! A line is made of tokens like a line of a script or a note list, with blanks, comments and literals. A line that
+//! begins with the word of a [`Command`] is that command, any other is an edit:
 //!
-//! - `neutral EDIT`: an edit that is refused where it could be heard;
+//! - `neutral EDIT`: an edit that is refused if it may change the sound;
 //! - `undo`, `redo`, `show`, `help`, `quit`;
 //! - `note LENGTH BANK NUMBER KEY VELOCITY`: a note that starts now, its length in frames;
 //! - `frames N`: the next `N` frames, up to 100,000,000;
-//! - `save OUT UNDO`: two paths, each a word, or a literal where it has blanks.
+//! - `save OUT UNDO`: two paths, each a word, or a literal if it has blanks.
 //!
-//! [`read_line`] reads a line over the bytes of its literals, which [`pool_of_line`] takes, and
+//! [`read_line`] reads a line with a pool of the bytes of its literals, which [`pool_of_line`] makes, and
 //! [`put_answer`] puts the line that answers it.
 #![tactic(auto)]
 

@@ -9,7 +9,7 @@ ghost use Rattle.live_lines.specs.Paths.{path_of, path, paths};
 use line_tokens::{Cursor, LineFault};
 use std::marker::Model;
 
-/// The path of a file, seen as its bytes: UTF-8 without control characters.
+/// The path of a file: UTF-8 bytes without control characters.
 #[derive(Debug, Drop)]
 pub struct FilePath<'a> {
     text: &'a str,
@@ -24,7 +24,7 @@ impl<'a> Model for FilePath<'a> {
 }
 
 impl<'a> FilePath<'a> {
-    /// The path with these bytes. None where they are not UTF-8, or one of them is below 0x20.
+    /// The path with these bytes, or `None` if they are not UTF-8 or one of them is below 0x20.
     pub fn of(bytes: &'a [u8]) -> Option<FilePath<'a>>
         ensures { result ≡ path_of bytes.now }
     {
@@ -34,7 +34,7 @@ impl<'a> FilePath<'a> {
         }
     }
 
-    /// Its text.
+    /// The text of the path.
     pub fn text(&self) -> &'a str
         ensures { result.now ≡ self.now }
     {
@@ -42,12 +42,12 @@ impl<'a> FilePath<'a> {
     }
 }
 
-/// The paths of the files that are saved.
+/// The paths of a save.
 #[derive(Debug, Drop)]
 pub struct Paths<'a> {
-    /// Where the bank goes.
+    /// The path of the bank.
     pub out: FilePath<'a>,
-    /// Where the script goes that takes it back.
+    /// The path of the undo script.
     pub undo: FilePath<'a>,
 }
 
@@ -68,7 +68,7 @@ fn has_no_controls(bytes: &[u8]) -> bool
     bytes.iter().all(|byte| *byte >= 0x20)
 }
 
-// The paths behind the first word of a line, to its end.
+// The paths after the first word of a line, to its end.
 #[tactic(auto, unfolding(crate::specs::Paths::paths, line_tokens::specs::Parts::ended))]
 pub(crate) fn both_paths<'t, 'p: 't>(line: &'t [u8], pool: &'p [u8]) -> Result<Paths<'t>, LineFault>
     requires { IsOk (word (all_said_over pool.now (tokens_of line.now))) }
@@ -81,7 +81,7 @@ pub(crate) fn both_paths<'t, 'p: 't>(line: &'t [u8], pool: &'p [u8]) -> Result<P
     Ok(Paths { out, undo })
 }
 
-// The first path behind the first word of a line, and what is left of the line.
+// The first path after the first word of a line, and the rest of the line.
 fn first_path<'t, 'p: 't>(
     line: &'t [u8],
     pool: &'p [u8],
@@ -95,7 +95,7 @@ fn first_path<'t, 'p: 't>(
     Ok((out, rest))
 }
 
-// What is left of a line behind its first word.
+// The rest of a line after its first word.
 #[tactic(auto, using(crate::proofs::RequestLaws::word_taken))]
 fn behind_word<'t, 'p>(line: &'t [u8], pool: &'p [u8]) -> Cursor<'t, 'p>
     requires { IsOk (word (all_said_over pool.now (tokens_of line.now))) }
@@ -106,8 +106,7 @@ fn behind_word<'t, 'p>(line: &'t [u8], pool: &'p [u8]) -> Cursor<'t, 'p>
     rest
 }
 
-// The next path. A cursor doesn't tell whether a word or a literal is next before it is taken, so a twin
-// that stands at the same place looks.
+// Reads the next path. A cursor can't be asked whether a word or a literal is next, so a twin tries it first.
 #[tactic(auto, unfolding(crate::specs::Paths::path, line_tokens::specs::Parts::word, line_tokens::specs::Parts::literal))]
 fn path<'t, 'p: 't>(
     line: &mut Cursor<'t, 'p>,

@@ -1,4 +1,4 @@
-//! What a line asks for.
+//! Reads the request of a line.
 ghost use Rattle.std.specs.Prelude.{◌≡◌, drop, Ok, IfOk, IfErr, IsOk};
 ghost use Rattle.line_tokens.specs.Tokens.{tokens_of};
 ghost use Rattle.line_tokens.specs.Said.{said_in, left_over, all_said_over};
@@ -26,8 +26,8 @@ use script_grammar::next_named;
 use sf_base::Failure;
 use std::alloc::Global;
 
-/// The bytes of the literals of a line, in their order; or the line's fault, where one of them is badly
-/// spelled. Out of memory may come in place of either. A line without literals takes no memory.
+/// The bytes of the literals of a line, in order, or the line's fault if one of them is malformed, or `OutOfMemory`. A
+/// line without literals allocates nothing.
 pub fn pool_of_line(alloc: Global, line: &[u8]) -> Result<Vec<u8>, Failure<RequestFault>>
     requires { HasNoFeed line.now }
     ensures pool { IfOk result (λ pool. pool_bytes line.now ≡ Ok pool.items) }
@@ -40,8 +40,8 @@ pub fn pool_of_line(alloc: Global, line: &[u8]) -> Result<Vec<u8>, Failure<Reque
     }
 }
 
-/// What a line asks for, over the bytes of its literals; or its first fault from left to right. A line
-/// without tokens asks for nothing. Out of memory may come in place of any answer of an edit.
+/// Reads the request of a line, with a pool of the bytes of its literals, or returns its first fault from left to
+/// right. A line without tokens has no request. An edit may fail with `OutOfMemory`.
 pub fn read_line<'t, 'p: 't>(
     alloc: Global,
     line: &'t [u8],
@@ -61,7 +61,7 @@ pub fn read_line<'t, 'p: 't>(
     }
 }
 
-// What a line asks for that says something.
+// Reads the request of a line with tokens.
 fn request<'t, 'p: 't>(
     alloc: Global,
     line: &'t [u8],
@@ -74,7 +74,7 @@ fn request<'t, 'p: 't>(
     asked(alloc, command, &mut rest, line, pool)
 }
 
-// What a line asks for, by its command, if it begins with one; else it is an edit.
+// The request of the command, if the line begins with one; else an edit.
 fn asked<'t, 'p: 't>(
     alloc: Global,
     command: Result<Command, LineFault>,
@@ -91,7 +91,7 @@ fn asked<'t, 'p: 't>(
     }
 }
 
-// The edit that a line says.
+// The edit of a line.
 fn edit_of_line<'t, 'p>(
     alloc: Global,
     line: &'t [u8],
@@ -103,7 +103,7 @@ fn edit_of_line<'t, 'p>(
     Ok(Request::Edit(an_edit(alloc, &mut whole)?))
 }
 
-// What a command asks for, by what is left of its line.
+// The request of a command, by the rest of its line.
 fn asked_by<'t, 'p: 't>(
     alloc: Global,
     command: Command,
@@ -128,7 +128,7 @@ fn asked_by<'t, 'p: 't>(
     }
 }
 
-// The edit that is left of a line, which has to be neutral.
+// The edit in the rest of a line, as one that must be neutral.
 fn neutral_edit<'t, 'p>(
     alloc: Global,
     line: &mut Cursor<'t, 'p>,
@@ -138,7 +138,7 @@ fn neutral_edit<'t, 'p>(
     Ok(Request::Neutral(an_edit(alloc, line)?))
 }
 
-// The edit that is left of a line.
+// The edit in the rest of a line.
 fn an_edit<'p>(alloc: Global, line: &mut Cursor<'_, 'p>) -> Result<Edit<'p>, Failure<RequestFault>>
     ensures { (make : Edit → Request) → Answers make result (told make (edit line.old.said)) }
 {
@@ -149,14 +149,14 @@ fn an_edit<'p>(alloc: Global, line: &mut Cursor<'_, 'p>) -> Result<Edit<'p>, Fai
     }
 }
 
-// Why nothing is asked for, by the fault of a part of the line.
+// The failure of a line with this fault.
 fn failure_of(fault: LineFault) -> Failure<RequestFault>
     ensures { result ≡ Fault (of_line fault) }
 {
     Failure::Fault(fault.into())
 }
 
-// The request, where nothing is left of its line.
+// The request, if its line is at its end.
 #[tactic(auto, unfolding(line_tokens::specs::Parts::ended))]
 fn alone<'t, 'p>(
     request: Request<'t, 'p>,
@@ -183,7 +183,7 @@ fn note<'t, 'p>(line: &mut Cursor<'t, 'p>) -> Result<Request<'t, 'p>, Failure<Re
     }
 }
 
-// The numbers of a note that starts now, to the line's end; none where it is too long.
+// The numbers of a note that starts now, to the line's end; `None` if it is too long.
 #[tactic(auto, unfolding(crate::specs::Requests::note_now))]
 fn note_now(line: &mut Cursor<'_, '_>) -> Result<Option<Note>, LineFault>
     ensures { Reads (λ n. n) note_now line.old line.new result }
@@ -204,7 +204,7 @@ fn note_now(line: &mut Cursor<'_, '_>) -> Result<Option<Note>, LineFault>
     ))
 }
 
-// So many frames.
+// A request for frames.
 fn some_frames<'t, 'p>(line: &mut Cursor<'t, 'p>) -> Result<Request<'t, 'p>, Failure<RequestFault>>
     ensures answer { Answers (λ r. r) result (told asks.Frames (frames line.old.said)) }
     ensures memory { IsNotOutOfMemory result }
@@ -225,7 +225,7 @@ fn frames(line: &mut Cursor<'_, '_>) -> Result<u32, LineFault>
     Ok(count)
 }
 
-// The paths of the files, by the whole line.
+// The paths of a save, by the whole line.
 fn save<'t, 'p: 't>(
     line: &'t [u8],
     pool: &'p [u8],

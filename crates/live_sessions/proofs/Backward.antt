@@ -1,4 +1,4 @@
--- Edits from the last one back.
+-- Edits in reverse order.
 use Rattle.std.proofs.Common.{◌≡◌, ℕ, ◌+◌, ◌<◌, List, [], ◌∷◌, ◌++◌, length, take, get_or, reverse, ap, sym, ◌∙◌}
 use Rattle.std.proofs.lemmas.List.{take_more}
 use Rattle.edit_forms.specs.declared.edit.Edit.{Edit}

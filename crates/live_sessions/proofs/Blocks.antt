@@ -1,4 +1,4 @@
--- A block that is cut in two.
+-- A block that is split in two.
 use Rattle.std.proofs.Common.{◌≡◌, ℕ, ◌+◌, ◌-◌, ◌≤◌, ℤ, Bool, true, false, not, cond, List, [], ◌∷◌, ◌++◌, map}
 use Rattle.std.proofs.Common.{filter, refl, sym, ap, ◌∙◌, arith, append-nil, Option}
 use Rattle.std.specs.List.{flat_map}
@@ -31,7 +31,7 @@ aged_twice p k n =
     let e : p.voice.age + k + n ≡ p.voice.age + (k + n) = omega arith in
     ap (λ (a : ℕ). let q : Playing = record p { voice = record { value = p.voice.value; age = a } } in q) e
 
--- those that sound after both parts
+-- the voices that still sound after both parts
 both_parts : (ps : List Playing) (k n : ℕ)
     → filter is_sounding (map (aged n) (filter is_sounding (map (aged k) ps)))
     ≡ filter is_sounding (map (aged (k + n)) ps)
@@ -53,7 +53,7 @@ pub after_both : (ps : List Playing) (k n : ℕ) → after_block (after_block ps
 unfolding after_block
 after_both ps k n = both_parts ps k n
 
--- some bank, for the law speaks of one
+-- some bank, since the law is about one
 no_texts : Texts
 no_texts =
     record {
@@ -71,7 +71,7 @@ no_texts =
 no_bank : Parts
 no_bank = record { minor = 1; texts = no_texts; presets = []; instruments = []; samples = [] }
 
--- a block is all that comes of a player that gives it
+-- a block is everything that a player renders for it
 alone : (ps : List Playing) (k : ℕ) → blocks no_bank ps (Given k ∷ []) ≡ block ps k
 unfolding blocks
 alone ps k = append-nil (block ps k)
@@ -98,7 +98,7 @@ unfolding block
 block_none ps = refl
 
 module _ {W : Type 0} {c : W → Option (List ℕ)} {o p q : Output W} {whole : List ℕ} where
-  -- a block was put of those frames that are left
+  -- a block of the remaining frames was put
   pub put_next : (ps qs : List Playing) (n k : ℕ) {m : ℕ} → Putting c o p whole (flat_map sample_bytes (block ps n))
       → Puts c p q (flat_map sample_bytes (block ps m))
       → qs ≡ after_block ps m → m ≡ k → k ≤ n → Putting c o q whole (flat_map sample_bytes (block qs (n - k)))

@@ -1,4 +1,4 @@
--- A note has one voice of each of its pairs of zones.
+-- A note has one voice for each pair of zones that match it.
 use Rattle.std.proofs.Common.{◌≡◌, ℕ, ◌+◌, ◌-◌, ◌^◌, ◌≤◌, ◌<◌, min, suc, List, [], ◌∷◌, length, length-append}
 use Rattle.std.proofs.Common.{get_or, Option, Some, None, IsSome, refl, sym, ap, ◌∙◌, arith}
 use Rattle.std.specs.List.{flat_map}

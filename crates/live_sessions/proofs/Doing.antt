@@ -1,4 +1,4 @@
--- One request done.
+-- One request.
 use Rattle.std.proofs.Common.{◌≡◌, ℕ, ℤ, List, [], ◌++◌, Option, Some, None, sym, ap, subst, append-nil}
 use Rattle.std.proofs.Common.{append_assoc, ◌∙◌}
 use Rattle.std.specs.List.{flat_map}
@@ -21,7 +21,7 @@ adds_then (Some x) None c xs ys p q = absurd p
 adds_then (Some x) (Some y) None xs ys p q = absurd q
 adds_then (Some x) (Some y) (Some z) xs ys p q = q ∙ ap (λ (l : List Saved). l ++ ys) p ∙ append_assoc x xs ys
 
--- requests that send nothing and save nothing
+-- requests that write no frames and save nothing
 pub does_quietly : (old new : Live) (r : Request) (a : Answer) (pcm : Option (List ℕ)) (saved : Option (List Saved))
     → RequestIs old r a new
     → frames_of old r a ≡ [] → saves_of old r a ≡ [] → Does old new r a pcm pcm saved saved

@@ -1,4 +1,4 @@
--- Lines that pass one after the other, and the end of a session.
+-- Lines that are answered in order, and the end of a session.
 use Rattle.std.proofs.Common.{◌≡◌, ◌≢◌, inl, inr, ℕ, ◌+◌, Bool, true, false, ◌||◌, List, [], ◌∷◌, ◌++◌, map, length}
 use Rattle.std.proofs.Common.{Option, Some, None, IsSomeAnd, Result, Ok, Err, refl, sym, ap, subst, ◌∙◌, append-nil}
 use Rattle.std.proofs.Common.{append_assoc, length-append}
@@ -114,9 +114,9 @@ pub at_end : (counts : Counts) (old : Live) (i j o p : Option (List ℕ)) (v : O
     → EndsWell counts old (with_input i o p v) (with_input j o p v)
 at_end counts old i j o p v h = inl (h, only_reads i j o p v)
 
--- ---- lines in a row
+-- ---- lines in order
 
--- so many lines passed
+-- `n` lines were answered
 pub record Reached (counts : Counts) (n : ℕ) (first last : Live) (old new : Around) : Type 0 where
   pub turns : List Turn
   pub count : length turns ≡ n

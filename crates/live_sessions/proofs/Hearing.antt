@@ -1,4 +1,4 @@
--- What goes to the writer of frames is heard.
+-- The frames that are written are those of the session's events.
 use Rattle.std.proofs.Common.{◌≡◌, ◌<◌, ◌+◌, inl, inr, ℕ, ℤ, zero, suc, List, [], ◌∷◌, ◌++◌, length, take, Option}
 use Rattle.std.proofs.Common.{Some, None, Ok, Err, slice_get, refl, sym, ap, subst, ◌∙◌, arith, length-take}
 use Rattle.std.specs.List.{flat_map}
@@ -29,8 +29,8 @@ use Rattle.live_sessions.proofs.Turning.{nothing_done}
 
 -- ---- one request
 
--- There is a bank after it, the first bank stays, and of what was done the player's next blocks are these frames and
--- those that come after.
+-- After a request there is a bank, the first bank is unchanged, and the request's events render as these frames,
+-- followed by the player's next blocks.
 record Hears (old new : Live) (b : Parts) (events : List Event) (frames : List ℤ) : Type 0 where
   bank : Parts
   here : bank_now new.session ≡ Some bank
@@ -62,7 +62,7 @@ hears_edit old new b c here front only = record {
       ∙ ap (λ (ps : List Playing). blocks c ps es) (sym only.player);
 }
 
--- there is a bank at each place
+-- there is a bank at each position
 get_within : {X : Type 0} (xs : List X) (k : ℕ) → k < length xs → (x : X) × (slice_get xs k ≡ Some x)
 get_within [] k h = absurd (omega arith)
 get_within (x ∷ xs) zero h = (x, refl)
@@ -83,7 +83,7 @@ now_edited old new e h =
     omega (arith, length-take (old.place + 1) old.banks) in
     ap bank_now h.changed ∙ get_pushed (take (old.place + 1) old.banks) (old.place + 1) (raw h.bank e) long
 
--- a list that is cut behind a member keeps its first
+-- truncating a list after a bank keeps its first bank
 front_kept : (banks : List Parts) (place : ℕ) (c d : Parts) → slice_get banks place ≡ Some d
     → slice_get (take (place + 1) banks ++ c ∷ []) 0 ≡ slice_get banks 0
 front_kept [] place c d h = absurd cc

@@ -1,4 +1,4 @@
--- The way back leads to the first bank.
+-- The undo list leads to the first bank.
 use Rattle.std.proofs.Common.{◌≡◌, ℕ, zero, suc, List, [], ◌∷◌, ◌++◌, map, take, reverse, Some, slice_get, refl, sym}
 use Rattle.std.proofs.Common.{ap, subst, ◌∙◌}
 use Rattle.std.specs.Prelude.{zip}
@@ -18,7 +18,7 @@ use Rattle.live_sessions.proofs.Hearing.{first_stays}
 abbrev back_to : List Parts → List Edit → ℕ → List Edit
 back_to banks edits place = map (λ (step : Parts × Edit). inverse step.0 step.1) (take place (zip banks edits))
 
--- the edits up to a place are taken, and give the bank there; the way back is what takes them back
+-- the edits up to a position are accepted, and lead to the bank there; the undo list undoes them
 record Led (b : Parts) (banks : List Parts) (edits : List Edit) (place : ℕ) (c : Parts) : Type 0 where
   bank : c ≡ after_all b (take place edits)
   taken : AllTaken b (take place edits)

@@ -1,4 +1,4 @@
--- The first line of a text, and a read up to a line feed.
+-- The first line of a text, and reading up to a line feed.
 use Rattle.std.proofs.Common.{◌≡◌, ◌≢◌, ℕ, Bool, true, false, not, cond, ◌&&◌, List, [], ◌∷◌, ◌++◌, Option, Some}
 use Rattle.std.proofs.Common.{None, IfSome, refl, sym, ap, subst, ◌∙◌}
 use Rattle.std.specs.List.{list_all}
@@ -25,7 +25,7 @@ take_step x xs b e = ap (λ (t : Bool). cond t (x ∷ []) (x ∷ take_through 10
 drop_step : (x : ℕ) (xs : List ℕ) (b : Bool) → is_feed x ≡ b → drop_through 10 (x ∷ xs) ≡ cond b xs (drop_through 10 xs)
 drop_step x xs b e = ap (λ (t : Bool). cond t xs (drop_through 10 xs)) e
 
--- bytes up to the first line feed are one line, the first
+-- the bytes up to the first line feed are the first line
 record Cut (xs : List ℕ) : Type 0 where
   line : List ℕ
   taken : lines_of (take_through 10 xs) ≡ line ∷ []
@@ -56,7 +56,7 @@ cut_at x (y ∷ ys) false e =
           ∙ ap (λ (zs : List ℕ). (x ∷ c.line) ∷ lines_of zs) (sym (drop_step x (y ∷ ys) false e));
     }
 
--- what was read is one line of the bytes that there were
+-- what was read is the first line of the input
 pub read_one : (old new : Option (List ℕ)) (bytes : List ℕ) → bytes ≢ []
     → IfSome old (λ xs. bytes ≡ take_through 10 xs) → DropsThrough old new 10
     → (line : List ℕ) → IsFirst (lines_of bytes) line → Reads old new (line ∷ [])
@@ -70,7 +70,7 @@ read_one (Some (x ∷ xs)) (Some left) bytes some h d line f =
     let left_is : left ≡ drop_through 10 (x ∷ xs) = cc in
     c.rest ∙ (λ i. sym is i ∷ lines_of (sym left_is i))
 
--- ---- no line feed stands in a line
+-- ---- a line has no line feed
 
 first : List (List ℕ) → List ℕ
 first [] = []
@@ -106,7 +106,7 @@ pub bare_of : (ls : List (List ℕ)) (xs l : List ℕ) (rest : List (List ℕ)) 
     → HasNoFeed l
 bare_of ls xs l rest e h = first_is_bare xs l (subst (λ (ms : List (List ℕ)). IsFirst ms l) (sym h ∙ e) refl)
 
--- the same behind a buffer that held nothing
+-- the same for a buffer that was empty
 pub read_after : (old new : Option (List ℕ)) (buffer bytes : List ℕ) → buffer ≡ [] → bytes ≢ []
     → IfSome old (λ xs. bytes ≡ buffer ++ take_through 10 xs) → DropsThrough old new 10
     → (line : List ℕ) → IsFirst (lines_of bytes) line → Reads old new (line ∷ [])

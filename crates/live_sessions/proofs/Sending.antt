@@ -1,4 +1,4 @@
--- A text that answers a line goes out.
+-- The text that answers a line is written.
 use Rattle.std.proofs.Common.{◌≡◌, ℕ, List, [], Option, Some, Result, Ok, Err, ap}
 use Rattle.std.specs.Option.{option_map_or}
 use Rattle.bank_parts.specs.declared.parts.Parts.{Parts}

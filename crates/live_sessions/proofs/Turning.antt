@@ -32,14 +32,14 @@ use Rattle.live_sessions.specs.Turns.{Asked, LineIs, Turn, Around, answered, end
 use Rattle.live_sessions.specs.Runs.{Answers, AnswersOr, StopsLine}
 use Rattle.live_sessions.proofs.Doing.{adds_nothing}
 
--- what is around a session, but for its input
+-- the surroundings of a session, except for its input
 abbrev pub around : Option (List ℕ) → Option (List ℕ) → Option (List Saved) → Around
 around answers pcm saved = record { input = None; answers = answers; pcm = pcm; saved = saved }
 
 abbrev pub turn_of : List ℕ → Live → Option Answer → Live → Turn
 turn_of line old a new = record { line = line; old = old; answer = a; new = new }
 
--- ---- a line that asks for nothing
+-- ---- a line without a request
 
 pub none_asked : (counts : Counts) (line : List ℕ) (s : Live) (o p : Option (List ℕ)) (v : Option (List Saved))
     → request_of (said_in line) ≡ Ok None
@@ -60,9 +60,9 @@ none_asked counts line s o p v e = record {
   ends = ap (λ (x : Asked). ends x None) e;
 }
 
--- ---- a line that has a fault, or for which memory is out
+-- ---- a line with a fault, or whose allocation fails
 
--- what goes out of a line whose answer is this one is this answer alone
+-- a line with this answer writes this answer alone
 pub record Bare (counts : Counts) (s : Live) (x : Asked) (a : Answer) : Type 0 where
   pub is : LineIs x s (Some a) s
   pub told : answered x (Some a) (told_of counts s) ≡ []
@@ -70,7 +70,7 @@ pub record Bare (counts : Counts) (s : Live) (x : Asked) (a : Answer) : Type 0 w
   pub saves : answered x (Some a) (saves_of s) ≡ []
   pub ends : ends x (Some a) ≡ false
 
--- out of memory nothing is told, given, saved or done to voices, and no session ends
+-- a request that runs out of memory writes no listing or frames, saves nothing, changes no voice and ends no session
 abbrev pub NothingDone : Live → Request → Live → Type 0
 NothingDone old r new =
     ((counts : Counts) → told_of counts old r answer.OutOfMemory ≡ []) × (frames_of old r answer.OutOfMemory ≡ [])
@@ -167,7 +167,7 @@ failure_answered counts line s o n p v why a (Err f) h e sent goes =
 
 -- ---- a request
 
--- what is told of a request is told of the session as it leaves it
+-- the listing before an answer is the same for the session before and after the request
 same_told : (counts : Counts) (old new : Live) (r : Request) (a : Answer) → RequestIs old r a new
     → told_text counts new (kind_of r) ≡ told_of counts old r a
 same_told counts old new (asks.Edit e) a h = refl
@@ -218,7 +218,7 @@ same_end old new asks.Quit answer.OutOfMemory h = absurd h
 same_end old new asks.Quit (answer.WriteFault path n) h = absurd h
 same_end old new asks.Quit (answer.Rejected path f) h = absurd h
 
--- what a line comes to that asks for this request
+-- the turn of a line with this request
 request_told : (counts : Counts) (line : List ℕ) (old new : Live) (r : Request) (a : Answer) (k : Kind)
     (next : Next) (o n p q : Option (List ℕ)) (v w : Option (List Saved))
     → request_of (said_in line) ≡ Ok (Some r) → k ≡ kind_of r → next ≡ next_of k → Does old new r a p q v w
@@ -286,7 +286,7 @@ request_answered counts line old new r a k o n p q v w (Ok x) e kind_is d sent n
 request_answered counts line old new r a k o n p q v w (Err f) e kind_is d sent next_is =
     request_unsent counts line old new r a k o n p q v w f e kind_is d sent
 
--- a request stops for no other fault than that of the frames' writer
+-- a request stops only by a fault of the writer of frames
 abbrev IsOfFrames : LiveFault → Type 0
 IsOfFrames (fault.Pcm n) = Unit {0}
 IsOfFrames other = ⊥

@@ -1,4 +1,4 @@
--- What holds of all sessions.
+-- Laws of all sessions.
 use Rattle.std.specs.Prelude.{◌≡◌, List, Some, reverse}
 use Rattle.std.specs.List.{flat_map}
 use Rattle.bank_parts.specs.declared.parts.Parts.{Parts}
@@ -11,15 +11,15 @@ use Rattle.live_sessions.specs.declared.live.Live.{Live}
 use Rattle.live_sessions.specs.Steps.{started_with}
 use Rattle.live_sessions.specs.Turns.{Turn, AreTurns, events_in, bytes_in}
 
--- What goes to the writer of frames is what is heard of the starts of notes, each on the bank as it was then: of the
--- edits, undone and done again, of the starts and of the frames that were given, in the order of their lines.
+-- The frames that are written are those of the session's events in the order of their lines: edits (also undone and
+-- redone), starts of notes, each on the bank at that time, and blocks of frames.
 abbrev pub FramesAreHeard : Type 0
 FramesAreHeard =
     (b : Parts) (ts : List Turn) (last : Live) → AreTurns (started_with b) ts last
     → flat_map bytes_in ts ≡ flat_map sample_bytes (heard b (flat_map events_in ts))
 
--- Where a session stands, as where it saves, its bank is sound, and it takes the edits of the way back, from the last
--- one on, which give the bank with which it began.
+-- At any time in a session its bank is sound, and accepts the edits of the undo list in reverse order, which lead to
+-- the bank with which the session began.
 abbrev pub WaysLeadBack : Type 0
 WaysLeadBack =
     (b c : Parts) (ts : List Turn) (last : Live) → IsSound b → AreTurns (started_with b) ts last

@@ -24,7 +24,7 @@ use Rattle.live_sessions.specs.Turns.{Turn, Around, Reads, Passes, Passed, Stops
 abbrev pub line_feed : ℕ
 line_feed = 10
 
--- nothing went out, and no line was answered
+-- nothing was written, and no line was answered
 pub record OnlyReads (between new : Around) : Type 0 where
   pub answers : new.answers ≡ between.answers
   pub pcm : new.pcm ≡ between.pcm
@@ -49,17 +49,17 @@ pub record Stops (counts : Counts) (last : Live) (between new : Around) (why : L
 abbrev pub EndsWell : Counts → Live → Around → Around → Type 0
 EndsWell counts last between new = (IsAtEnd between.input × OnlyReads between new) ⊎ Quits counts last between new
 
--- a part of one line was read of known bytes, or all of it: only the last of these bytes may be a line feed
+-- A part of one line was read of known bytes, or all of it: only the last of these bytes can be a line feed.
 abbrev pub ReadsPart : Option (List ℕ) → Option (List ℕ) → Type 0
 ReadsPart old new = (bytes : List ℕ) × Consumes old new bytes × io.StopsAt bytes line_feed
 
--- no further line could be read, for this reason, and nothing went out
+-- no further line could be read, for this reason, and nothing was written
 pub record Unread (between new : Around) (failure : Option ErrorKind) (why : ErrorKind → Type 0) : Type 0 where
   pub failed : IsSomeAnd failure why
   pub part : ReadsPart between.input new.input
   pub only : OnlyReads between new
 
--- the end, or the fault: the last read failed as memory was out, or for another reason, or a writer fails
+-- the end, or the fault: the last read failed by a failed allocation or for another reason, or a writer failed
 abbrev pub EndsBy : Counts → Live → Around → Around → Option ErrorKind → Result (Unit {0}) LiveFault → Type 0
 EndsBy counts last between new failure (Ok u) = EndsWell counts last between new
 EndsBy counts last between new failure (Err (fault.File f)) = ⊥
@@ -68,18 +68,18 @@ EndsBy counts last between new failure (Err fault.Input) = Unread between new fa
 EndsBy counts last between new failure (Err (fault.Answers n)) = Stops counts last between new (fault.Answers n)
 EndsBy counts last between new failure (Err (fault.Pcm n)) = Stops counts last between new (fault.Pcm n)
 
--- the lines that a session reads at most
+-- the most lines that a session reads
 abbrev pub most_lines : ℕ
 most_lines = 2 ^ 64 - 1
 
--- so many lines passed, and nothing is read after them
+-- the most lines were answered, and nothing is read after them
 abbrev pub IsFull : List Turn → Around → Around → Result (Unit {0}) LiveFault → Type 0
 IsFull turns between new (Err fault.Input) = (length turns ≡ most_lines) × (new ≡ between)
 IsFull turns between new other = ⊥
 
 -- ---- the whole session
 
--- lines passed, and then it ended
+-- lines were answered, and then the session ended
 pub record Plays (counts : Counts) (first : Live) (old new : Around) (failure : Option ErrorKind)
     (r : Result (Unit {0}) LiveFault) : Type 0 where
   pub turns : List Turn
@@ -96,12 +96,12 @@ pub record PlaysBank (file : List ℕ) (old new : Around) (failure : Option Erro
   pub reads : ReadsAs file bank counts
   pub plays : Plays counts (started_with bank) old new failure r
 
--- nothing was read of the input, and nothing went out
+-- nothing was read of the input, and nothing was written
 abbrev pub IsUntouched : Around → Around → Type 0
 IsUntouched old new = (new.input ≡ old.input) × OnlyReads old new
 
--- So a session answers. Where its file is no bank, or memory is out as that is read, nothing is read of the input and
--- nothing goes out. `failure` is why the last read of the input failed, if it did.
+-- The result of a session. If its file is no bank, or an allocation fails while reading it, nothing is read of the
+-- input and nothing is written. `failure` is why the last read of the input failed, if it did.
 abbrev pub Runs : List ℕ → Around → Around → Option ErrorKind → Result (Unit {0}) LiveFault → Type 0
 Runs file old new failure (Ok u) = PlaysBank file old new failure (Ok u)
 Runs file old new failure (Err (fault.File f)) = (fault_of file ≡ Some f) × IsUntouched old new
@@ -110,9 +110,9 @@ Runs file old new failure (Err fault.Input) = PlaysBank file old new failure (Er
 Runs file old new failure (Err (fault.Answers n)) = PlaysBank file old new failure (Err (fault.Answers n))
 Runs file old new failure (Err (fault.Pcm n)) = PlaysBank file old new failure (Err (fault.Pcm n))
 
--- ---- one line of it
+-- ---- one line of a session
 
--- this line is answered, and passes; whether it ends the session
+-- this line is answered; whether it ends the session
 pub record Answers (counts : Counts) (line : List ℕ) (live live_new : Live) (old new : Around) (ending : Bool) : Type
     0 where
   pub turn : Turn
@@ -139,25 +139,25 @@ pub record GoesOn (counts : Counts) (live live_new : Live) (old new : Around) : 
   pub input : Reads old.input new.input (line ∷ [])
   pub answers : Answers counts line live live_new old new false
 
--- what becomes of the next line
+-- the result of the next line
 abbrev pub Goes : Counts → Live → Live → Around → Around → Option ErrorKind → Result Next LiveFault → Type 0
 Goes counts live live_new old new failure (Ok next.Line) = GoesOn counts live live_new old new
 Goes counts live live_new old new failure (Ok next.End) = EndsWell counts live old new
 Goes counts live live_new old new failure (Err why) = EndsBy counts live old new failure (Err why)
 
--- ---- how it is read
+-- ---- how a line is read
 
--- the first of a text's lines; of no text it is empty
+-- the first line of a text; empty for an empty text
 abbrev pub IsFirst : List (List ℕ) → List ℕ → Type 0
 IsFirst [] line = line ≡ []
 IsFirst (l ∷ ls) line = line ≡ l
 
--- These bytes were read up to a line feed or the end: they are one line. Or there are none.
+-- These bytes were read up to a line feed or the end of the input, and are one line; or the input is at its end.
 abbrev pub IsRead : Bool → Option (List ℕ) → Option (List ℕ) → List ℕ → Type 0
 IsRead true old new bytes = (line : List ℕ) → IsFirst (lines_of bytes) line → Reads old new (line ∷ [])
 IsRead false old new bytes = IsAtEnd old
 
--- no further line can be held, or read
+-- the fault of a line that could not be read or did not fit into memory
 abbrev pub IsReadFault : ErrorKind → LiveFault → Type 0
 IsReadFault kind fault.Memory = kind ≡ OutOfMemory
 IsReadFault kind fault.Input = kind ≢ OutOfMemory

@@ -5,20 +5,20 @@ use Rattle.bank_format.specs.Canon.{canon}
 use Rattle.edit_forms.specs.declared.edit.Edit.{Edit}
 use Rattle.edit_script.specs.Printing.{texts_of}
 
--- the two texts that are saved together
+-- the two texts of a save
 pub record Saved : Type 0 where
   pub out : List ℕ
   pub undo : List ℕ
 
--- the script of edits that are done from the last one back to the first
+-- the undo script: edits in reverse order
 abbrev pub undo_text : List Edit → List ℕ
 undo_text back = texts_of (reverse back)
 
--- the canonical file of a bank, and the script that takes it back; of the edits that do so the oldest one's comes first
+-- the canonical file of a bank, and its undo script, of inverses with the oldest edit's first
 abbrev pub saved_of : Parts → List Edit → Saved
 saved_of b back = record { out = canon b; undo = undo_text back }
 
--- known saves stay, and these come behind them
+-- known saves are kept, and these are appended
 abbrev pub Adds : Option (List Saved) → Option (List Saved) → List Saved → Type 0
 Adds None new more = Unit {0}
 Adds (Some saves) None more = ⊥

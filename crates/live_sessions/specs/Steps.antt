@@ -1,4 +1,4 @@
--- What a request makes of a session, by what it is answered, and what goes out of it.
+-- The session after a request, by its answer, and what the request writes.
 use Rattle.std.specs.Prelude.{◌≡◌, ◌⊎◌, ◌≤◌, ◌<◌, ◌+◌, ◌-◌, ◌*◌, ◌^◌, min, ℕ, ℤ, Bool, true, false, List, [], ◌∷◌}
 use Rattle.std.specs.Prelude.{length, take, Option, Some}
 use Rattle.std.specs.List.{flat_map}
@@ -27,41 +27,41 @@ use Rattle.live_sessions.specs.declared.fault.LiveFault.TheVariants as fault
 use Rattle.live_sessions.specs.Saved.{Saved, Adds, saved_of}
 use Rattle.live_sessions.specs.Telling.{bank_told}
 
--- a session that begins with a bank: no edit yet, no voice and no frame
+-- a new session with a bank: no edit, no voice and no frame yet
 abbrev pub started_with : Parts → Live
 started_with b = record { session = begun b; player = []; given = 0 }
 
--- ---- what a request makes of a session
+-- ---- the session after a request
 
--- the player and the frames given stay
+-- the player and the count of frames are unchanged
 pub record OnlyTheBank (old new : Live) : Type 0 where
   pub player : new.player ≡ old.player
   pub given : new.given ≡ old.given
 
--- the bank takes the edit, or refuses it and nothing changes
+-- the bank accepts the edit, or refuses it and nothing changes
 abbrev pub EditIs : Live → Edit → Answer → Live → Type 0
 EditIs old e answer.Done new = IsEdited old.session new.session e × OnlyTheBank old new
 EditIs old e (answer.Refused why) new = IsRefusalNow old.session e why × (new ≡ old)
 EditIs old e other new = ⊥
 
--- an edit that isn't neutral is refused as such, and else it is as any other
+-- an edit that is not neutral is refused; a neutral edit is done as any edit
 abbrev pub NeutralIs : Live → Edit → Answer → Live → Type 0
 NeutralIs old e answer.NotNeutral new = (is_neutral e ≡ false) × (new ≡ old)
 NeutralIs old e other new = (is_neutral e ≡ true) × EditIs old e other new
 
--- one bank back
+-- the bank before the last edit
 abbrev pub UndoIs : Live → Answer → Live → Type 0
 UndoIs old answer.Done new = IsForth new.session old.session × OnlyTheBank old new
 UndoIs old (answer.Refused why) new = IsUndoFailure old.session why × (new ≡ old)
 UndoIs old other new = ⊥
 
--- one bank forth
+-- the bank after the edit undone last
 abbrev pub RedoIs : Live → Answer → Live → Type 0
 RedoIs old answer.Done new = IsForth old.session new.session × OnlyTheBank old new
 RedoIs old (answer.Refused why) new = IsRedoFailure old.session why × (new ≡ old)
 RedoIs old other new = ⊥
 
--- a note starts all its voices on the bank as it is now, at the next frame; they are counted as far as a number goes
+-- a note starts all its voices on the current bank, at the next frame; their count saturates
 pub record StartsVoices (old : Live) (n : Numbers) (voices : ℕ) (new : Live) : Type 0 where
   pub bank : Parts
   pub here : bank_now old.session ≡ Some bank
@@ -73,7 +73,7 @@ NoteIs old n (answer.Started voices) new = StartsVoices old n voices new
 NoteIs old n answer.OutOfMemory new = new ≡ old
 NoteIs old n other new = ⊥
 
--- so many frames are given, as long as they are no more than a session gives
+-- the session after `m` frames
 abbrev pub after_frames : Live → ℕ → Live
 after_frames old m = record { session = old.session; player = after_block old.player m; given = old.given + m }
 
@@ -82,8 +82,8 @@ FramesAre old m answer.Done new = (old.given + m ≤ MOST_FRAMES) × (new ≡ af
 FramesAre old m answer.TooManyFrames new = (MOST_FRAMES < old.given + m) × (new ≡ old)
 FramesAre old m other new = ⊥
 
--- A save never changes the session. The script that it saves undoes the history; a write fault or a rejected output has
--- one of its paths.
+-- A save never changes the session. The saved script undoes the history; a write fault or a rejected output has one of
+-- the paths.
 abbrev pub SaveIs : Live → Paths → Answer → Live → Type 0
 SaveIs old paths answer.Done new = IsHistory old.session × (new ≡ old)
 SaveIs old paths answer.OutOfMemory new = new ≡ old
@@ -108,9 +108,9 @@ RequestIs old asks.Show a new = TellIs old a new
 RequestIs old asks.Help a new = TellIs old a new
 RequestIs old asks.Quit a new = TellIs old a new
 
--- ---- what goes out
+-- ---- what a request writes
 
--- the bank that an edit, an undo or a redo leaves, once it is done
+-- the bank after an edit, an undo or a redo that is done
 abbrev pub if_edited : Answer → Live → List Event
 if_edited answer.Done new = option_map_or (λ (b : Parts). Edited b ∷ []) (bank_now new.session) []
 if_edited other new = []
@@ -123,7 +123,7 @@ abbrev pub if_given : ℕ → Answer → List Event
 if_given m answer.Done = Given m ∷ []
 if_given m other = []
 
--- what the player hears of a request
+-- the events of a request for the player
 abbrev pub events_of : Request → Answer → Live → List Event
 events_of (asks.Edit e) a new = if_edited a new
 events_of (asks.Neutral e) a new = if_edited a new
@@ -140,7 +140,7 @@ abbrev pub block_if : Live → ℕ → Answer → List ℤ
 block_if old m answer.Done = block old.player m
 block_if old m other = []
 
--- the frames that a request sends, left and right in turn
+-- the frames of a request, left and right samples in turn
 abbrev pub frames_of : Live → Request → Answer → List ℤ
 frames_of old (asks.Frames m) a = block_if old m a
 frames_of old other a = []
@@ -150,7 +150,7 @@ saves_if old answer.Done =
     option_map_or (λ (b : Parts). saved_of b (way_back old.session) ∷ []) (bank_now old.session) []
 saves_if old other = []
 
--- what a request saves: the bank as it is, and the way back to the first
+-- what a request saves: the current bank and its undo script
 abbrev pub saves_of : Live → Request → Answer → List Saved
 saves_of old (asks.Save paths) a = saves_if old a
 saves_of old other a = []
@@ -159,7 +159,7 @@ abbrev pub told_if : Answer → List ℕ → List ℕ
 told_if answer.Done text = text
 told_if other text = []
 
--- what is told before the answer: the bank as it is, with the counts of reading it, or the help
+-- the text before the answer: the listing of the current bank, or the help
 abbrev pub told_of : Counts → Live → Request → Answer → List ℕ
 told_of counts old asks.Show a = told_if a (bank_told counts old)
 told_of counts old asks.Help a = told_if a HELP.now
@@ -169,22 +169,22 @@ abbrev pub is_done : Answer → Bool
 is_done answer.Done = true
 is_done other = false
 
--- whether the session ends behind it
+-- whether the session ends after the request
 abbrev pub is_end : Request → Answer → Bool
 is_end asks.Quit a = is_done a
 is_end other a = false
 
--- ---- one request done
+-- ---- one request that is done
 
--- what it makes of the session, what went to the writer of frames, and what was saved
+-- the session after it, the frames written, and what was saved
 pub record Does (old new : Live) (r : Request) (a : Answer) (pcm pcm_new : Option (List ℕ))
     (saved saved_new : Option (List Saved)) : Type 0 where
   pub session : RequestIs old r a new
   pub frames : Appends pcm pcm_new (flat_map sample_bytes (frames_of old r a))
   pub saves : Adds saved saved_new (saves_of old r a)
 
--- Exactly a front of so many frames went out, and then the writer failed. The fault counts the bytes of all frames that
--- the session gave, as far as a number goes.
+-- The writer failed after a prefix of these frames. The fault counts the bytes of all frames of the session so far,
+-- saturating.
 pub record StopsInFrames (old : Live) (count : ℕ) (pcm pcm_new : Option (List ℕ)) (written : ℕ) : Type 0 where
   pub within : old.given + count ≤ MOST_FRAMES
   pub part : ℕ
@@ -196,7 +196,7 @@ abbrev pub FramesStop : Live → ℕ → Option (List ℕ) → Option (List ℕ)
 FramesStop old count pcm pcm_new (fault.Pcm written) = StopsInFrames old count pcm pcm_new written
 FramesStop old count pcm pcm_new other = ⊥
 
--- only frames stop in their midst, and nothing was saved
+-- only a request for frames stops midway, and nothing was saved
 abbrev pub StopsIn : Live → Request → Option (List ℕ) → Option (List ℕ) → Option (List Saved) → Option (List Saved)
     → LiveFault → Type 0
 StopsIn old (asks.Frames count) pcm pcm_new saved saved_new why =

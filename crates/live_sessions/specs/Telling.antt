@@ -1,4 +1,4 @@
--- What is told of a request, and how the text that answers a line goes out.
+-- The text that a request writes before its answer, and how the text that answers a line is written.
 use Rattle.std.specs.Prelude.{◌≡◌, ◌≤◌, ℕ, Bool, true, false, List, [], length, take, Option, Result, Ok, Err}
 use Rattle.std.specs.Option.{option_map_or}
 use Rattle.std.specs.Io.KnownBytes.{Appends}
@@ -29,7 +29,7 @@ kind_of asks.Help = kind.Help
 kind_of asks.Quit = kind.Quit
 kind_of other = kind.Plain
 
--- the bank as it is, with the counts of reading its file
+-- the listing of the current bank, with the counts of reading its file
 abbrev pub bank_told : Counts → Live → List ℕ
 bank_told counts s = option_map_or (λ (b : Parts). listing b counts) (bank_now s.session) []
 
@@ -39,7 +39,7 @@ told_text counts s kind.Help = HELP.now
 told_text counts s kind.Plain = []
 told_text counts s kind.Quit = []
 
--- the session ends behind a line of this kind
+-- the session ends after a request of this kind
 abbrev pub next_of : Kind → Next
 next_of kind.Quit = next.End
 next_of kind.Show = next.Line
@@ -50,18 +50,18 @@ abbrev pub is_last : Next → Bool
 is_last next.Line = false
 is_last next.End = true
 
--- the answer to a line that has a fault, or for which memory is out
+-- the answer to a line with a fault or a failed allocation
 abbrev pub told_failure : Failure RequestFault → Answer
 told_failure (failures.Fault f) = answer.Fault f
 told_failure failures.OutOfMemory = answer.OutOfMemory
 
--- a writer's fault is told with its count
+-- a fault of the writer is reported with the number of bytes written
 abbrev pub IsTold : {U : Type 0} → Result ℕ WriteFault → Result U LiveFault → Type 0
 IsTold (Ok total) (Ok u) = Unit {0}
 IsTold (Err stop) (Err why) = why ≡ fault.Answers stop.written
 IsTold delivered r = ⊥
 
--- A text goes out whole; or exactly so many bytes of its front do, which may be all.
+-- The text is written whole; with a fault exactly its first `n` bytes are, which may be all.
 abbrev pub IsSent : {U : Type 0} → Option (List ℕ) → Option (List ℕ) → List ℕ → Result U LiveFault → Type 0
 IsSent old new text (Ok u) = Appends old new text
 IsSent old new text (Err (fault.Answers n)) = (n ≤ length text) × Appends old new (take n text)

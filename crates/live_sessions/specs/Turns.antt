@@ -1,4 +1,4 @@
--- The lines of a session in their turn.
+-- The lines of a session in order.
 use Rattle.std.specs.Prelude.{◌≡◌, ◌⊎◌, ◌≤◌, ℕ, ℤ, Bool, false, List, [], ◌∷◌, ◌++◌, map, length, take, Option, Some}
 use Rattle.std.specs.Prelude.{None, Result, Ok, Err}
 use Rattle.std.specs.List.{flat_map, list_any}
@@ -23,17 +23,17 @@ use Rattle.live_sessions.specs.Steps.{RequestIs, StopsIn, events_of, frames_of, 
 
 -- ---- one line
 
--- what a line asks for, or its fault
+-- the request of a line, or its fault
 abbrev pub Asked : Type 0
 Asked = Result (Option Request) RequestFault
 
--- a request is answered, or a fault is told
+-- a request is answered, or a fault is reported
 abbrev pub AnswerIs : Asked → Live → Answer → Live → Type 0
 AnswerIs (Ok None) old a new = ⊥
 AnswerIs (Ok (Some r)) old a new = RequestIs old r a new
 AnswerIs (Err f) old a new = (a ≡ answer.Fault f) × (new ≡ old)
 
--- A line that asks for nothing gets no answer. In place of any answer memory may be wanting, and nothing changes.
+-- A line without a request has no answer. Any answer may be replaced by out of memory, and nothing changes.
 abbrev pub LineIs : Asked → Live → Option Answer → Live → Type 0
 LineIs asks old None new = (asks ≡ Ok None) × (new ≡ old)
 LineIs asks old (Some a) new = AnswerIs asks old a new ⊎ ((a ≡ answer.OutOfMemory) × (new ≡ old))
@@ -48,9 +48,9 @@ pub record Turn : Type 0 where
 abbrev pub asked : Turn → Asked
 asked t = request_of (said_in t.line)
 
--- ---- what goes out of a line
+-- ---- what a line writes
 
--- what comes of a request that is answered
+-- what a request with this answer writes
 abbrev pub answered : {X : Type 0} → Asked → Option Answer → (Request → Answer → List X) → List X
 answered (Ok (Some r)) (Some a) f = f r a
 answered asks a f = []
@@ -61,18 +61,18 @@ events_in t = answered (asked t) t.answer (λ r a. events_of r a t.new)
 abbrev pub frames_in : Turn → List ℤ
 frames_in t = answered (asked t) t.answer (frames_of t.old)
 
--- the bytes of these frames, the low one of each sample first
+-- the bytes of these frames, each sample little-endian
 abbrev pub bytes_in : Turn → List ℕ
 bytes_in t = flat_map sample_bytes (frames_in t)
 
 abbrev pub saves_in : Turn → List Saved
 saves_in t = answered (asked t) t.answer (saves_of t.old)
 
--- what is told, and the answer behind it
+-- the text before the answer, and the answer
 abbrev pub text_in : Counts → Turn → List ℕ
 text_in counts t = answered (asked t) t.answer (told_of counts t.old) ++ option_map_or answer_text t.answer []
 
--- whether the session ends behind a line
+-- whether the session ends after a line
 abbrev pub ends : Asked → Option Answer → Bool
 ends (Ok (Some r)) (Some a) = is_end r a
 ends asks a = false
@@ -80,23 +80,23 @@ ends asks a = false
 abbrev pub ends_in : Turn → Bool
 ends_in t = ends (asked t) t.answer
 
--- ---- around a session
+-- ---- the surroundings of a session
 
--- the bytes that are left of its input, those that its writers hold, and what was saved
+-- the remaining bytes of its input, the bytes of its writers, and what was saved
 pub record Around : Type 0 where
   pub input : Option (List ℕ)
   pub answers : Option (List ℕ)
   pub pcm : Option (List ℕ)
   pub saved : Option (List Saved)
 
--- a line is answered, and all that goes out of it went out
+-- a line is answered, and all that it writes is written
 pub record Passes (counts : Counts) (t : Turn) (old new : Around) : Type 0 where
   pub is : LineIs (asked t) t.old t.answer t.new
   pub answers : Appends old.answers new.answers (text_in counts t)
   pub pcm : Appends old.pcm new.pcm (bytes_in t)
   pub saved : Adds old.saved new.saved (saves_in t)
 
--- a line is answered, but exactly so many bytes of the text that answers it went out, which may be all
+-- a line is answered, but exactly the first `written` bytes of its text were written, which may be all
 pub record StopsInAnswer (counts : Counts) (t : Turn) (old new : Around) (written : ℕ) : Type 0 where
   pub is : LineIs (asked t) t.old t.answer t.new
   pub within : written ≤ length (text_in counts t)
@@ -104,7 +104,7 @@ pub record StopsInAnswer (counts : Counts) (t : Turn) (old new : Around) (writte
   pub pcm : Appends old.pcm new.pcm (bytes_in t)
   pub saved : Adds old.saved new.saved (saves_in t)
 
--- a request stops before it is answered
+-- a request stops before its answer
 pub record StopsBefore (t : Turn) (old new : Around) (why : LiveFault) : Type 0 where
   pub request : Request
   pub is : asked t ≡ Ok (Some request)
@@ -117,9 +117,9 @@ StopsAt counts t old new (fault.Answers n) = StopsInAnswer counts t old new n
 StopsAt counts t old new (fault.Pcm n) = StopsBefore t old new (fault.Pcm n)
 StopsAt counts t old new other = ⊥
 
--- ---- lines in a row
+-- ---- lines in order
 
--- each line is answered by the session that the lines before it leave
+-- each line is answered by the session after the lines before it
 abbrev pub AreTurns : Live → List Turn → Live → Type 0
 AreTurns first [] last = last ≡ first
 AreTurns first (t ∷ ts) last = (t.old ≡ first) × LineIs (asked t) t.old t.answer t.new × AreTurns t.new ts last
@@ -130,7 +130,7 @@ Reads None new lines = Unit {0}
 Reads (Some bytes) None lines = ⊥
 Reads (Some bytes) (Some left) lines = lines_of bytes ≡ lines ++ lines_of left
 
--- these lines were read, none of which ends the session, and all that goes out of them went out
+-- these lines were read and answered, none ends the session, and all that they write is written
 pub record Passed (counts : Counts) (first : Live) (ts : List Turn) (last : Live) (old new : Around) : Type 0 where
   pub turns : AreTurns first ts last
   pub going : list_any ends_in ts ≡ false

@@ -1,4 +1,4 @@
-//! What a line asks for.
+//! Reads the request of a line.
 ghost use Rattle.std.specs.Prelude.{◌≡◌};
 ghost use Rattle.line_tokens.specs.Said.{said_in};
 ghost use Rattle.line_tokens.specs.Pool.{Answers};
@@ -8,10 +8,10 @@ use live_lines::{Request, RequestFault, pool_of_line, read_line};
 use sf_base::Failure;
 use std::alloc::Global;
 
-/// What a line asks for, or its fault. Out of memory may come in place of either.
+/// Reads the request of a line, or returns its fault or `OutOfMemory`.
 ///
-/// The bytes of its literals stay in memory, since edits and points borrow them as long as there is a bank: no
-/// more than twice as many bytes as the literals of all lines have. A line without literals leaves nothing.
+/// The bytes of its literals are leaked, since edits and points borrow them for the rest of the session: at most twice
+/// the length of the literals of all lines. A line without literals leaks nothing.
 pub(crate) fn ask<'t, 'p: 't>(
     alloc: Global,
     line: &'t [u8],
@@ -23,7 +23,7 @@ pub(crate) fn ask<'t, 'p: 't>(
     read_line(alloc, line, kept(pool))
 }
 
-// Bytes that are kept for good.
+// Leaks bytes.
 fn kept<'p>(pool: Vec<u8>) -> &'p [u8]
     ensures { result.now ≡ pool.items }
 {

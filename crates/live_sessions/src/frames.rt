@@ -1,4 +1,4 @@
-//! Frames that go out.
+//! Renders and writes frames.
 ghost use Rattle.std.specs.Prelude.{◌≡◌, ◌≤◌, ◌/◌, ◌%◌, length};
 ghost use Rattle.std.specs.List.{flat_map};
 ghost use Rattle.outputs.specs.Output.{Puts};
@@ -11,14 +11,14 @@ use mixer::Player;
 use outputs::{Output, WriteFault};
 use std::io::Write;
 
-/// The frames that are made at a time.
+/// The most frames that are rendered at a time.
 const MOST_AT_ONCE: usize = 1024;
 
 /// The samples of these frames, left and right in turn.
 const BLOCK: usize = 2048;
 
-/// Sends the next frames, each sample its low byte first, and flushes. A fault tells how many bytes went
-/// out. It takes no memory.
+/// Writes the next frames, each sample little-endian, and flushes. A fault has the number of bytes written. Allocates
+/// nothing.
 pub(crate) fn send_frames<P: Write>(
     player: &mut Player<'_>,
     count: u32,
@@ -32,7 +32,7 @@ pub(crate) fn send_frames<P: Write>(
     output.deliver()
 }
 
-// Puts the next frames, block by block.
+// Puts the next frames in blocks.
 fn put_frames<P: Write>(player: &mut Player<'_>, count: u32, output: &mut Output<'_, P>)
     ensures put { Puts P.contents output.old output.new (flat_map sample_bytes (block player.old count)) }
     ensures played { player.new ≡ after_block player.old count }
@@ -44,7 +44,7 @@ fn put_frames<P: Write>(player: &mut Player<'_>, count: u32, output: &mut Output
         put_block(player, &mut samples[..2 * size], output);
         left -= size;
     }
-    // For what it says of a player that gives no frame.
+    // Only for its contract: a player without frames is unchanged.
     player.block(&mut []);
 }
 
@@ -59,7 +59,7 @@ fn put_block<P: Write>(player: &mut Player<'_>, samples: &mut [i16], output: &mu
     put_samples(samples, output);
 }
 
-// Puts samples, the low byte of each first.
+// Puts samples, little-endian.
 fn put_samples<P: Write>(samples: &[i16], output: &mut Output<'_, P>)
     requires { length samples.now ≤ BLOCK }
     ensures { Puts P.contents output.old output.new (flat_map sample_bytes samples.now) }

@@ -1,16 +1,16 @@
-//! The laws of sessions.
+//! Laws of sessions.
 ghost use Rattle.live_sessions.specs.Laws.{FramesAreHeard, WaysLeadBack};
 
-/// The law that the bytes of all frames of a session are those of what is heard of its events: of the banks
-/// that edits, undo and redo leave, of the notes that were started and of the frames that were given, in the
-/// order of their lines. So frames that are cut elsewhere are the same (`mixer::cuts_are_free`). It does nothing.
+/// The frames that a session writes are those of its events in the order of their lines: the banks after edits, undo
+/// and redo, the notes started and the blocks of frames. With `mixer::cuts_are_free`, frames do not depend on how they
+/// are split into blocks. This function does nothing.
 #[tactic(auto, using(crate::proofs::Hearing::frames_are_heard))]
 pub fn frames_are_heard()
     ensures { FramesAreHeard }
 {}
 
-/// The law that the edits whose script a save writes are taken in their turn by the bank that it writes, and
-/// give the bank with which the session began. It does nothing.
+/// The bank that a save writes accepts the edits of the undo script that it writes, and they lead to the bank with
+/// which the session began. This function does nothing.
 pub fn saved_ways_lead_back()
     ensures { WaysLeadBack }
 {}

@@ -1,4 +1,4 @@
-//! A session in its course: its bank, its player, and how many frames it gave.
+//! The state of a session: its bank, its player, and the number of frames written.
 ghost use Rattle.std.specs.Prelude.{◌≡◌, ◌+◌, length, min};
 ghost use Rattle.mixer.specs.Heard.{fresh};
 ghost use Rattle.live_sessions.specs.Steps.{EditIs, NeutralIs, UndoIs, RedoIs, NoteIs, started_with};
@@ -13,16 +13,16 @@ use note_list::Note;
 use std::alloc::Global;
 use zone_select::matches;
 
-/// A session in its course.
+/// The state of a session.
 pub(crate) struct Live<'a> {
-    // In front, for its lists.
+    // First, because of its lists.
     pub(crate) player: Player<'a>,
     pub(crate) session: Session<'a>,
-    // The frames that were given.
+    // The number of frames written so far.
     pub(crate) given: u32,
 }
 
-// Not derived: a derived drop is written out, and proved, wherever a value is dropped; this one is a call.
+// Not derived: a derived drop is inlined, and proved, wherever a value is dropped; this one is a call.
 impl Drop for Live<'_> {
     fn drop(self) {
         let Live {
@@ -34,7 +34,7 @@ impl Drop for Live<'_> {
 }
 
 impl<'a> Live<'a> {
-    /// A session that begins with a bank. It takes no memory.
+    /// A new session with a bank. Allocates nothing.
     pub(crate) fn new(alloc: Global, bank: Bank<'a>) -> Live<'a>
         ensures { result ≡ started_with bank.entry }
     {
@@ -55,7 +55,7 @@ impl<'a> Live<'a> {
         }
     }
 
-    /// The same of neutral edits alone.
+    /// Does a neutral edit; refuses any other.
     pub(crate) fn neutral(&mut self, alloc: Global, edit: Edit<'a>) -> Answer<'static>
         ensures { NeutralIs self.old edit.entry result self.new }
     {
@@ -65,7 +65,7 @@ impl<'a> Live<'a> {
         self.edit(alloc, edit)
     }
 
-    /// Goes one bank back.
+    /// Undoes the last edit.
     pub(crate) fn undo(&mut self, alloc: Global) -> Answer<'static>
         ensures { UndoIs self.old result self.new }
     {
@@ -75,7 +75,7 @@ impl<'a> Live<'a> {
         }
     }
 
-    /// Goes one bank forth.
+    /// Redoes the edit undone last.
     pub(crate) fn redo(&mut self, alloc: Global) -> Answer<'static>
         ensures { RedoIs self.old result self.new }
     {
@@ -85,7 +85,7 @@ impl<'a> Live<'a> {
         }
     }
 
-    /// Starts a note at the next frame, on the bank as it is now, and answers how many voices it has.
+    /// Starts a note at the next frame on the current bank. The answer has the number of its voices.
     pub(crate) fn note(&mut self, alloc: Global, note: &Note) -> Answer<'static>
         ensures { NoteIs self.old note.now result self.new }
     {
@@ -97,7 +97,7 @@ impl<'a> Live<'a> {
     }
 }
 
-// How many voices a note has: one of each pair of zones that hold it.
+// The number of voices of a note: one for each pair of zones that match it.
 fn voice_count(bank: &Bank<'_>, note: &Note) -> usize
     ensures { result ≡ min (length (fresh bank.now note.now)) usize.MAX }
 {
@@ -109,7 +109,7 @@ fn voice_count(bank: &Bank<'_>, note: &Note) -> usize
     voices
 }
 
-// One more, as far as a number goes.
+// Adds one, saturating.
 fn one_more(count: usize) -> usize
     ensures { result ≡ min (count + 1) usize.MAX }
 {

@@ -1,4 +1,4 @@
-//! One request after the other, done.
+//! Does the requests of a session.
 ghost use Rattle.std.specs.Prelude.{◌≡◌, ◌+◌, min, IfOk, IfErr};
 ghost use Rattle.std.specs.List.{flat_map};
 ghost use Rattle.std.specs.Io.KnownBytes.{Appends};
@@ -15,26 +15,26 @@ use live_lines::{Answer, MOST_FRAMES, Paths, Request};
 use std::alloc::Global;
 use std::io::Write;
 
-/// Whether the session goes on behind a line.
+/// Whether the session continues after a line.
 #[derive(Clone, Copy)]
 pub(crate) enum Next {
     Line,
     End,
 }
 
-/// What is told before the answer to a request, and whether the session ends behind it.
+/// The text before the answer to a request, and whether the session ends after it.
 #[derive(Clone, Copy)]
 pub(crate) enum Kind {
     Plain,
-    /// The bank is told.
+    /// The listing of the bank.
     Show,
-    /// The help is told.
+    /// The help.
     Help,
-    /// The session ends.
+    /// No text; the session ends.
     Quit,
 }
 
-/// Of which kind a request is.
+/// The kind of a request.
 pub(crate) fn kind_of(request: &Request<'_, '_>) -> Kind
     ensures { result ≡ kind_of request.now }
 {
@@ -46,7 +46,7 @@ pub(crate) fn kind_of(request: &Request<'_, '_>) -> Kind
     }
 }
 
-/// Whether the session goes on behind a request of a kind.
+/// Whether the session continues after a request of this kind.
 pub(crate) fn next_of(kind: Kind) -> Next
     ensures { result ≡ next_of kind }
 {
@@ -56,7 +56,7 @@ pub(crate) fn next_of(kind: Kind) -> Next
     }
 }
 
-/// Does a request, all but to tell of it. A fault of the writer of frames leaves the session as it comes.
+/// Does a request, and returns its answer. After a fault of the writer of frames the session's state is unspecified.
 pub(crate) fn do_request<'t, 'a, P: Write, S: Saves>(
     alloc: Global,
     live: &mut Live<'a>,
@@ -81,7 +81,7 @@ pub(crate) fn do_request<'t, 'a, P: Write, S: Saves>(
     }
 }
 
-// Sends so many frames, as long as the session gives no more than it may.
+// Writes this many frames, within the limit of a session.
 fn give_frames<P: Write>(
     live: &mut Live<'_>,
     count: u32,
@@ -107,7 +107,7 @@ fn give_frames<P: Write>(
     }
 }
 
-// Has the bank saved as it is, and the way back to the first.
+// Saves the current bank and its undo script.
 fn save<'t, S: Saves>(live: &Live<'_>, paths: Paths<'t>, host: &mut S) -> Answer<'t>
     ensures answer { SaveIs live.now paths.entry result live.now }
     ensures saved { Adds (S.saved host.old) (S.saved host.new) (saves_if live.now result) }
@@ -127,7 +127,7 @@ fn save<'t, S: Saves>(live: &Live<'_>, paths: Paths<'t>, host: &mut S) -> Answer
     }
 }
 
-// The sum, as far as a number goes.
+// Adds, saturating.
 fn sum(before: u64, part: u64) -> u64
     ensures { result ≡ min (before + part) u64.MAX }
 {

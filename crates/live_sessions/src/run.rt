@@ -1,4 +1,4 @@
-//! The run of a session, line by line.
+//! Runs a session line by line.
 ghost use Rattle.std.specs.Prelude.{◌≡◌, None};
 ghost use Rattle.line_tokens.specs.Lines.{lines_of};
 ghost use Rattle.live_lines.specs.Requests.{HasNoFeed};
@@ -20,16 +20,16 @@ use sf_reader::read;
 use std::alloc::Global;
 use std::io::{ErrorKind, Write};
 
-/// Reads the file, and then lines from `input`, up to one that says `quit` or to the end; each line that
-/// says something is answered by a text that goes to `answers`, whole and flushed, before the next line
-/// is read. The frames that lines ask for go to `pcm`, 16 bits with the low byte first, left and right in
-/// turn, 44,100 frames a second; they are flushed before the line is answered. `host` saves.
+/// Reads the file, then answers the lines of `input` up to `quit` or the end. Each line that is not empty or a comment
+/// is answered by a text, which is written to `answers` and flushed before the next line is read. Frames are written to
+/// `pcm` as 16-bit little-endian samples, left and right in turn, 44,100 frames per second, and flushed before the line
+/// is answered. `host` saves.
 ///
-/// The bytes of the literals of all lines stay in memory for good, for edits borrow them.
+/// The bytes of the literals of all lines are leaked, since edits borrow them.
 ///
-/// Where the file has a fault nothing is read of the input, and nothing goes out. Out of memory in a line is
-/// its answer, and the session goes on; for a line that can't be held it ends. A fault of a writer ends it, and
-/// so does a read that fails. After 2^64 - 1 lines it ends by [`LiveFault::Input`].
+/// If the file has a fault, nothing is read of `input` and nothing is written. A failed allocation in a line is its
+/// answer, and the session continues; if the line itself can't be held, the session ends. It also ends by a fault of a
+/// writer, by a failed read, and after 2^64 - 1 lines by [`LiveFault::Input`].
 pub fn live_run<R: LineReader, A: Write, P: Write, S: Saves>(
     alloc: Global,
     file: &[u8],
@@ -51,7 +51,7 @@ pub fn live_run<R: LineReader, A: Write, P: Write, S: Saves>(
     play(alloc, &mut live, &counts, input, answers, pcm, host)
 }
 
-// The lines up to the end.
+// Answers lines up to the end.
 fn play<R: LineReader, A: Write, P: Write, S: Saves>(
     alloc: Global,
     live: &mut Live<'_>,
@@ -75,7 +75,7 @@ fn play<R: LineReader, A: Write, P: Write, S: Saves>(
     Err(LiveFault::Input)
 }
 
-// Reads the next line, if there is one, and answers it. The line's memory is used again and again.
+// Reads and answers the next line, if there is one. All lines share one buffer.
 fn take_line<R: LineReader, A: Write, P: Write, S: Saves>(
     alloc: Global,
     live: &mut Live<'_>,
@@ -125,7 +125,7 @@ fn first_line(text: &[u8]) -> &[u8]
     }
 }
 
-// Answers a line, and does what it asks for.
+// Answers a line.
 fn answer_line<'a, A: Write, P: Write, S: Saves>(
     alloc: Global,
     live: &mut Live<'a>,
@@ -153,7 +153,7 @@ fn answer_line<'a, A: Write, P: Write, S: Saves>(
     }
 }
 
-// The answer to a line that has a fault, or for which memory is out.
+// The answer to a line with a fault or a failed allocation.
 fn told(failure: Failure<RequestFault>) -> Answer<'static>
     ensures { result ≡ told_failure failure }
 {

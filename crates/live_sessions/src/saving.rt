@@ -1,4 +1,4 @@
-//! What a session saves, and who saves it.
+//! What a session saves, and the interface that saves it.
 ghost use Rattle.std.specs.Prelude.{◌≡◌};
 ghost use Rattle.std.specs.List.{flat_map};
 ghost use Rattle.outputs.specs.Output.{Puts};
@@ -13,14 +13,14 @@ use live_lines::{Answer, Paths};
 use outputs::{Output, OutputFault};
 use std::io::Write;
 
-/// Why a bank and its way back could not be saved.
+/// Why a bank and its undo script could not be saved.
 #[derive(Clone, Copy, Debug, PartialEq, Eq)]
 pub enum SaveFault {
-    /// Memory was wanting.
+    /// An allocation failed.
     Memory,
-    /// The bank's file: a write failed after so many bytes.
+    /// A write of the bank's file failed after this many bytes.
     Out(u64),
-    /// The script that takes the bank back: a write failed after so many bytes.
+    /// A write of the undo script failed after this many bytes.
     Undo(u64),
     /// The bank's file is rejected, before anything is written.
     OutRejected(OutputFault),
@@ -28,16 +28,16 @@ pub enum SaveFault {
     UndoRejected(OutputFault),
 }
 
-/// What saves a session's bank: the host, by files that are at the paths.
+/// Saves a session's bank to files at the given paths.
 pub trait Saves {
     ghost use Rattle.std.specs.Prelude.{◌≡◌, Option, List, ◌∷◌, [], OnOk, OnErr};
     ghost use Rattle.live_sessions.specs.Saved.{Saved, Adds, saved_of};
 
-    // All that was saved so far, or None where that is not known.
+    // All saves so far, or None where they are not known.
     ghost saved: { Self → Option (List Saved) };
 
-    /// Saves the canonical file of a bank at the path `out`, and at the path `undo` the script that takes
-    /// it back, which [`put_undo`] puts: of the edits given, the oldest one's first, from the last one on.
+    /// Saves the canonical file of a bank at `out`, and at `undo` its undo script, which [`put_undo`] puts. `back` has
+    /// the inverses of the session's edits, the oldest edit's first.
     fn save(
         &mut self,
         paths: &Paths<'_>,
@@ -48,8 +48,7 @@ pub trait Saves {
         ensures failed { OnErr result (Adds (saved self.old) (saved self.new) []) };
 }
 
-/// Puts the script of edits that are done from the last one of the list back to the first. It takes no
-/// memory.
+/// Puts the undo script: the edits of the list in reverse order. Allocates nothing.
 pub fn put_undo<W: Write>(back: &[Edit<'_>], output: &mut Output<'_, W>)
     ensures { Puts W.contents output.old output.new (undo_text back.now) }
 {

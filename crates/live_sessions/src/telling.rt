@@ -13,7 +13,7 @@ use live_lines::{Answer, HELP, put_answer};
 use outputs::{Output, WriteFault};
 use std::io::Write;
 
-/// Sends the text that answers a line, flushes, and says whether the session goes on. It takes no memory.
+/// Writes the text that answers a line, flushes, and returns whether the session continues. Allocates nothing.
 #[tactic(auto, using(crate::proofs::Sending::text_is_sent))]
 pub(crate) fn send_answer<A: Write>(
     live: &Live<'_>,
@@ -43,7 +43,7 @@ fn put_text<A: Write>(
     put_answer(answer, output);
 }
 
-// Puts what is told before an answer.
+// Puts the text before an answer.
 #[tactic(auto, using(crate::proofs::Sending::bank_is_told, outputs::proofs::OutputLaws::puts_nothing))]
 fn put_told<A: Write>(live: &Live<'_>, counts: &Counts, kind: Kind, output: &mut Output<'_, A>)
     ensures { Puts A.contents output.old output.new (told_text counts.now live.now kind) }

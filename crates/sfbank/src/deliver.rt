@@ -162,7 +162,8 @@ pub(crate) fn deliver_edits<W: Write>(
     told(which, output.deliver())
 }
 
-/// Writes the undo script of a session from its undo list, oldest entry first. Allocates nothing.
+/// Writes the undo script of a session. `back` has the inverses of its edits, the oldest edit's first; they are written
+/// in reverse order. Allocates nothing.
 #[tactic(auto, using(crate::proofs::Texts::text_goes_out))]
 pub(crate) fn deliver_undo<W: Write>(back: &[Edit<'_>], out: &mut W) -> Result<(), RunFault>
     ensures { GoesOut Undo (W.contents out.old) (W.contents out.new) (undo_text back.now) result }

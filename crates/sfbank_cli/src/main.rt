@@ -1,5 +1,4 @@
-//! The program `sfbank`: its words and the standard streams go to the library, and the exit status
-//! comes back.
+//! The program `sfbank`: passes its arguments and the standard streams to the library, and returns its exit status.
 #![tactic(auto)]
 
 use sfbank::{Meter, Prompted, run_with_arguments};

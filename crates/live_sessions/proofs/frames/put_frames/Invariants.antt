@@ -5,7 +5,7 @@ use Rattle.mixer.specs.Events.{after_block, block}
 use Rattle.wave_file.specs.Wave.{sample_bytes}
 use Rattle.live_sessions.proofs.frames.put_frames.Given as goal
 
--- the blocks that are behind were put, and those that are left give the rest
+-- the blocks so far were put, and the remaining blocks give the rest
 abbrev pub invariant-loop-left : goal.invariant-loop-left
 invariant-loop-left g l = record {
   put : Putting g.P.Write.contents l.fn.output l.output (flat_map sample_bytes (block l.fn.player l.fn.count))

@@ -2,7 +2,7 @@ use Rattle.std.proofs.Common.{◌≡◌, ◌≤◌, ◌-◌, ◌^◌, length, mi
 use Rattle.mixer.specs.Heard.{fresh}
 use Rattle.live_sessions.proofs.live.voice_count.Given as goal
 
--- the pairs that are behind were counted
+-- the pairs so far were counted
 abbrev pub invariant-loop-pair : goal.invariant-loop-pair
 invariant-loop-pair l = record {
   can_next : (goal.iterator-loop-pair).can_next l._pair-iterator;

@@ -1,7 +1,7 @@
 use Rattle.live_sessions.proofs.Ending.{Reached, with_input}
 use Rattle.live_sessions.proofs.run.play.Given as goal
 
--- the lines that are behind passed
+-- the lines so far were answered
 abbrev pub invariant-loop-turn : goal.invariant-loop-turn
 invariant-loop-turn g l =
     Reached l.counts l._turn l.fn.live l.live

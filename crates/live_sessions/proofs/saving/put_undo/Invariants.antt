@@ -3,7 +3,7 @@ use Rattle.outputs.proofs.OutputLaws.{Putting}
 use Rattle.live_sessions.specs.Saved.{undo_text}
 use Rattle.live_sessions.proofs.saving.put_undo.Given as goal
 
--- the edits that are behind were put
+-- the edits so far were put
 abbrev pub invariant-loop-left : goal.invariant-loop-left
 invariant-loop-left g l = record {
   within : l.left ≤ length l.back;
