@@ -31,7 +31,7 @@ pub(crate) fn short_difference<'a>(
     Ok(None)
 }
 
-// Proved only: no edits are always short.
+// Of the comparison only this is proved: an empty list of edits is short.
 fn are_short(edits: &[Edit<'_>], from: &Bank<'_>, to: &Bank<'_>) -> bool
     ensures { edits.now ≡ [] → IsTrue result }
 {
