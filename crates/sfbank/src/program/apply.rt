@@ -12,7 +12,7 @@ use std::alloc::Global;
 use std::io::Write;
 use std::rt::Files;
 
-/// Runs the script on the bank. Both files are read whole first, so either output may replace an input.
+/// Runs the script on the bank. Both files are read whole first, so OUT may be the bank's own file.
 pub(crate) fn apply<'a, R: Files + AllocGlobal, P: Progress>(
     rt: &'a R,
     paths: ApplyPaths<'a>,

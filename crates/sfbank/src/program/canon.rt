@@ -6,7 +6,7 @@ use sfbank_program::{Fault, Sink, read_file};
 use std::io::Write;
 use std::rt::Files;
 
-/// Writes a bank in canonical form. The file is read whole first, so the output may replace the input.
+/// Writes a bank in canonical form. The bank is read whole first, so the output may be its own file.
 pub(crate) fn canon<'a, R: Files + AllocGlobal, O: Write>(
     rt: &'a R,
     paths: CanonPaths<'a>,

@@ -7,8 +7,8 @@ use sfbank_program::{Fault, Sink, read_file};
 use std::io::Write;
 use std::rt::Files;
 
-/// Writes a script that turns the first bank into the second. Both files are read whole first, so the output may
-/// replace one of them.
+/// Writes a script that turns the first bank into the second. Both files are read whole first, so with `force` the
+/// output may be one of them.
 pub(crate) fn diff<'a, R: Files + AllocGlobal, O: Write>(
     rt: &'a R,
     paths: DiffPaths<'a>,

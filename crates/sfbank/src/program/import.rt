@@ -6,8 +6,8 @@ use command_words::{ImportPaths, recording_name};
 use sfbank_program::{Fault, OutputFile, read_file};
 use std::rt::Files;
 
-/// Imports a WAVE file into the bank, named after the file. Both files are read whole first, so either output may
-/// replace an input.
+/// Imports a WAVE file into the bank, named after the file. Both files are read whole first, so OUT may be the bank's
+/// own file.
 pub(crate) fn import<'a, R: Files + AllocGlobal>(
     rt: &'a R,
     paths: ImportPaths<'a>,

@@ -8,7 +8,7 @@ use sfbank_program::{Fault, Sink, read_file};
 use std::io::Write;
 use std::rt::Files;
 
-/// Renders the notes on the bank as a WAVE file. Both files are read whole first, so the output may replace an input.
+/// Renders the notes on the bank as a WAVE file. Both files are read whole first, so the output may be the bank's file.
 pub(crate) fn play<'a, R: Files + AllocGlobal, O: Write, P: Progress>(
     rt: &'a R,
     paths: PlayPaths<'a>,

@@ -11,7 +11,7 @@ use sfbank_program::{Fault, Sink, read_file};
 use std::io::Write;
 use std::rt::Files;
 
-/// Writes the script of a bank. The bank is read whole first, so the output may replace it.
+/// Writes the script of a bank. The bank is read whole first, so with `force` the output may be its own file.
 pub(crate) fn script<'a, R: Files + AllocGlobal, O: Write>(
     rt: &'a R,
     paths: ScriptPaths<'a>,

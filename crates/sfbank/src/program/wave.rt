@@ -7,7 +7,8 @@ use sfbank_program::{Fault, Sink, read_file};
 use std::io::Write;
 use std::rt::Files;
 
-/// Writes a sample of the bank as a WAVE file. The bank is read whole first, so the output may replace it.
+/// Writes a sample of the bank as a WAVE file. The bank is read whole first, so with `force` the output may be its
+/// file.
 pub(crate) fn wave<'a, R: Files + AllocGlobal, O: Write>(
     rt: &'a R,
     paths: WavePaths<'a>,
