@@ -32,7 +32,7 @@ use Rattle.live_sessions.specs.Turns.{Asked, LineIs, Turn, Around, answered, end
 use Rattle.live_sessions.specs.Runs.{Answers, AnswersOr, StopsLine}
 use Rattle.live_sessions.proofs.Doing.{adds_nothing}
 
--- the surroundings of a session, except for its input
+-- the outputs of a session
 abbrev pub around : Option (List ℕ) → Option (List ℕ) → Option (List Saved) → Around
 around answers pcm saved = record { input = None; answers = answers; pcm = pcm; saved = saved }
 

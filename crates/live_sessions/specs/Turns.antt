@@ -80,7 +80,7 @@ ends asks a = false
 abbrev pub ends_in : Turn → Bool
 ends_in t = ends (asked t) t.answer
 
--- ---- the surroundings of a session
+-- ---- the input and the outputs of a session
 
 -- the remaining bytes of its input, the bytes of its writers, and what was saved
 pub record Around : Type 0 where
