@@ -1,11 +1,9 @@
 //! The calls of the lower crates that no run of a file makes.
-ghost use Rattle.std.specs.Prelude.{◌≡◌, IfOk};
-
 use bank_core::PartsFault;
 use generators::{GenMap, Level, Range, allowed, default_of};
 use hydra_records::{Bag, Generator, Table};
 use modulators::{DEFAULT_VELOCITY, Modulator};
-use numbered_lists::{NumberedList, Renumber, Renumbering};
+use numbered_lists::{NumberedList, Renumbering, insert_within, move_within};
 use outputs::WriteFault;
 use riff_chunks::Truncated;
 use sample_view::Points;
@@ -14,61 +12,41 @@ use std::alloc::{AllocError, Global};
 use std::fmt::Display;
 use std::test::Fail;
 
-fn list_of(alloc: Global, members: &[u16]) -> Result<NumberedList<u16>, AllocError>
-    ensures { IfOk result (λ list. list ≡ members.now) }
-{
-    Ok(NumberedList::from_vec(members.to_vec(alloc)?))
-}
-
-fn follow<R: Renumber>(holder: &mut R, by: Renumbering)
-    requires { R.can_renumber by holder.old }
-    ensures { holder.new ≡ R.with_new_numbers by holder.old }
-{
-    holder.renumber(by);
-}
-
 #[test]
-fn a_list_is_changed(rt: HostRuntime) -> Result<(), Fail> {
-    let mut list = list_of(rt.alloc(), &[10, 20, 30])?;
-    assert!(rt; *list.member(2) == 30 && list.get(2) == Some(&30) && list.get(3).is_none());
-    list.push(40)?;
-    list.insert(1, 15)?;
-    assert!(rt; list.as_slice() == [10, 15, 20, 30, 40].as_slice());
-    list.move_member(1, 3);
-    assert!(rt; list.as_slice() == [10, 20, 30, 15, 40].as_slice());
-    assert!(rt; list.remove(3) == 15 && list.replace(0, 11) == 10);
-    *list.member_mut(3) = 44;
-    assert!(rt; list.take().into_vec().as_slice() == [11, 20, 30, 44].as_slice());
-    assert!(rt; list.is_empty() && list.len() == 0);
-    Ok(())
-}
-
-#[test]
-fn a_list_takes_a_member_without_memory(rt: HostRuntime) -> Result<(), Fail> {
-    let list = NumberedList::new(rt.alloc());
-    let room = list.reserve_one()?;
-    assert!(rt; room.is_empty() && room.len() == 0);
-    let list = room.push(20u16).reserve_one()?.insert(0, 10);
-    let list = list.reserve_one()?.into_list();
+fn a_list_is_extended(rt: HostRuntime) -> Result<(), Fail> {
+    let mut list = NumberedList::new(rt.alloc());
+    assert!(rt; list.is_empty());
+    list.push(10u16)?;
+    list.push(20)?;
+    assert!(rt; list.len() == 2 && list.as_slice() == [10, 20].as_slice());
+    let list = NumberedList::from_vec(list.into_vec());
     assert!(rt; list.as_slice() == [10, 20].as_slice());
     Ok(())
 }
 
 #[test]
-fn numbers_follow_a_list(rt: HostRuntime) -> Result<(), Fail> {
-    let mut list = list_of(rt.alloc(), &[0, 1, 2, 3, 4])?;
-    follow(&mut list, Renumbering::Insertion { at: 2 });
-    assert!(rt; list.as_slice() == [0, 1, 3, 4, 5].as_slice());
-    follow(&mut list, Renumbering::Removal { at: 2 });
-    assert!(rt; list.as_slice() == [0, 1, 2, 3, 4].as_slice());
-    follow(&mut list, Renumbering::Move { from: 1, to: 3 });
-    assert!(rt; list.as_slice() == [0, 3, 1, 2, 4].as_slice());
-    follow(&mut list, Renumbering::Move { from: 3, to: 1 });
-    list.insert_renumbered(Renumbering::Insertion { at: 5 }, 5, 5)?;
-    let mut room = list.reserve_one()?;
-    follow(&mut room, Renumbering::Insertion { at: 0 });
-    assert!(rt; room.insert(0, 0).as_slice() == [0, 1, 2, 3, 4, 5, 6].as_slice());
+fn a_list_is_changed_in_place(rt: HostRuntime) -> Result<(), Fail> {
+    let mut members = [10u16, 20, 30].to_vec(rt.alloc())?;
+    move_within(members.as_mut_slice(), 0, 2);
+    assert!(rt; members.as_slice() == [20, 30, 10].as_slice());
+    move_within(members.as_mut_slice(), 2, 1);
+    assert!(rt; members.as_slice() == [20, 10, 30].as_slice());
+    members.try_reserve(1)?;
+    insert_within(&mut members, 1, 15);
+    assert!(rt; members.as_slice() == [20, 15, 10, 30].as_slice());
     Ok(())
+}
+
+#[test]
+fn numbers_follow_a_list(rt: HostRuntime) {
+    let inserted = Renumbering::Insertion { at: 2 };
+    assert!(rt; inserted.number_after(1) == 1 && inserted.number_after(2) == 3);
+    let removed = Renumbering::Removal { at: 2 };
+    assert!(rt; removed.number_after(1) == 1 && removed.number_after(3) == 2);
+    let moved = Renumbering::Move { from: 1, to: 3 };
+    assert!(rt; moved.number_after(0) == 0 && moved.number_after(1) == 3 && moved.number_after(3) == 2);
+    let moved_back = Renumbering::Move { from: 3, to: 1 };
+    assert!(rt; moved_back.number_after(3) == 1 && moved_back.number_after(2) == 3);
 }
 
 /// The points 1 to 10.

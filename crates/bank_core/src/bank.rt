@@ -13,7 +13,7 @@ ghost use Rattle.bank_core.specs.Faults.{IsPartsFault};
 use crate::fault::PartsFault;
 use bank_changes::List;
 use bank_parts::{Head, InfoId, OwnerHead, Owners, Parts, Sample, copy_parts};
-use bank_validity::{Totals, is_valid, totals_of};
+use bank_validity::{Totals, totals_of, valid_totals};
 use sf_base::{Name20, OutOfMemory};
 use std::alloc::Global;
 use std::marker::Model;
@@ -60,6 +60,15 @@ impl<'a> Bank<'a> {
         ensures { result ≡ parts.entry }
     {
         let totals = totals_of(&parts);
+        Bank::with_totals(parts, totals)
+    }
+
+    // The bank of these parts, which are sound and have these totals.
+    pub(crate) fn with_totals(parts: Parts<'a>, totals: Totals) -> Bank<'a>
+        requires sound { IsSound parts }
+        requires totals { totals ≡ totals_of parts }
+        ensures { result ≡ parts.entry }
+    {
         Bank { parts, totals }
     }
 
@@ -71,10 +80,10 @@ impl<'a> Bank<'a> {
         ensures fault { IfErr result (λ fault. IsPartsFault parts.entry fault) }
     {
         let _ = alloc;
-        if !is_valid(&parts) {
-            return Err(PartsFault::Invalid);
+        match valid_totals(&parts) {
+            Some(totals) => Ok(Bank::with_totals(parts, totals)),
+            None => Err(PartsFault::Invalid),
         }
-        Ok(Bank::from_sound_parts(parts))
     }
 
     /// Returns an equal bank in memory of its own, or `OutOfMemory`. Points and texts are borrowed again, not copied.

@@ -12,7 +12,7 @@ ghost use Rattle.bank_core.specs.Flat.{IsFlatOf};
 use crate::bank::Bank;
 use crate::flat_heads::FlatHeads;
 use bank_parts::{Head, OwnerHead, Owners, Parts, Sample, Texts};
-use bank_validity::is_valid;
+use bank_validity::valid_totals;
 use flat_records::Recs;
 use linked_members::LinkedMembers;
 use sf_base::Name20;
@@ -60,10 +60,10 @@ impl<'a> Bank<'a> {
             instruments,
             samples,
         };
-        if !is_valid(&parts) {
+        let Some(totals) = valid_totals(&parts) else {
             return None;
-        }
-        Some(Bank::from_sound_parts(parts))
+        };
+        Some(Bank::with_totals(parts, totals))
     }
 }
 

@@ -30,7 +30,7 @@ pub(crate) fn can_hold(bags: &OwnerBags, more: Records) -> bool
 fn fits_index(count: usize, more: usize) -> bool
     ensures { IsTrue result ↔ (count + more < 2 ^ 16) }
 {
-    count.saturating_add(more) < 65536
+    count.saturating_add(more) <= usize::from(u16::MAX)
 }
 
 /// Reserves memory for more owners and records. The contents do not change.

@@ -9,4 +9,4 @@ mod validity;
 pub use laws::limits_agree;
 pub use limits::Limit;
 pub use totals::{LevelTotals, Totals, totals_of};
-pub use validity::is_valid;
+pub use validity::{is_valid, valid_totals};

@@ -1,12 +1,13 @@
 //! Whether parts are a valid bank.
-ghost use Rattle.std.specs.Prelude.{◌↔◌, IsTrue};
+ghost use Rattle.std.specs.Prelude.{◌≡◌, ◌↔◌, IsTrue, IfSome, is_some};
 ghost use Rattle.std.specs.Bool.{OnTrue};
 ghost use Rattle.std.specs.List.{AllByRecursion};
 ghost use Rattle.sf_base.specs.Names.{IsName, IsText};
-ghost use Rattle.bank_parts.specs.Valid.{IsPreset, IsInstrument, IsLoop, IsLink, IsSample, AreTexts, IsWithin, IsValid};
+ghost use Rattle.bank_parts.specs.Valid.{IsPreset, IsInstrument, IsLoop, IsLink, IsSample, AreTexts, IsValid};
 ghost use Rattle.bank_parts.specs.Fits.{FitTexts, FitsHead, FitsOwner, FitsSample, FitsLoop, FitsKind, Fits};
+ghost use Rattle.bank_validity.specs.Limits.{totals_of};
 
-use crate::totals::totals_of;
+use crate::totals::{Totals, totals_of};
 use bank_parts::{Head, Kind, Owners, Parts, Sample, Texts};
 use sf_base::Name20;
 use sf_base::limits::{COMMENT_LENGTH, TEXT_LENGTH};
@@ -18,19 +19,24 @@ pub fn is_valid(parts: &Parts<'_>) -> bool
     ensures valid { IsTrue result ↔ IsValid parts.now }
     ensures fits { OnTrue result (Fits parts.now) }
 {
+    valid_totals(parts).is_some()
+}
+
+/// The totals of the parts, if they are a valid bank. Allocates nothing.
+#[tactic(auto, using(crate::proofs::LimitLaws::limits_of, crate::proofs::LimitLaws::no_limit_of))]
+pub fn valid_totals(parts: &Parts<'_>) -> Option<Totals>
+    ensures valid { IsTrue (is_some result) ↔ IsValid parts.now }
+    ensures fits { OnTrue (is_some result) (Fits parts.now) }
+    ensures value { IfSome result (λ totals. totals ≡ totals_of parts.now) }
+{
     let _minor = parts.minor;
-    are_texts(&parts.texts)
+    let totals = totals_of(parts);
+    let is_valid = are_texts(&parts.texts)
         && are_presets(&parts.presets, parts.instruments.len())
         && are_instruments(&parts.instruments, parts.samples.len())
         && are_samples(parts.samples.as_slice(), parts.samples.len())
-        && is_within(parts)
-}
-
-#[tactic(auto, using(crate::proofs::LimitLaws::limits_of, crate::proofs::LimitLaws::no_limit_of))]
-fn is_within(parts: &Parts<'_>) -> bool
-    ensures { IsTrue result ↔ IsWithin parts.now }
-{
-    totals_of(parts).broken().is_none()
+        && totals.broken().is_none();
+    if is_valid { Some(totals) } else { None }
 }
 
 // ---- texts and names

@@ -1,9 +1,5 @@
 //! The texts that help a musician.
 
-/// A first line to show on a terminal.
-pub const GREETING: &str =
-    "# sfbank live: each line is an edit or a command, and `help` lists them\n";
-
 /// The text that answers `help`: one screen of lines, each of which can be typed as it is.
 pub const HELP: &str = "\
 rename-sample 0 \"Piano C4\"       # an edit, as in a script\n\

@@ -24,7 +24,7 @@ mod request;
 pub use answer::{Answer, put_answer};
 pub use command::Command;
 pub use fault::RequestFault;
-pub use help::{GREETING, HELP};
+pub use help::HELP;
 pub use paths::{FilePath, Paths};
 pub use reading::{pool_of_line, read_line};
 pub use request::{MOST_FRAMES, Request};

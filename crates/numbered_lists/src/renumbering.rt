@@ -48,17 +48,6 @@ pub trait Renumber {
         ensures { self.new ≡ with_new_numbers by self.old };
 }
 
-/// A number is itself the number of a member.
-impl Renumber for u16 {
-    ghost can_renumber = { λ by number. renumbered by number < 2 ^ 16 };
-
-    ghost with_new_numbers = { renumbered };
-
-    fn renumber(&mut self, by: Renumbering) {
-        *self = by.number_after(*self);
-    }
-}
-
 /// Renumbers each member of a slice.
 #[tactic(auto, using(std::proofs::lemmas::List::Edits::map_over_more))]
 pub fn renumber_all<T: Renumber>(members: &mut [T], by: Renumbering)

@@ -81,8 +81,8 @@ pub fn neutral_run<W: Write, V: Write, P: Progress>(
     run_script(alloc, file, script, Forms::Neutral, out, undo, progress)
 }
 
-// Runs a script whose edits must be of these forms.
-fn run_script<W: Write, V: Write, P: Progress>(
+/// Runs a script whose edits must be of these forms.
+pub(crate) fn run_script<W: Write, V: Write, P: Progress>(
     alloc: Global,
     file: &[u8],
     script: &[u8],

@@ -1,15 +1,10 @@
 //! The command `apply`.
-ghost use Rattle.sfbank.specs.Planned.{outcome_of};
-ghost use Rattle.sfbank.specs.Written.{Runs};
-
 use super::checks::{apart, no_bank};
 use super::endings::end_both_at;
-use crate::edit::{edit_run_with_progress, neutral_run};
-use command_words::{ApplyPaths, Forms};
+use crate::edit::run_script;
+use command_words::ApplyPaths;
 use progress::Progress;
-use sfbank_program::{Fault, OutputFile, RunFault, read_file};
-use std::alloc::Global;
-use std::io::Write;
+use sfbank_program::{Fault, OutputFile, read_file};
 use std::rt::Files;
 
 /// Runs the script on the bank. Both files are read whole first, so OUT may be the bank's own file.
@@ -25,7 +20,7 @@ pub(crate) fn apply<'a, R: Files + AllocGlobal, P: Progress>(
     let script = read_file(rt, paths.script)?;
     let mut out = OutputFile::new(rt, paths.out)?;
     let mut undo = OutputFile::new(rt, paths.undo)?;
-    let run = run_asked(
+    let run = run_script(
         rt.alloc(),
         file.as_slice(),
         script.as_slice(),
@@ -35,24 +30,4 @@ pub(crate) fn apply<'a, R: Files + AllocGlobal, P: Progress>(
         progress,
     );
     end_both_at(paths.out, paths.undo, out, undo, run)
-}
-
-/// Runs `edit_run_with_progress` or `neutral_run`, by the forms of edits that are accepted.
-#[tactic(auto, unfolding(crate::specs::Outcome::outcome, crate::specs::Outcome::neutral_outcome))]
-fn run_asked<W: Write, V: Write, P: Progress>(
-    alloc: Global,
-    file: &[u8],
-    script: &[u8],
-    forms: Forms,
-    out: &mut W,
-    undo: &mut V,
-    progress: &mut P,
-) -> Result<(), RunFault>
-    ensures { Runs (record { out = W.contents out.old; out_new = W.contents out.new; undo = V.contents undo.old; undo_new = V.contents undo.new })
-        (outcome_of forms file.now script.now) result }
-{
-    match forms {
-        Forms::Every => edit_run_with_progress(alloc, file, script, out, undo, progress),
-        Forms::Neutral => neutral_run(alloc, file, script, out, undo, progress),
-    }
 }

@@ -13,8 +13,8 @@ pub returns-in_default-owners_of : goal.returns-in_default-owners_of
 returns-in_default-owners_of c b sound are =
     c.in_default-owners_of.ensures.lists b.instruments (instruments_plain b sound) are.instruments
 
-pub returns-then-not-is_valid : goal.returns-then-not-is_valid
-returns-then-not-is_valid c b sound are =
+pub returns-in_default-valid_totals : goal.returns-in_default-valid_totals
+returns-in_default-valid_totals c b sound are =
     let flat = c.args.flat in
     let presets = c.in-Some in
     let instruments = c.in-Some-owners_of in
@@ -42,4 +42,4 @@ returns-then-not-is_valid c b sound are =
     }
     in
     let same = same_bank flat b parts sound presets.ensures.plain instruments.ensures.plain are own in
-    true≢false (sym (c.if-not-is_valid.ensures.valid.1 (subst IsValid same sound.valid)))
+    true≢false (sym (c.in_default-valid_totals.ensures.valid.1 (subst IsValid same sound.valid)))

@@ -1,7 +1,7 @@
 use Rattle.std.proofs.Common.{◌≡◌, ◌+◌, ◌-◌, suc, length-take, length-drop, arith}
 use Rattle.numbered_lists.proofs.Lists.{slice_get-found}
 use Rattle.numbered_lists.proofs.Rotated.{first_goes_last, last_goes_first}
-use Rattle.numbered_lists.proofs.list.move_within.Goals as goal
+use Rattle.numbered_lists.proofs.in_place.move_within.Goals as goal
 
 pub returns-then-from-to : goal.returns-then-from-to
 returns-then-from-to g c =
