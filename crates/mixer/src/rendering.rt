@@ -12,8 +12,12 @@ use bank_core::Bank;
 use note_list::Note;
 use progress::{Progress, Unheard, Work};
 use sf_base::OutOfMemory;
+use sound_tables::MOST_FRAMES;
 use std::alloc::Global;
 use zone_select::{matches, params};
+
+// The most frames of a list: the last frame at which a note may end, and the longest release after it.
+const MOST_FRAME_COUNT: u32 = 104_480_284;
 
 /// Renders all frames of notes in any order, left and right interleaved, 44,100 a second: the sum of all voices of all
 /// notes, each from its note's start on, clipped once to 16 bits.
@@ -85,7 +89,7 @@ fn play<'a, P: Progress>(
 // The release of a pair's voice, in frames.
 fn release_of(bank: &Bank<'_>, note: &Note, pair: (u32, u32)) -> u32
     ensures value { result ≡ whole.last_release (listed (voice_by bank.now note.now pair)) }
-    ensures most { result ≤ 4480284 }
+    ensures most { result ≤ MOST_FRAMES }
 {
     match params(bank, note, pair) {
         Some(played) => played.voice.release,
@@ -96,7 +100,7 @@ fn release_of(bank: &Bank<'_>, note: &Note, pair: (u32, u32)) -> u32
 // The longest release of a note's voices, in frames.
 fn last_release(bank: &Bank<'_>, note: &Note) -> u32
     ensures value { result ≡ whole.last_release (selected bank.now note.now) }
-    ensures most { result ≤ 4480284 }
+    ensures most { result ≤ MOST_FRAMES }
 {
     let mut last = 0;
     for pair in matches(bank, note) {
@@ -109,7 +113,7 @@ fn last_release(bank: &Bank<'_>, note: &Note) -> u32
 #[tactic(auto, unfolding(crate::specs::Render::end_of))]
 fn end_of(bank: &Bank<'_>, note: &Note) -> u32
     ensures value { result ≡ whole.end_of bank.now note.now }
-    ensures most { result ≤ 104480284 }
+    ensures most { result ≤ MOST_FRAME_COUNT }
 {
     let start = note.start();
     let length = note.length();
@@ -120,7 +124,7 @@ fn end_of(bank: &Bank<'_>, note: &Note) -> u32
 #[tactic(auto, using(crate::proofs::Counts::count_more, crate::proofs::Counts::count_none))]
 fn frame_count(bank: &Bank<'_>, notes: &[Note]) -> u32
     ensures value { result ≡ whole.frame_count bank.now notes.now }
-    ensures most { result ≤ 104480284 }
+    ensures most { result ≤ MOST_FRAME_COUNT }
 {
     let mut count = 0;
     for note in notes {

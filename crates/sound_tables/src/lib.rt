@@ -7,8 +7,8 @@ mod loudness;
 mod octaves;
 mod ratios;
 
-pub use loudness::{gain, velatt};
-pub use octaves::{frames, step};
+pub use loudness::{UNITY_GAIN, gain, velatt};
+pub use octaves::{MOST_FRAMES, MOST_PHASE_INCREMENT, frames, step};
 pub use ratios::pitch;
 
 /// The law that `floor_div` and `floor_mod` of the specs are floor division, also of negative numbers. It does nothing.

@@ -7,12 +7,15 @@ use crate::ratios::ratio_at;
 /// The attenuation in centibels from which on the gain is zero.
 const SILENCE: i64 = 960;
 
+/// The gain without attenuation. Gains are in 65,536ths.
+pub const UNITY_GAIN: u32 = 65_536;
+
 /// The gain of an attenuation in centibels, in 65536ths: 65536 at 0 and below, halved by each 60 more, zero from 960
 /// on.
 #[tactic(auto, unfolding(crate::specs::Tables::gain_at))]
 pub fn gain(attenuation: i64) -> u32
     ensures value { result ≡ gain_of attenuation }
-    ensures most { result ≤ 65536 }
+    ensures most { result ≤ UNITY_GAIN }
 {
     if attenuation >= SILENCE {
         return 0;

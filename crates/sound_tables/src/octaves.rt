@@ -11,12 +11,18 @@ const FRAME_RATE: u64 = 44100;
 /// The ratio of twelve octaves. The octaves of an interval are counted from twelve below zero.
 const TWELVE_OCTAVES: u64 = 4096;
 
+/// The frames of 8000 timecents, the longest time that counts.
+pub const MOST_FRAMES: u32 = 4_480_284;
+
+/// The phase increment of 9600 cents at 192,000 points a second, the highest that counts.
+pub const MOST_PHASE_INCREMENT: u32 = 73_043_661;
+
 /// The frames of a time in timecents, at 44,100 a second: 44,100 at 0, twice as many for each 1200 more. Zero up to
 /// -12000; 4,480,284 from 8000 on.
 #[tactic(auto, using(crate::proofs::OctaveLaws::frames_case, crate::proofs::OctaveLaws::frames_bound))]
 pub fn frames(timecents: i64) -> u32
     ensures value { result ≡ frames_of timecents }
-    ensures most { result ≤ 4480284 }
+    ensures most { result ≤ MOST_FRAMES }
 {
     if timecents <= -12000 {
         return 0;
@@ -30,7 +36,7 @@ pub fn frames(timecents: i64) -> u32
 #[tactic(auto, using(crate::proofs::OctaveLaws::step_case, crate::proofs::OctaveLaws::step_bound))]
 pub fn step(cents: i64, rate: u32) -> u32
     ensures value { result ≡ step_of cents rate }
-    ensures most { result ≤ 73043661 }
+    ensures most { result ≤ MOST_PHASE_INCREMENT }
 {
     let (octaves, rest) = octaves_of(cents.max(-14400).min(9600));
     let rate = rate.max(400).min(192_000);

@@ -2,7 +2,7 @@
 ghost use Rattle.std.specs.Prelude.{◌≡◌, ◌≤◌, ◌<◌, ◌+◌, ◌^◌};
 ghost use Rattle.voice_levels.specs.Envelope.{decayed, held, envelope};
 
-use sound_tables::gain;
+use sound_tables::{UNITY_GAIN, gain};
 use zone_select::VoiceParameters;
 
 // The gain of the envelope at a frame of the decay, counted from its start.
@@ -10,7 +10,7 @@ use zone_select::VoiceParameters;
 fn decayed_at(v: &VoiceParameters, fallen: u64) -> u32
     requires { fallen < 2 ^ 34 }
     ensures value { result ≡ decayed v.now fallen }
-    ensures most { result ≤ 65536 }
+    ensures most { result ≤ UNITY_GAIN }
 {
     if v.decay == 0 {
         return gain(i64::from(v.sustain));
@@ -23,7 +23,7 @@ fn decayed_at(v: &VoiceParameters, fallen: u64) -> u32
 pub fn held_at(v: &VoiceParameters, t: u64) -> u32
     requires { t < 2 ^ 34 }
     ensures value { result ≡ held v.now t }
-    ensures most { result ≤ 65536 }
+    ensures most { result ≤ UNITY_GAIN }
 {
     let delay = u64::from(v.delay);
     let attack = u64::from(v.attack);
@@ -37,7 +37,7 @@ pub fn held_at(v: &VoiceParameters, t: u64) -> u32
     }
     let kept = risen - attack;
     if kept < hold {
-        return 65536;
+        return UNITY_GAIN;
     }
     decayed_at(v, kept - hold)
 }
@@ -47,7 +47,7 @@ pub fn held_at(v: &VoiceParameters, t: u64) -> u32
 pub fn envelope_at(v: &VoiceParameters, t: u64) -> u32
     requires { t < v.now.length + v.now.release }
     ensures value { result ≡ envelope v.now t }
-    ensures most { result ≤ 65536 }
+    ensures most { result ≤ UNITY_GAIN }
 {
     let length = u64::from(v.length);
     if t < length {

@@ -3,13 +3,15 @@
 ghost use Rattle.std.specs.Prelude.{◌≡◌, ◌≤◌, ◌≤ℤ◌, pos, negsuc};
 ghost use Rattle.voice_levels.specs.Levels.{scaled_by};
 
+use sound_tables::UNITY_GAIN;
+
 /// Applies a gain, in 65536ths, to a point.
 #[inline(always)]
 #[tactic(auto, using(crate::proofs::LevelLaws::scaled_within), unfolding(crate::specs::Levels::scaled_by))]
 pub fn attenuated(p: i32, gain: u32) -> i32
     requires low { negsuc 32767 ≤ℤ p }
     requires high { p ≤ℤ pos 32767 }
-    requires level { gain ≤ 65536 }
+    requires level { gain ≤ UNITY_GAIN }
     ensures value { result ≡ scaled_by p gain }
     ensures low { negsuc 32767 ≤ℤ result }
     ensures high { result ≤ℤ pos 32767 }

@@ -4,7 +4,7 @@ ghost use Rattle.sound_tables.specs.Tables.{gain_at};
 ghost use Rattle.voice_levels.specs.Even.{IsEven};
 ghost use Rattle.voice_levels.specs.Envelope.{decayed, held, envelope};
 
-use sound_tables::gain;
+use sound_tables::{UNITY_GAIN, gain};
 use zone_select::VoiceParameters;
 
 /// A gain of the envelope, and the frame before which it stays the same.
@@ -34,7 +34,7 @@ const FOREVER: u64 = 1_099_511_627_776;
 // centibel.
 #[tactic(auto, using(crate::proofs::PhaseLaws::lasts_some, crate::proofs::PhaseLaws::lasts_shortly, crate::proofs::LevelLaws::faded))]
 fn falling_from(level: u32, over: u64, fallen: u64) -> Level
-    requires most { level ≤ 65536 }
+    requires most { level ≤ UNITY_GAIN }
     requires divisor { (0 < over) × (over < 2 ^ 32) }
     requires near { fallen < 2 ^ 34 }
     ensures some { fallen < result.until }
@@ -66,7 +66,7 @@ fn decayed_from(v: &VoiceParameters, fallen: u64) -> Level
             until: FOREVER,
         };
     }
-    falling_from(65536, decay, fallen)
+    falling_from(UNITY_GAIN, decay, fallen)
 }
 
 // The gain at frame `t` before the note's end; an expired one during the attack.
@@ -90,7 +90,7 @@ fn held_from(v: &VoiceParameters, t: u64) -> Level
     }
     if t < hold {
         return Level {
-            loud: 65536,
+            loud: UNITY_GAIN,
             until: hold,
         };
     }
@@ -104,7 +104,7 @@ fn held_from(v: &VoiceParameters, t: u64) -> Level
 // The gain at frame `t`, where `at_end` is the gain at the note's end; an expired one during the attack.
 fn level_from(v: &VoiceParameters, t: u64, at_end: u32) -> Level
     requires unreleased { t < v.now.length + v.now.release }
-    requires at_end { (at_end ≡ held v.now v.now.length) × (at_end ≤ 65536) }
+    requires at_end { (at_end ≡ held v.now v.now.length) × (at_end ≤ UNITY_GAIN) }
     ensures rising { result.until ≤ t → (v.now.delay ≤ t) × (t < v.now.delay + v.now.attack) × (t < v.now.length) }
     ensures even { IsEven (envelope v.now) t result }
 {
@@ -167,7 +167,7 @@ pub(crate) fn fill_attack(v: &VoiceParameters, t: u64, levels: &mut [u16]) -> us
 pub(crate) fn level_at(v: &VoiceParameters, t: u64, hand: Level, at_end: u32) -> Level
     requires unreleased { t < v.now.length + v.now.release }
     requires in_hand { IsEven (envelope v.now) t hand }
-    requires at_end { (at_end ≡ held v.now v.now.length) × (at_end ≤ 65536) }
+    requires at_end { (at_end ≡ held v.now v.now.length) × (at_end ≤ UNITY_GAIN) }
     ensures rising { result.until ≤ t → (v.now.delay ≤ t) × (t < v.now.delay + v.now.attack) × (t < v.now.length) }
     ensures even { IsEven (envelope v.now) t result }
 {

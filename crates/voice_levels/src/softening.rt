@@ -7,10 +7,8 @@ ghost use Rattle.voice_levels.specs.Levels.{scaled_by};
 
 use crate::levels::softer;
 use crate::phases::{Level, fill_attack, level_at};
+use sound_tables::UNITY_GAIN;
 use zone_select::VoiceParameters;
-
-// The gain that changes nothing.
-const FULL: u32 = 65536;
 
 // Fills in the same gain throughout.
 fn fill_even(level: u16, levels: &mut [u16])
@@ -49,11 +47,11 @@ fn quieten_twice(levels: &[u16], others: &[u16], run: &mut [i16])
 #[tactic(auto, using(crate::proofs::LevelLaws::full_level))]
 fn quieten_evenly(level: u32, levels: &mut [u16], run: &mut [i16])
     requires long { length levels.old ≡ length run.old }
-    requires most { level ≤ 65536 }
+    requires most { level ≤ UNITY_GAIN }
     ensures { EachIndex run.new (λ k. slice_index_or run.new k (pos 0)
         ≡ scaled_by (slice_index_or run.old k (pos 0)) level) }
 {
-    if level < FULL {
+    if level < UNITY_GAIN {
         fill_even(level as u16, levels);
         quieten(levels, run);
     }
@@ -63,11 +61,11 @@ fn quieten_evenly(level: u32, levels: &mut [u16], run: &mut [i16])
 fn quieten_by(levels: &[u16], loudness: u32, others: &mut [u16], run: &mut [i16])
     requires long { length levels.now ≡ length run.old }
     requires others { length others.old ≡ length run.old }
-    requires most { loudness ≤ 65536 }
+    requires most { loudness ≤ UNITY_GAIN }
     ensures { EachIndex run.new (λ k. slice_index_or run.new k (pos 0)
         ≡ scaled_by (scaled_by (slice_index_or run.old k (pos 0)) (slice_index levels.now k)) loudness) }
 {
-    if loudness < FULL {
+    if loudness < UNITY_GAIN {
         fill_even(loudness as u16, others);
         quieten_twice(levels, others, run);
     } else {
@@ -84,12 +82,12 @@ fn fill_level(v: &VoiceParameters, t: u64, level: Level, levels: &mut [u16]) -> 
     requires even { IsEven (envelope v.now) t level }
     ensures most { result ≤ length levels.new }
     ensures value { (k : ℕ) → k < result → slice_index levels.new k ≡ envelope v.now (t + k) }
-    ensures full { result ≡ 0 → (t < level.until) × (65536 ≤ level.loud) }
+    ensures full { result ≡ 0 → (t < level.until) × (UNITY_GAIN ≤ level.loud) }
 {
     if level.until <= t {
         return fill_attack(v, t, levels);
     }
-    if FULL <= level.loud {
+    if UNITY_GAIN <= level.loud {
         return 0;
     }
     let n = (levels.len() as u64).min(level.until - t) as usize;
@@ -109,11 +107,11 @@ fn fill_levels(
     requires unreleased { t + length levels.old ≤ v.now.length + v.now.release }
     requires held { t < v.now.length → t + length levels.old ≤ v.now.length }
     requires in_hand { IsEven (envelope v.now) t hand }
-    requires at_end { (at_end ≡ held v.now v.now.length) × (at_end ≤ 65536) }
+    requires at_end { (at_end ≡ held v.now v.now.length) × (at_end ≤ UNITY_GAIN) }
     ensures most { result.0 ≤ length levels.new }
     ensures value { (k : ℕ) → k < result.0 → slice_index levels.new k ≡ envelope v.now (t + k) }
     ensures in_hand { IsEven (envelope v.now) (t + result.0) result.1 }
-    ensures full { result.0 < length levels.new → (t + result.0 < result.1.until) × (65536 ≤ result.1.loud) }
+    ensures full { result.0 < length levels.new → (t + result.0 < result.1.until) × (UNITY_GAIN ≤ result.1.loud) }
 {
     let mut level = hand;
     let mut at = 0;
@@ -148,8 +146,8 @@ fn soften_front(
     requires unreleased { t + length run.old ≤ v.now.length + v.now.release }
     requires held { t < v.now.length → t + length run.old ≤ v.now.length }
     requires in_hand { IsEven (envelope v.now) t hand }
-    requires at_end { (at_end ≡ held v.now v.now.length) × (at_end ≤ 65536) }
-    requires loudness { (loudness ≡ gain_of v.now.attenuation) × (loudness ≤ 65536) }
+    requires at_end { (at_end ≡ held v.now v.now.length) × (at_end ≤ UNITY_GAIN) }
+    requires loudness { (loudness ≡ gain_of v.now.attenuation) × (loudness ≤ UNITY_GAIN) }
     ensures some { (0 < result.0) × (result.0 ≤ length run.new) }
     ensures value { (k : ℕ) → k < result.0 → slice_index_or run.new k (pos 0)
         ≡ scaled_by (scaled_by (slice_index_or run.old k (pos 0)) (envelope v.now (t + k))) (gain_of v.now.attenuation) }
@@ -191,8 +189,8 @@ pub fn soften(
     requires unreleased { t + length run.old ≤ v.now.length + v.now.release }
     requires held { t < v.now.length → t + length run.old ≤ v.now.length }
     requires in_hand { IsEven (envelope v.now) t hand }
-    requires at_end { (at_end ≡ held v.now v.now.length) × (at_end ≤ 65536) }
-    requires loudness { (loudness ≡ gain_of v.now.attenuation) × (loudness ≤ 65536) }
+    requires at_end { (at_end ≡ held v.now v.now.length) × (at_end ≤ UNITY_GAIN) }
+    requires loudness { (loudness ≡ gain_of v.now.attenuation) × (loudness ≤ UNITY_GAIN) }
     ensures soft { EachIndex run.new (λ k. slice_index_or run.new k (pos 0)
         ≡ scaled_by (scaled_by (slice_index_or run.old k (pos 0)) (envelope v.now (t + k))) (gain_of v.now.attenuation)) }
     ensures in_hand { IsEven (envelope v.now) (t + length run.old) result }

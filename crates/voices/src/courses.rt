@@ -8,7 +8,7 @@ ghost use Rattle.voices.specs.Place.{place};
 
 use crate::places::{is_over_by, place_at};
 use crate::slices::Slice;
-use sound_tables::gain;
+use sound_tables::{MOST_PHASE_INCREMENT, UNITY_GAIN, gain};
 use voice_levels::{Level, held_at};
 use zone_select::VoiceParameters;
 
@@ -34,7 +34,7 @@ impl<'a> Course<'a> {
     #[tactic(auto, using(crate::proofs::SliceLaws::none_in_hand))]
     pub(crate) fn start(v: &VoiceParameters) -> Course<'a>
         requires loop_is { v.now.looped ≡ true → v.now.loop_start < v.now.loop_end }
-        requires steps { v.now.step ≤ 73043661 }
+        requires steps { v.now.step ≤ MOST_PHASE_INCREMENT }
         ensures { (points : List ℕ) → IsCourse points v.now 0 result }
     {
         let x = place_at(v, 0);
@@ -59,8 +59,8 @@ impl<'a> Course<'a> {
     )
         requires here { t < v.now.length + v.now.release → x ≡ place v.now t }
         requires level { IsEven (envelope v.now) t level }
-        requires at_end { (self.old.at_end ≡ held v.now v.now.length) × (self.old.at_end ≤ 65536) }
-        requires loudness { (self.old.loudness ≡ gain_of v.now.attenuation) × (self.old.loudness ≤ 65536) }
+        requires at_end { (self.old.at_end ≡ held v.now v.now.length) × (self.old.at_end ≤ UNITY_GAIN) }
+        requires loudness { (self.old.loudness ≡ gain_of v.now.attenuation) × (self.old.loudness ≤ UNITY_GAIN) }
         ensures { (points : List ℕ) → IsInHand points slice.entry → IsCourse points v.now t self.new }
     {
         self.over = is_over_by(v, t, x);
@@ -72,9 +72,9 @@ impl<'a> Course<'a> {
     // Moves to any frame `t`, also an earlier one. The envelope's gain is computed when it is next needed.
     pub(crate) fn go_to(&mut self, v: &VoiceParameters, t: u64)
         requires loop_is { v.now.looped ≡ true → v.now.loop_start < v.now.loop_end }
-        requires steps { v.now.step ≤ 73043661 }
-        requires at_end { (self.old.at_end ≡ held v.now v.now.length) × (self.old.at_end ≤ 65536) }
-        requires loudness { (self.old.loudness ≡ gain_of v.now.attenuation) × (self.old.loudness ≤ 65536) }
+        requires steps { v.now.step ≤ MOST_PHASE_INCREMENT }
+        requires at_end { (self.old.at_end ≡ held v.now v.now.length) × (self.old.at_end ≤ UNITY_GAIN) }
+        requires loudness { (self.old.loudness ≡ gain_of v.now.attenuation) × (self.old.loudness ≤ UNITY_GAIN) }
         ensures { (points : List ℕ) → IsInHand points self.old.slice → IsCourse points v.now t self.new }
     {
         // After the release the voice is over, whatever its position.

@@ -5,7 +5,7 @@ ghost use Rattle.voices.specs.Points.{point_of};
 ghost use Rattle.zone_select.specs.Playable.{IsPlayable};
 ghost use Rattle.voices.specs.Sound.{sound_at, part_of, snd};
 
-use crate::places::{advanced, is_looping_at};
+use crate::places::{ONE_POINT, advanced, is_looping_at};
 use crate::sampled::point_of_place;
 use crate::sides::panned;
 use sample_view::Points;
@@ -88,7 +88,7 @@ pub(crate) fn next_place(points: &Points, v: &VoiceParameters, t: u64, x: u64) -
     requires here { x ≡ place v.now t }
     ensures { result ≡ place v.now (t + 1) }
 {
-    let end = 65536 * u64::from(v.end);
+    let end = ONE_POINT * u64::from(v.end);
     prove!(x < end);
     advanced(v, is_looping_at(v, t), x, 1)
 }

@@ -4,21 +4,25 @@ ghost use Rattle.voices.specs.Place.{looped_place, place, is_looping, is_over};
 ghost use Rattle.voices.specs.Runs.{gone_on};
 
 use crate::workspace::LONGEST;
+use sound_tables::MOST_PHASE_INCREMENT;
 use zone_select::VoiceParameters;
+
+// One point. Positions are in 65,536ths of a point.
+pub(crate) const ONE_POINT: u64 = 65_536;
 
 // The position while the loop, if there is one, is active.
 #[tactic(auto, using(crate::proofs::PlaceLaws::wrapped_below, crate::proofs::PlaceLaws::wrapped_above, crate::proofs::PlaceLaws::far_place), unfolding(crate::specs::Place::looped_place))]
 fn looped_place_at(v: &VoiceParameters, t: u64) -> u64
     requires loop_is { v.now.looped ≡ true → v.now.loop_start < v.now.loop_end }
-    requires steps { v.now.step ≤ 73043661 }
+    requires steps { v.now.step ≤ MOST_PHASE_INCREMENT }
     requires young { t < 2 ^ 33 }
     ensures value { result ≡ looped_place v.now t }
     ensures near { result < 2 ^ 60 }
 {
-    let x = 65536 * u64::from(v.start) + t * u64::from(v.step);
+    let x = ONE_POINT * u64::from(v.start) + t * u64::from(v.step);
     if v.looped {
-        let from = 65536 * u64::from(v.loop_start);
-        let to = 65536 * u64::from(v.loop_end);
+        let from = ONE_POINT * u64::from(v.loop_start);
+        let to = ONE_POINT * u64::from(v.loop_end);
         if x < to {
             x
         } else {
@@ -40,7 +44,7 @@ pub(crate) fn is_looping_at(v: &VoiceParameters, t: u64) -> bool
 #[tactic(auto, using(crate::proofs::PlaceLaws::far_rest), unfolding(crate::specs::Place::place))]
 pub(crate) fn place_at(v: &VoiceParameters, t: u64) -> u64
     requires loop_is { v.now.looped ≡ true → v.now.loop_start < v.now.loop_end }
-    requires steps { v.now.step ≤ 73043661 }
+    requires steps { v.now.step ≤ MOST_PHASE_INCREMENT }
     requires young { t < 2 ^ 33 }
     ensures value { result ≡ place v.now t }
     ensures near { result < 2 ^ 61 }
@@ -63,24 +67,24 @@ pub(crate) fn is_over_by(v: &VoiceParameters, t: u64, x: u64) -> bool
     if u64::from(v.length) + u64::from(v.release) <= t {
         return true;
     }
-    !is_looping_at(v, t) && 65536 * u64::from(v.end) <= x
+    !is_looping_at(v, t) && ONE_POINT * u64::from(v.end) <= x
 }
 
 // The position after some frames. A loop's end is mostly passed at most once, so that case comes before the division.
 #[tactic(auto, using(crate::proofs::PlaceLaws::wrapped_below, crate::proofs::PlaceLaws::wrapped_once, crate::proofs::PlaceLaws::wrapped_above, crate::proofs::PlaceLaws::short_way))]
 pub(crate) fn advanced(v: &VoiceParameters, looping: bool, x: u64, frames: usize) -> u64
     requires loop_is { looping ≡ true → v.now.loop_start < v.now.loop_end }
-    requires steps { v.now.step ≤ 73043661 }
+    requires steps { v.now.step ≤ MOST_PHASE_INCREMENT }
     requires near { x < 2 ^ 48 }
     requires few { frames ≤ LONGEST }
     ensures { result ≡ gone_on v.now looping (x + frames * v.now.step) }
 {
     let next = x + frames as u64 * u64::from(v.step);
-    let to = 65536 * u64::from(v.loop_end);
+    let to = ONE_POINT * u64::from(v.loop_end);
     if !looping || next < to {
         return next;
     }
-    let from = 65536 * u64::from(v.loop_start);
+    let from = ONE_POINT * u64::from(v.loop_start);
     if next - to < to - from {
         return next - (to - from);
     }

@@ -13,11 +13,12 @@ ghost use Rattle.voices.specs.Within.{AllWithin};
 ghost use Rattle.voices.specs.Runs.{IsAdded, IsStretch};
 
 use crate::courses::Course;
-use crate::places::{frames_before, is_looping_at};
+use crate::places::{ONE_POINT, frames_before, is_looping_at};
 use crate::sides::{HALF, WHOLE, fine_part, finely_panned, halved};
 use crate::slices::fill_points;
 use crate::workspace::{LONGEST, Stages};
 use sample_view::Points;
+use sound_tables::MOST_PHASE_INCREMENT;
 use voice_levels::soften;
 use zone_select::VoiceParameters;
 
@@ -25,7 +26,7 @@ use zone_select::VoiceParameters;
 // position of the first is `x`.
 fn stretch(v: &VoiceParameters, t: u64, x: u64, most: usize) -> usize
     requires loop_is { v.now.looped ≡ true → v.now.loop_start < v.now.loop_end }
-    requires steps { v.now.step ≤ 73043661 }
+    requires steps { v.now.step ≤ MOST_PHASE_INCREMENT }
     requires sounds { is_over v.now t ≡ false }
     requires here { x ≡ place v.now t }
     requires young { (t < 2 ^ 33) × (t < v.now.length + v.now.release) }
@@ -37,7 +38,7 @@ fn stretch(v: &VoiceParameters, t: u64, x: u64, most: usize) -> usize
     if is_looping_at(v, t) {
         return n as usize;
     }
-    let end = 65536 * u64::from(v.end);
+    let end = ONE_POINT * u64::from(v.end);
     frames_before(x, u64::from(v.step), end, n) as usize
 }
 

@@ -4,6 +4,7 @@ ghost use Rattle.std.specs.Prelude.{◌≡◌, ◌+◌, ◌*◌, ◌/◌, ◌%�
 ghost use Rattle.voices.specs.Points.{between, point_at, follower, point_of};
 ghost use Rattle.voices.specs.Runs.{pair_says};
 
+use crate::places::ONE_POINT;
 use sample_view::Points;
 use zone_select::VoiceParameters;
 
@@ -48,11 +49,11 @@ pub(crate) fn point_of_place(points: &Points, v: &VoiceParameters, looping: bool
     ensures low { negsuc 32767 ≤ℤ result }
     ensures high { result ≤ℤ pos 32767 }
 {
-    let i = (x / 65536) as usize;
+    let i = (x / ONE_POINT) as usize;
     interpolated(
         points.point(i),
         follower_at(points, v, looping, i),
-        (x % 65536) as u32,
+        (x % ONE_POINT) as u32,
     )
 }
 
@@ -64,7 +65,7 @@ pub(crate) fn pair_of_place(points: &Points, v: &VoiceParameters, looping: bool,
     requires near { x < 65536 * v.now.end }
     ensures { pair_says result (x % 65536) ≡ point_of points.now v.now looping x }
 {
-    let i = (x / 65536) as usize;
+    let i = (x / ONE_POINT) as usize;
     let here = points.point(i).cast_unsigned();
     let next = follower_at(points, v, looping, i).cast_unsigned();
     u32::from(here) + 65536 * u32::from(next)

@@ -8,7 +8,7 @@ ghost use Rattle.voices.specs.Points.{point_of};
 ghost use Rattle.zone_select.specs.Playable.{IsPlayable};
 ghost use Rattle.voices.specs.Runs.{IsStretch, limit, pair_at, pair_says, straight};
 
-use crate::places::{advanced, frames_before, is_looping_at};
+use crate::places::{ONE_POINT, advanced, frames_before, is_looping_at};
 use crate::sampled::{interpolated, pair_of_place};
 use crate::workspace::LONGEST;
 use sample_view::Points;
@@ -198,7 +198,7 @@ fn fill_front<'a>(
         ≡ point_of points.now v.now looping (x + k * v.now.step) }
     ensures in_hand { IsInHand points.now result.1 }
 {
-    let i = (x / 65536) as usize;
+    let i = (x / ONE_POINT) as usize;
     let slice = hand.around(points, i);
     let first = i - slice.first;
     let ahead = &slice.bytes[2 * first..];
@@ -206,8 +206,8 @@ fn fill_front<'a>(
         .min(ahead.len() / 2)
         .min(FARTHEST);
     if 1 < ends {
-        let part = (x % 65536) as u32;
-        let to = 65536 * (ends as u64 - 1);
+        let part = (x % ONE_POINT) as u32;
+        let to = ONE_POINT * (ends as u64 - 1);
         let n = frames_before(u64::from(part), u64::from(v.step), to, pairs.len() as u64) as usize;
         read_straight(ahead, is_near(v, looping, i), part, v.step, &mut pairs[..n]);
         (n, slice)

@@ -1,5 +1,6 @@
 -- The ranges of a voice's parameters.
 use Rattle.std.specs.Prelude.{ℕ, ◌≡◌, ◌≤◌, ◌<◌, pos, negsuc, ◌≤ℤ◌, true}
+use Rattle.sound_tables.specs.declared.octaves.TheConstants.{MOST_PHASE_INCREMENT}
 use Rattle.zone_select.specs.declared.parameters.VoiceParameters.{VoiceParameters}
 
 -- parameters for a sample with `count` points
@@ -7,6 +8,6 @@ pub record IsPlayable (count : ℕ) (v : VoiceParameters) : Type 0 where
   pub inside : v.end ≤ count
   pub ordered : v.looped ≡ true → v.loop_start < v.loop_end
   pub loop_inside : v.looped ≡ true → v.loop_end ≤ v.end
-  pub step : v.step ≤ 73043661
+  pub step : v.step ≤ MOST_PHASE_INCREMENT
   pub left : negsuc 499 ≤ℤ v.pan
   pub right : v.pan ≤ℤ pos 500
