@@ -6,8 +6,8 @@ use Rattle.line_tokens.specs.declared.fault.ScriptFault.{ScriptFault}
 use Rattle.line_tokens.specs.declared.fault.ScriptFault.TheVariants as script
 use Rattle.note_list.specs.declared.fault.NoteFault.{NoteFault}
 use Rattle.note_list.specs.declared.fault.NoteFault.TheVariants as note
-use Rattle.recordings.specs.declared.fault.WaveFault.{WaveFault}
-use Rattle.recordings.specs.declared.fault.WaveFault.TheVariants as wave
+use Rattle.wave_file.specs.declared.fault.WaveFault.{WaveFault}
+use Rattle.wave_file.specs.declared.fault.WaveFault.TheVariants as wave
 use Rattle.outputs.specs.declared.output_fault.OutputFault.{OutputFault}
 use Rattle.outputs.specs.declared.output_fault.OutputFault.TheVariants as output
 use Rattle.edit_forms.specs.declared.cause.Cause.{Cause}

@@ -3,7 +3,7 @@ use Rattle.std.specs.Prelude.{◌≡◌, ℕ, List, ◌++◌, codes, decimal}
 use Rattle.bank_format.specs.FaultNames as reading
 use Rattle.line_tokens.specs.Faults as scripts
 use Rattle.note_list.specs.Faults as notes
-use Rattle.recordings.specs.FaultNames as recordings
+use Rattle.wave_file.specs.FaultNames as recordings
 use Rattle.outputs.specs.OutputFaults as outputs
 use Rattle.edit_refusals.specs.RefusalNames as refusals
 use Rattle.fault_explanations.specs.declared.explanations.FaultCode.{FaultCode}

@@ -12,7 +12,7 @@ use itoa::Buffer;
 use line_tokens::ScriptFault;
 use note_list::NoteFault;
 use outputs::{Output, OutputFault, WriteFault};
-use recordings::WaveFault;
+use wave_file::WaveFault;
 use std::io::Write;
 
 /// A fault or a refusal that has a number and a name.

@@ -26,11 +26,11 @@ use Rattle.edit_script.specs.Printing.{texts_of, numbered, AllFit}
 use Rattle.edit_script.proofs.LineLaws.{printed_spell}
 use Rattle.line_tokens.specs.declared.fault.ScriptFault.{ScriptFault}
 use Rattle.wave_file.specs.SampleWave.{sample_wave}
-use Rattle.recordings.specs.declared.fault.WaveFault.{WaveFault}
-use Rattle.recordings.specs.declared.recording.Recording.{Recording}
-use Rattle.recordings.specs.ReadSteps.{recording_in}
-use Rattle.recordings.specs.Imports.{import_edits}
-use Rattle.recordings.proofs.FitLaws.{recording_fits, imports_fit}
+use Rattle.wave_file.specs.declared.fault.WaveFault.{WaveFault}
+use Rattle.wave_file.specs.declared.recording.Recording.{Recording}
+use Rattle.wave_file.specs.ReadSteps.{recording_in}
+use Rattle.wave_file.specs.Imports.{import_edits}
+use Rattle.wave_file.proofs.FitLaws.{recording_fits, imports_fit}
 use Rattle.sfbank_program.specs.declared.run_fault.RunFault.{RunFault}
 use Rattle.sfbank_program.specs.declared.run_fault.RunFault.TheVariants as run
 use Rattle.sfbank_program.specs.declared.run_fault.Which.TheVariants.{Out}

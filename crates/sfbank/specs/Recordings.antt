@@ -8,10 +8,10 @@ use Rattle.edit_forms.specs.declared.edit.Edit.{Edit}
 use Rattle.edit_forms.specs.declared.cause.Cause.TheVariants.{NoSuchSample}
 use Rattle.edit_script.specs.Printing.{texts_of, numbered}
 use Rattle.wave_file.specs.SampleWave.{sample_wave}
-use Rattle.recordings.specs.declared.fault.WaveFault.{WaveFault}
-use Rattle.recordings.specs.declared.recording.Recording.{Recording}
-use Rattle.recordings.specs.ReadSteps.{recording_in}
-use Rattle.recordings.specs.Imports.{import_edits}
+use Rattle.wave_file.specs.declared.fault.WaveFault.{WaveFault}
+use Rattle.wave_file.specs.declared.recording.Recording.{Recording}
+use Rattle.wave_file.specs.ReadSteps.{recording_in}
+use Rattle.wave_file.specs.Imports.{import_edits}
 use Rattle.sfbank_program.specs.declared.run_fault.RunFault.{RunFault}
 use Rattle.sfbank_program.specs.declared.run_fault.RunFault.TheVariants as run
 use Rattle.sfbank.specs.Outcome.{Done, after_script, after_reading, bank_in, outcome}

@@ -1,7 +1,7 @@
 //! Imports a WAVE file as samples of a bank.
 ghost use Rattle.std.specs.Prelude.{◌≡◌, ◌≤◌, length, Ok, IfOk};
 ghost use Rattle.edit_script.specs.Printing.{numbered};
-ghost use Rattle.recordings.specs.Imports.{import_edits, sides_of};
+ghost use Rattle.wave_file.specs.Imports.{import_edits, sides_of};
 ghost use Rattle.sfbank.specs.Outcome.{after_script};
 ghost use Rattle.sfbank.specs.Plans.{planned};
 ghost use Rattle.sfbank.specs.Recordings.{import_outcome, IsScripted, IsImportUndone};
@@ -13,7 +13,7 @@ use bank_core::Bank;
 use edit_forms::Edit;
 use edit_script::Line;
 use progress::Unheard;
-use recordings::{Recording, Sides, import_edits, read_recording};
+use wave_file::{Recording, Sides, import_edits, read_recording};
 use sf_base::OutOfMemory;
 use sf_reader::read;
 use sfbank_program::RunFault;

@@ -7,8 +7,8 @@ use Rattle.line_tokens.specs.declared.fault.ScriptFault.{ScriptFault}
 use Rattle.line_tokens.specs.Faults as scripts
 use Rattle.note_list.specs.declared.fault.NoteFault.{NoteFault}
 use Rattle.note_list.specs.Faults as notes
-use Rattle.recordings.specs.declared.fault.WaveFault.{WaveFault}
-use Rattle.recordings.specs.FaultNames as recordings
+use Rattle.wave_file.specs.declared.fault.WaveFault.{WaveFault}
+use Rattle.wave_file.specs.FaultNames as recordings
 use Rattle.bank_validity.specs.declared.limits.Limit.{Limit}
 use Rattle.bank_validity.specs.Limits.{word_of}
 use Rattle.edit_forms.specs.declared.cause.Cause.{Cause}

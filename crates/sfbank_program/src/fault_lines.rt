@@ -14,7 +14,7 @@ use itoa::Buffer;
 use line_tokens::ScriptFault;
 use note_list::NoteFault;
 use outputs::{Output, OutputFault, WriteFault};
-use recordings::WaveFault;
+use wave_file::WaveFault;
 use std::io::Write;
 
 /// Writes the line of a run's fault, with its line feed, and returns its exit status. The line of a write fault has

@@ -7,7 +7,7 @@ use bank_format::ReadFault;
 use edit_refusals::{Cause, Refusal};
 use line_tokens::ScriptFault;
 use note_list::NoteFault;
-use recordings::WaveFault;
+use wave_file::WaveFault;
 use sf_base::{Failure, OutOfMemory};
 use std::alloc::AllocFailed;
 use thiserror::Error;

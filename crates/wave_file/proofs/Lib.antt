@@ -1,2 +1,6 @@
 pub mod PieceLaws
 pub mod SampleLaws
+pub mod ReadLaws
+pub mod ImportLaws
+pub mod FitLaws
+pub mod BackLaws

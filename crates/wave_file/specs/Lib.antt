@@ -1,3 +1,8 @@
 pub mod Wave
-pub mod Pitch
+pub mod SamplerPitch
 pub mod SampleWave
+pub mod FaultNames
+pub mod Recordings
+pub mod ReadSteps
+pub mod Imports
+pub mod Laws

@@ -9,7 +9,7 @@ use Rattle.riff_chunks.specs.Spelling.{chunk, spell}
 use Rattle.sample_view.specs.Words.{word_bytes}
 use Rattle.bank_parts.specs.declared.parts.Sample.{Sample}
 use Rattle.wave_file.specs.Wave.{RIFF, WAVE, FORMAT, DATA}
-use Rattle.wave_file.specs.Pitch.{unity_note, pitch_fraction}
+use Rattle.wave_file.specs.SamplerPitch.{unity_note, pitch_fraction}
 
 unfoldable pub SAMPLER : List ℕ
 SAMPLER = codes "smpl"

@@ -1,10 +1,28 @@
-//! Writes WAVE files: rendered frames as 16-bit stereo at 44,100 frames per second, and samples as 16-bit mono.
+//! WAVE files: frames or a sample written as one, and one read as a recording, with the edits that import it.
+//!
+//! A WAVE file is a RIFF file of the form `WAVE`. Of its chunks `fmt `, `data` and `smpl` are read, the first of each;
+//! all others are skipped.
 #![tactic(auto)]
 
-mod pitch;
+mod fault;
+mod format;
+mod frames;
+mod importing;
+mod laws;
+mod reading;
+mod recording;
 mod sample;
+mod sampler;
+mod sampler_pitch;
+mod sides;
 mod spelling;
 
-pub use pitch::{pitch_fraction, unity_note};
+pub use fault::WaveFault;
+pub use frames::{Frame, SamplerLoop};
+pub use importing::import_edits;
+pub use laws::sample_waves_read_back;
+pub use reading::read_recording;
+pub use recording::{Channels, Pitch, Recording, Sampler};
 pub use sample::put_sample_wave;
+pub use sides::Sides;
 pub use spelling::{put_wave, write_wave};

@@ -1,6 +1,6 @@
 use Rattle.std.proofs.Common.{◌∙◌, length, refl}
 use Rattle.std.proofs.lemmas.Result.{err_from_is_err_and}
-use Rattle.recordings.specs.Imports.{import_edits}
+use Rattle.wave_file.specs.Imports.{import_edits}
 use Rattle.sfbank.specs.Plans.{planned}
 use Rattle.sfbank.specs.Recordings.{import_outcome}
 use Rattle.sfbank_program.specs.declared.run_fault.RunFault.TheVariants as run

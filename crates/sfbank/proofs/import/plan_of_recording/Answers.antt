@@ -1,5 +1,5 @@
 use Rattle.std.proofs.Common.{arith, ap, length}
-use Rattle.recordings.proofs.ImportLaws.{few_edits}
+use Rattle.wave_file.proofs.ImportLaws.{few_edits}
 use Rattle.sfbank.proofs.import.plan_of_recording.Goals as goal
 
 pub plan_of-requires : goal.plan_of-requires

@@ -1,4 +1,0 @@
-pub mod ReadLaws
-pub mod ImportLaws
-pub mod FitLaws
-pub mod BackLaws

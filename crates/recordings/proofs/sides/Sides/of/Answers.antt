@@ -1,7 +1,0 @@
-use Rattle.std.proofs.Common.{refl}
-use Rattle.sample_view.specs.Words.{words}
-use Rattle.recordings.proofs.sides.Sides.of.Goals as goal
-
-pub returns-in-Mono : goal.returns-in-Mono
-unfolding words
-returns-in-Mono c = rw (c.in-Mono.is, c.new.ensures.items, c.new-in-Mono.ensures.items) refl

@@ -1,0 +1,246 @@
+-- The fields of a recording read from bytes are in range, and so are the edits of its import.
+use Rattle.std.proofs.Common.{◌≡◌, ◌≤◌, ◌<◌, ◌+◌, ◌-◌, ◌^◌, ℕ, zero, suc, pos, neg_ℤ, Bool, true, false, cond, leb}
+use Rattle.std.proofs.Common.{ltb, eqb, ◌&&◌, ◌||◌, List, [], ◌∷◌, length, take, drop, get_or, codes, Option, Some}
+use Rattle.std.proofs.Common.{None, Ok, FitsSigned, refl, inl, inr, arith}
+use Rattle.std.specs.Prelude.{unwrap_or}
+use Rattle.std.specs.Option.{option_map}
+use Rattle.std.specs.Int.{w8}
+use Rattle.std.specs.List.{AllByRecursion, flat_map}
+use Rattle.std.proofs.lemmas.Bool.{cases_lt, leb-true, ltb-true, and_parts}
+use Rattle.std.proofs.lemmas.List.{get_or_past}
+use Rattle.std.proofs.lemmas.List.Elements.{All-nil, All-append}
+use borrow.Author.Gap.{read_sfits}
+use Rattle.sf_base.specs.declared.limits.TheConstants.{SAMPLES}
+use Rattle.sf_base.specs.Names.{before_zero, IsTextByte, IsName}
+use Rattle.sample_view.specs.Words.{AreWords}
+use Rattle.sample_view.proofs.WordLaws.{AreWords-words}
+use Rattle.riff_chunks.specs.Walk.{Chunk, walk}
+use Rattle.riff_chunks.specs.Finding.{chunks_in, first_body}
+use Rattle.hydra_records.specs.Records.{records, AreBytes, ReadFits}
+use Rattle.hydra_records.proofs.Fields.{field_at-lt}
+use Rattle.hydra_records.proofs.RecordLaws.{records-fit}
+use Rattle.bank_parts.specs.declared.parts.Kind.{Kind}
+use Rattle.bank_parts.specs.declared.parts.Kind.TheVariants as kind
+use Rattle.bank_parts.specs.declared.parts.Sample.{Sample}
+use Rattle.bank_parts.specs.Fits.{FitsSample, FitsKind, FitsLoop}
+use Rattle.bank_format.specs.Chunks.{window, body_in}
+use Rattle.bank_format.proofs.StepLaws.{split_none, both_none}
+use Rattle.bank_format.proofs.ReadBytes.{OfBytes, take_bytes, drop_bytes, walk_bytes, body_bytes, window_bytes}
+use Rattle.edit_forms.specs.declared.edit.Edit.TheVariants.{One}
+use Rattle.edit_forms.specs.declared.points.PointStep.TheVariants.{SetKind}
+use Rattle.edit_forms.specs.declared.step.Step.TheVariants.{Points}
+use Rattle.edit_forms.specs.Fits.{FitsEdit}
+use Rattle.wave_file.specs.Wave.{FORMAT, DATA}
+use Rattle.wave_file.specs.SampleWave.{SAMPLER}
+use Rattle.wave_file.specs.declared.fault.WaveFault.{WaveFault}
+use Rattle.wave_file.specs.declared.frames.Frame.{Frame}
+use Rattle.wave_file.specs.declared.frames.SamplerLoop.{SamplerLoop}
+use Rattle.wave_file.specs.declared.recording.Layout.{Layout}
+use Rattle.wave_file.specs.declared.recording.Layout.TheVariants as layout
+use Rattle.wave_file.specs.declared.recording.Channels.{Channels}
+use Rattle.wave_file.specs.declared.recording.Channels.TheVariants.{Mono, Stereo}
+use Rattle.wave_file.specs.declared.recording.Pitch.{Pitch}
+use Rattle.wave_file.specs.declared.recording.Sampler.{Sampler}
+use Rattle.wave_file.specs.declared.recording.Recording.{Recording}
+use Rattle.bank_format.specs.Steps.{first_broken}
+use Rattle.wave_file.specs.Recordings.{layout_in, frame_of, channels_in, forward_loop, ends_of, unity_note_in}
+use Rattle.wave_file.specs.Recordings.{fraction_in, data_in, pitch_held, is_held, held_in, cents_in, nearest}
+use Rattle.wave_file.specs.Recordings.{pitch_of, sampler_in}
+use Rattle.wave_file.specs.ReadSteps.{riff_steps, format_steps, data_steps, has_loops, is_inside, loop_steps}
+use Rattle.wave_file.specs.ReadSteps.{chunk_steps, sampler_steps, content_steps, content_in, window_steps, steps}
+use Rattle.wave_file.specs.ReadSteps.{unless_broken, recording_in}
+use Rattle.wave_file.specs.Imports.{left_points, right_points, mono_name, side_name, sample_of, add_edit}
+use Rattle.wave_file.specs.Imports.{pair_edits, channel_edits, import_edits}
+use Rattle.wave_file.proofs.ImportLaws.{cut_text, side_named}
+
+pub record FitsPitch (p : Pitch) : Type 0 where
+  pub key : p.key < 2 ^ 8
+  pub correction : FitsSigned w8 p.correction
+
+pub record FitsSampler (s : Sampler) : Type 0 where
+  pub pitch : FitsPitch s.pitch
+  pub looped : FitsLoop s.looped
+
+abbrev pub FitChannels : Channels → Type 0
+FitChannels (Mono points) = AreWords points
+FitChannels (Stereo frames) = AreWords (left_points frames) × AreWords (right_points frames)
+
+pub record FitsRecording (r : Recording) : Type 0 where
+  pub channels : FitChannels r.channels
+  pub rate : r.rate < 2 ^ 32
+  pub sampler : FitsSampler r.sampler
+
+-- ---- channels
+
+pub record FitsFrame (f : Frame) : Type 0 where
+  pub left : AreBytes f.left
+  pub right : AreBytes f.right
+
+frame_fits : ReadFits 4 frame_of FitsFrame
+frame_fits bytes b e =
+    record { left = take_bytes 2 bytes b; right = take_bytes 2 (drop 2 bytes) (drop_bytes 2 bytes b) }
+
+left_bytes : (fs : List Frame) → AllByRecursion FitsFrame fs → AreBytes (flat_map (λ (f : Frame). f.left) fs)
+left_bytes [] h = All-nil (λ b. b < 256)
+left_bytes (f ∷ fs) h =
+    All-append (λ b. b < 256) f.left (flat_map (λ (x : Frame). x.left) fs) h.0.left (left_bytes fs h.1)
+
+right_bytes : (fs : List Frame) → AllByRecursion FitsFrame fs → AreBytes (flat_map (λ (f : Frame). f.right) fs)
+right_bytes [] h = All-nil (λ b. b < 256)
+right_bytes (f ∷ fs) h =
+    All-append (λ b. b < 256) f.right (flat_map (λ (x : Frame). x.right) fs) h.0.right (right_bytes fs h.1)
+
+channels_fit : (l : Layout) (bytes : List ℕ) → AreBytes bytes → FitChannels (channels_in l bytes)
+channels_fit layout.Mono bytes b = AreWords-words bytes b
+channels_fit layout.Stereo bytes b =
+    let fs = records-fit 4 frame_of FitsFrame frame_fits bytes b in (
+      AreWords-words _ (left_bytes (records 4 frame_of bytes) fs),
+      AreWords-words _ (right_bytes (records 4 frame_of bytes) fs),
+    )
+
+-- ---- the pitch
+
+byte_lt : (bytes : List ℕ) → AreBytes bytes → (k : ℕ) → get_or bytes k 0 < 256
+byte_lt bytes b k =
+    elim (cases_lt k (length bytes)) [ inl lt ↦ b k 0 lt | inr le ↦ rw (get_or_past bytes k 0 le) (omega arith) ]
+
+below : (n : ℕ) → n ≤ 100 → FitsSigned w8 (neg_ℤ (pos n))
+below zero h = record { sfits = omega arith }
+below (suc n) h = record { sfits = omega (arith, h) }
+
+nearest_fits : (note cents : ℕ) → note ≤ 127 → cents ≤ 100 → FitsPitch (nearest note cents)
+nearest_fits note cents n c = either (leb cents 50 || eqb note 127)
+  where
+    either : (b : Bool)
+        → FitsPitch
+        (cond b (record { key = note; correction = neg_ℤ (pos cents) })
+        (record { key = note + 1; correction = pos (100 - cents) }))
+    either true = record { key = omega (arith, n); correction = below cents c }
+    either false = record { key = omega (arith, n); correction = record { sfits = omega arith } }
+
+held_fits : (b : Bool) (p : Pitch) (s : List ℕ) → FitsPitch p → FitsPitch (nearest (unity_note_in s) (cents_in s))
+    → FitsPitch (pitch_of (cond b (Some p) None) s)
+held_fits true p s h k = h
+held_fits false p s h k = k
+
+pitch_fits : (s : List ℕ) → AreBytes s → unity_note_in s ≤ 127 → FitsPitch (pitch_of (held_in s) s)
+pitch_fits s b note =
+    let inner : AreBytes (data_in s) = take_bytes _ _ (drop_bytes _ s b) in
+    let fraction : fraction_in s < 2 ^ 32 = field_at-lt 16 4 s b in
+    let p : FitsPitch (pitch_held (data_in s)) =
+    record { key = byte_lt (data_in s) inner 4; correction = read_sfits w8 (get_or (data_in s) 5 0) } in
+    held_fits (eqb (length (data_in s)) 8 && is_held s (pitch_held (data_in s))) (pitch_held (data_in s)) s p
+    (nearest_fits (unity_note_in s) (cents_in s) note (omega (arith, fraction)))
+
+-- ---- the loop
+
+loop_fits : (n : ℕ) (o : Option SamplerLoop) → first_broken (loop_steps n o) ≡ None → FitsLoop (option_map ends_of o)
+loop_fits n None h = tt
+loop_fits n (Some l) h =
+    let inside = split_none (is_inside n l) _ _ h in
+    let both = and_parts (leb l.first l.last) _ inside.0 in
+    let first = leb-true _ _ both.0 in
+    let last = ltb-true _ _ both.1 in
+    (omega (arith, first, last), omega (arith, last))
+
+-- ---- the `smpl` chunk
+
+sampler_fits : (n : ℕ) (o : Option (List ℕ)) → AreBytes (unwrap_or o []) → first_broken (sampler_steps n o) ≡ None
+    → FitsSampler (sampler_in o)
+unfolding chunk_steps
+sampler_fits n None b h =
+    record { pitch = record { key = omega arith; correction = record { sfits = omega arith } }; looped = tt }
+sampler_fits n (Some s) b h =
+    let whole = split_none (has_loops s) _ _ h in
+    let note = split_none (leb (unity_note_in s) 127) _ _ whole.1 in
+    record { pitch = pitch_fits s b (leb-true _ _ note.0); looped = loop_fits n (forward_loop s) note.1 }
+
+-- ---- together
+
+content_fits : (chunks : List Chunk) → AllByRecursion OfBytes chunks → first_broken (content_steps chunks) ≡ None
+    → FitsRecording (content_in chunks)
+unfolding content_steps content_in
+content_fits chunks b h =
+    let f = body_in FORMAT chunks in
+    let past_format = both_none (format_steps f) _ h in
+    let past_data = both_none (data_steps (layout_in f) (first_body DATA chunks)) _ past_format.1 in
+    record {
+      channels = channels_fit (layout_in f) (body_in DATA chunks) (body_bytes DATA chunks b);
+      rate = field_at-lt 4 4 f (body_bytes FORMAT chunks b);
+      sampler = sampler_fits _ (first_body SAMPLER chunks) (body_bytes SAMPLER chunks b) past_data.1;
+    }
+
+-- a WAVE file that fails no check
+pub record IsRead (wave : List ℕ) (r : Recording) : Type 0 where
+  pub holds : first_broken (steps wave) ≡ None
+  pub is : content_in (chunks_in (walk (window wave))) ≡ r
+
+pub is_read : (wave : List ℕ) (r : Recording) → recording_in wave ≡ Ok r → IsRead wave r
+unfolding recording_in
+is_read wave r h = by_what (first_broken (steps wave)) refl h
+  where
+    by_what : (o : Option WaveFault) → first_broken (steps wave) ≡ o
+        → unless_broken o (content_in (chunks_in (walk (window wave)))) ≡ Ok r → IsRead wave r
+    by_what None e k = record { holds = e; is = cc }
+    by_what (Some f) e k = absurd cc
+
+pub recording_fits : (wave : List ℕ) (r : Recording) → AreBytes wave → recording_in wave ≡ Ok r → FitsRecording r
+unfolding steps window_steps
+recording_fits wave r b h =
+    let read = is_read wave r h in
+    let past_riff = both_none (riff_steps wave) (window_steps (window wave)) read.holds in
+    let walked = split_none _ _ _ past_riff.1 in
+    rw (← read.is)
+    (content_fits (chunks_in (walk (window wave))) (walk_bytes (window wave) (window_bytes wave b)) walked.1)
+
+-- ---- the edits of an import
+
+sample_fits : (rate : ℕ) (sampler : Sampler) (name points : List ℕ) (k : Kind) → rate < 2 ^ 32 → FitsSampler sampler
+    → IsName name → AreWords points → FitsKind k
+    → FitsSample (sample_of rate sampler name points k)
+sample_fits rate sampler name points k r s named p fits = record {
+  name = named;
+  points = p;
+  looped = s.looped;
+  rate = r;
+  key = s.pitch.key;
+  correction = s.pitch.correction;
+  kind = fits;
+}
+
+pair_fits : (n : ℕ) (left right : Sample) → n ≤ SAMPLES → FitsSample left → FitsSample right
+    → AllByRecursion FitsEdit (pair_edits n left right)
+pair_fits n left right most l r = by_test (ltb n SAMPLES) refl
+  where
+    by_test : (b : Bool) → ltb n SAMPLES ≡ b
+        → AllByRecursion FitsEdit
+        (cond b (add_edit n left ∷ add_edit (n + 1) right ∷ One (Points n (SetKind (kind.Left (n + 1)))) ∷ [])
+        (add_edit n left ∷ []))
+    by_test true e =
+        let lt = ltb-true n SAMPLES e in
+        ((omega (arith, most), l), ((omega (arith, most), r), ((omega (arith, most), omega (arith, lt)), tt)))
+    by_test false e = ((omega (arith, most), l), tt)
+
+name_fits : (name side : List ℕ) → AreBytes name → length side ≡ 2 → AllByRecursion IsTextByte side
+    → IsName (side_name name side)
+name_fits name side b two s = side_named (before_zero (take 18 name)) side (cut_text 18 name b) two s
+
+channels_edits_fit : (n : ℕ) (name : List ℕ) (rate : ℕ) (sampler : Sampler) (ch : Channels) → n ≤ SAMPLES
+    → AreBytes name → rate < 2 ^ 32 → FitsSampler sampler → FitChannels ch
+    → AllByRecursion FitsEdit (channel_edits n name rate sampler ch)
+channels_edits_fit n name rate sampler (Mono points) most b r s p = (
+  (omega (arith, most), sample_fits rate sampler (mono_name name) points kind.Mono r s (cut_text 20 name b) p tt),
+  tt,
+)
+channels_edits_fit n name rate sampler (Stereo frames) most b r s p =
+    let left = name_fits name (codes " L") b refl ((omega arith, omega arith), ((omega arith, omega arith), tt)) in
+    let right = name_fits name (codes " R") b refl ((omega arith, omega arith), ((omega arith, omega arith), tt)) in
+    pair_fits n _ _ most
+    (sample_fits rate sampler (side_name name (codes " L")) (left_points frames) kind.Mono r s left p.0 tt)
+    (sample_fits rate sampler (side_name name (codes " R")) (right_points frames) (kind.Right n) r s right p.1
+    (omega (arith, most)))
+
+pub imports_fit : (n : ℕ) (name : List ℕ) (r : Recording) → n ≤ SAMPLES → AreBytes name → FitsRecording r
+    → AllByRecursion FitsEdit (import_edits n name r)
+unfolding import_edits
+imports_fit n name r most b f = channels_edits_fit n name r.rate r.sampler r.channels most b f.rate f.sampler f.channels

@@ -1,0 +1,71 @@
+//! Why a WAVE file can't be read.
+ghost use Rattle.std.specs.Prelude.{◌≡◌};
+ghost use Rattle.wave_file.specs.declared.fault.WaveFault.TheVariants as faults;
+ghost use Rattle.wave_file.specs.FaultNames.{number_of, name_of};
+
+use riff_chunks::Truncated;
+use thiserror::Error;
+
+/// The first check that a WAVE file fails.
+#[derive(Clone, Copy, Debug, PartialEq, Eq, Error)]
+pub enum WaveFault {
+    #[error("the file is no RIFF file of the form WAVE")]
+    NotWave = 53,
+    #[error("a chunk passes the end of what holds it")]
+    Truncated = 54,
+    /// Neither integer PCM nor WAVE_FORMAT_EXTENSIBLE with integer PCM.
+    #[error("the samples are compressed, or no whole numbers")]
+    Compressed = 55,
+    #[error("there is no format chunk of 16 bytes")]
+    NoFormat = 56,
+    #[error("the samples have not 16 bits")]
+    SampleBits = 57,
+    #[error("there is neither one channel nor two")]
+    ChannelCount = 58,
+    #[error("there is no data chunk")]
+    NoData = 59,
+    #[error("the data are no whole number of frames")]
+    HalfFrame = 60,
+    #[error("the sampler chunk is shorter than its loops")]
+    ShortSampler = 61,
+    #[error("the unity note is above 127")]
+    UnityNote = 62,
+    #[error("the loop is empty or not in the data")]
+    LoopOutside = 63,
+}
+
+impl WaveFault {
+    /// The number that fault lines report.
+    pub fn number(self) -> u8
+        ensures { result ≡ number_of self }
+    {
+        self as u8
+    }
+
+    /// The name that fault lines report.
+    pub fn name(self) -> &'static str
+        ensures { result.now ≡ name_of self }
+    {
+        match self {
+            WaveFault::NotWave => "NotWave",
+            WaveFault::Truncated => "Truncated",
+            WaveFault::Compressed => "Compressed",
+            WaveFault::NoFormat => "NoFormat",
+            WaveFault::SampleBits => "SampleBits",
+            WaveFault::ChannelCount => "ChannelCount",
+            WaveFault::NoData => "NoData",
+            WaveFault::HalfFrame => "HalfFrame",
+            WaveFault::ShortSampler => "ShortSampler",
+            WaveFault::UnityNote => "UnityNote",
+            WaveFault::LoopOutside => "LoopOutside",
+        }
+    }
+}
+
+impl From<Truncated> for WaveFault {
+    ghost from_gives = { λ _ fault. fault ≡ faults.Truncated };
+
+    fn from(_error: Truncated) -> WaveFault {
+        WaveFault::Truncated
+    }
+}

@@ -1,0 +1,69 @@
+//! The content of a WAVE file.
+ghost use Rattle.std.specs.Prelude.{◌≡◌};
+ghost use Rattle.wave_file.specs.Recordings.{frame_count};
+
+use crate::frames::Frame;
+use hydra_records::Table;
+use sample_view::Points;
+
+/// The channels of a WAVE file: mono, or left and right.
+#[derive(Clone, Copy, Debug, PartialEq, Eq)]
+pub(crate) enum Layout {
+    Mono,
+    Stereo,
+}
+
+/// The format of samples that can be read.
+#[derive(Clone, Copy, Debug, PartialEq, Eq)]
+pub(crate) struct Format {
+    pub(crate) layout: Layout,
+    /// Frames per second.
+    pub(crate) rate: u32,
+}
+
+/// The points of a recording, borrowed from the file.
+#[derive(Drop)]
+pub enum Channels<'a> {
+    /// The points of a mono recording.
+    Mono(Points<'a>),
+    /// The frames of a stereo recording.
+    Stereo(Table<'a, Frame>),
+}
+
+/// The pitch of a recording.
+#[derive(Clone, Copy, Debug, PartialEq, Eq)]
+pub struct Pitch {
+    /// The key at which it sounds as recorded; above 127 for unpitched.
+    pub key: u8,
+    /// The pitch correction, in cents.
+    pub correction: i8,
+}
+
+/// The content of the `smpl` chunk.
+#[derive(Clone, Copy, Debug, PartialEq, Eq)]
+pub struct Sampler {
+    pub pitch: Pitch,
+    /// The loop: its first frame, and the first frame after it.
+    pub looped: Option<(u32, u32)>,
+}
+
+/// A WAVE file that is read.
+#[derive(Drop)]
+pub struct Recording<'a> {
+    pub channels: Channels<'a>,
+    /// Frames per second.
+    pub rate: u32,
+    pub sampler: Sampler,
+}
+
+impl Channels<'_> {
+    /// The number of frames.
+    pub fn frame_count(&self) -> usize
+        ensures { result ≡ frame_count self.now }
+    {
+        match self {
+            Channels::Mono(points) => points.len(),
+            Channels::Stereo(frames) => frames.len(),
+        }
+    }
+}
