@@ -1,4 +1,4 @@
-//! The calls of banks: what is told of one that is read, and one that is made of parts.
+//! Tests of `Bank`: its getters, a bank read from a file and a bank built from parts.
 
 use bank_core::{
     Bank, GlobalZone, Head, InfoId, Kind, List, Owner, Owners, Part, Parts, PartsFault, Place,
@@ -16,7 +16,7 @@ use std::alloc::Global;
 use std::test::Fail;
 use worked_files::{File, many_points, tone, wide};
 
-/// What is told of the members of the wide bank.
+/// Whether the getters return the presets, instruments, samples and texts of `wide`.
 fn tells_members(bank: &Bank<'_>) -> bool {
     let counts = [List::Presets, List::Instruments, List::Samples].map(|list| bank.count(list));
     bank.minor() == 4
@@ -39,7 +39,7 @@ fn tells_members(bank: &Bank<'_>) -> bool {
         && bank.head(2).is_none()
 }
 
-/// What is told of its zones.
+/// Whether the getters return the zones of `wide`.
 fn tells_zones(bank: &Bank<'_>) -> bool {
     let (preset, instrument) = (Owner::Preset(0), Owner::Inst(2));
     bank.zone_count(preset) == Some(1)
@@ -61,7 +61,7 @@ fn tells_zones(bank: &Bank<'_>) -> bool {
         && bank.mod_at(instrument, Place::Zone(1), 0).is_none()
 }
 
-/// What is told of the records of T's instrument: its zone has one bag, and its target is a generator.
+/// Whether the getters return the instrument records of `tone`: one bag, whose target is a generator record.
 fn tells_records(bank: &Bank<'_>) -> bool {
     let at = Level::Inst;
     let lengths = [Part::Heads, Part::Bags, Part::Gens, Part::Mods].map(|part| bank.rec_len(
@@ -81,7 +81,7 @@ fn tells_records(bank: &Bank<'_>) -> bool {
         && bank.mod_rec(at, 1).is_none()
 }
 
-/// Whether a bank is written as this file.
+/// Whether the canonical file of the bank is this file.
 pub(crate) fn is_written(alloc: Global, bank: &Bank<'_>, file: &File) -> bool {
     let mut out = Vec::new(alloc);
     encoded_len(bank) == file.bytes().len() as u64
@@ -89,7 +89,7 @@ pub(crate) fn is_written(alloc: Global, bank: &Bank<'_>, file: &File) -> bool {
         && out.as_slice() == file.bytes()
 }
 
-/// Whether a bank and its copy are written so.
+/// Whether the canonical files of the bank and of its copy are both this file.
 fn is_copied(alloc: Global, bank: &Bank<'_>, file: &File) -> bool {
     match bank.copy(alloc) {
         Ok(copy) => is_written(alloc, bank, file) && is_written(alloc, &copy, file),
@@ -116,7 +116,7 @@ fn the_length_of_the_file_of_the_most_points(rt: HostRuntime) -> Result<(), Fail
         Ok((bank, _)) => encoded_len(&bank),
         Err(_) => 0,
     };
-    // Its preset and its instrument take 80 bytes.
+    // 80 bytes are records of its preset and its instrument.
     assert!(rt; length == 1_000_460_308 + 80);
     Ok(())
 }
@@ -128,7 +128,7 @@ fn global(alloc: Global) -> GlobalZone {
     }
 }
 
-/// A list of one zone, which sets an operator or none.
+/// A list of one zone, with one generator or none.
 fn one_zone(
     alloc: Global,
     target: u16,
@@ -154,7 +154,7 @@ pub(crate) fn one<T: Drop>(alloc: Global, member: T) -> Result<NumberedList<T>, 
     Ok(NumberedList::from_vec(members))
 }
 
-/// A preset or an instrument alone, with these zones.
+/// A list of one preset or instrument, with these zones.
 fn one_owner<H: OwnerHead>(
     alloc: Global,
     head: H,
@@ -173,7 +173,7 @@ fn one_owner<H: OwnerHead>(
     Ok(owners)
 }
 
-/// What a preset of this name has besides its zones.
+/// The head of a preset of this name, with all numbers 0.
 pub(crate) fn head(name: Name20) -> Head {
     Head {
         name,
@@ -213,7 +213,7 @@ pub(crate) fn sample<'a>(
     Ok(LinkedMembers::from_vec(members.into_vec()))
 }
 
-/// The texts with the engine EMU8000, the others empty.
+/// The texts of a bank: the engine is EMU8000, the others are empty.
 pub(crate) fn texts<'a>() -> Texts<'a> {
     Texts {
         engine: Lent::new(b"EMU8000"),
@@ -227,7 +227,7 @@ pub(crate) fn texts<'a>() -> Texts<'a> {
     }
 }
 
-/// The parts of T, with a target of the instrument's zone.
+/// The parts of `tone`, with this target of the instrument's zone.
 fn tone_parts<'a>(alloc: Global, target: u16) -> Result<Parts<'a>, Fail> {
     let points = Points::of_slice(alloc, b"\xe8\x03\xd0\x07\x30\xf8")?;
     let samples = sample(alloc, Name20::from_bytes(b"t")?, points)?;

@@ -1,4 +1,4 @@
-//! Banks made of flat lists: T, whose instrument has one zone, by lists of its instrument.
+//! Tests of `Bank::from_flat`: the bank `tone`, with valid and invalid flat lists of its instrument.
 
 use crate::banks::{head, is_written, one, sample, texts};
 use bank_core::{Bank, Flat, FlatHeads, Recs};
@@ -9,20 +9,20 @@ use std::alloc::Global;
 use std::test::Fail;
 use worked_files::tone;
 
-/// The number of its first bag and of all bags; the bags; and the generators.
+/// The flat lists of one instrument: the index of its first bag and the number of bags; the bags; the generators.
 type Lists = (&'static [u16], &'static [(u16, u16)], &'static [(u16, u16)]);
 
 const OWN: Lists = (&[0, 1], &[(0, 0), (2, 0)], &[(54, 1), (53, 0), (0, 0)]);
 
 const REFUSED: [Lists; 17] = [
-    // A bag fewer than its number says, one more, and none at 0.
+    // The number of bags is one too high and one too low; the first bag is not 0.
     (&[0, 2], &[(0, 0), (2, 0)], &[(54, 1), (53, 0), (0, 0)]),
     (&[0, 0], &[(0, 0), (2, 0)], &[(54, 1), (53, 0), (0, 0)]),
     (&[1, 1], &[(0, 0), (2, 0)], &[(54, 1), (53, 0), (0, 0)]),
-    // A number more than heads, and as many.
+    // Two more first bags than heads, and as many as heads.
     (&[0, 1, 1], &[(0, 0), (2, 0)], &[(54, 1), (53, 0), (0, 0)]),
     (&[0], &[(0, 0), (2, 0)], &[(54, 1), (53, 0), (0, 0)]),
-    // The bags end before the generators do, and don't begin with them; their indexes fall.
+    // The last bag ends before the generators do, the first begins after they do, and the indexes decrease.
     (&[0, 1], &[(0, 0), (1, 0)], &[(54, 1), (53, 0), (0, 0)]),
     (&[0, 1], &[(1, 0), (2, 0)], &[(54, 1), (53, 0), (0, 0)]),
     (
@@ -30,7 +30,7 @@ const REFUSED: [Lists; 17] = [
         &[(0, 0), (3, 0), (2, 0)],
         &[(54, 1), (53, 0), (0, 0)],
     ),
-    // An empty bag in front, and behind.
+    // An empty bag before the zone, and one after it.
     (
         &[0, 2],
         &[(0, 0), (0, 0), (2, 0)],
@@ -47,7 +47,7 @@ const REFUSED: [Lists; 17] = [
         &[(0, 0), (1, 0), (2, 0)],
         &[(53, 0), (54, 1), (0, 0)],
     ),
-    // Operators out of order, one that stands twice, and that of the targets among the others.
+    // Operators not in order, the same operator twice, and a target before the last generator.
     (
         &[0, 1],
         &[(0, 0), (3, 0)],
@@ -63,9 +63,9 @@ const REFUSED: [Lists; 17] = [
         &[(0, 0), (3, 0)],
         &[(53, 0), (54, 1), (53, 0), (0, 0)],
     ),
-    // A terminal that is none.
+    // A terminal that is not all zeros.
     (&[0, 1], &[(0, 0), (2, 0)], &[(54, 1), (53, 0), (0, 1)]),
-    // No valid bank: a target that isn't there, and an operator that stands in no instrument.
+    // Invalid banks: a target that does not exist, and an operator not allowed in instruments.
     (&[0, 1], &[(0, 0), (2, 0)], &[(54, 1), (53, 1), (0, 0)]),
     (&[0, 1], &[(0, 0), (2, 0)], &[(41, 1), (53, 0), (0, 0)]),
 ];
@@ -91,7 +91,7 @@ fn recs(
     })
 }
 
-// The records of one head, if there is one number more.
+// One head with these first bags; `None` unless there is one more of them than heads.
 fn heads<H: Drop>(
     alloc: Global,
     head: H,
@@ -101,7 +101,7 @@ fn heads<H: Drop>(
     Ok(FlatHeads::new(one(alloc, head)?, first_bags))
 }
 
-// T with these lists of its instrument.
+// The flat lists of `tone`, with these lists of its instrument.
 fn own_flat<'a>(
     alloc: Global,
     inst_heads: FlatHeads<Name20>,
@@ -120,7 +120,7 @@ fn own_flat<'a>(
     })
 }
 
-// Whether T comes of these lists of its instrument, with this last modulator.
+// Whether the bank of these lists is `tone`; `last` is the terminal modulator.
 fn is_taken(alloc: Global, lists: Lists, last: Modulator) -> Result<bool, Fail> {
     let (first_bags, bags, gens) = lists;
     let Some(heads) = heads(alloc, Name20::from_bytes(b"i")?, first_bags)? else {

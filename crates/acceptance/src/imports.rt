@@ -1,10 +1,10 @@
-//! A WAVE file whose name has a zero byte, as no file has.
+//! A test of `import_run` with a zero byte in the file name, which no real file has.
 
 use sfbank::{edit_run, import_run};
 use std::alloc::Global;
 use worked_files::{File, tone};
 
-/// The WAVE file of the sample of T: 126 bytes.
+/// The sample of `tone` as a WAVE file of 126 bytes.
 fn tone_wave() -> File {
     File::of(
         "'RIFF 76000000 'WAVE 'fmt 20 10000000 01000100 44ac0000 88580100 02001000
@@ -14,7 +14,7 @@ fn tone_wave() -> File {
     )
 }
 
-/// Whether an import to T comes to what this script does, and is taken back by this one.
+/// Whether importing the WAVE file into `tone` has the result of `script`, with the undo script `back`.
 fn imports(alloc: Global, wave: &File, name: &[u8], script: &[u8], back: &[u8]) -> bool {
     let tone = tone();
     let mut out = Vec::new(alloc);

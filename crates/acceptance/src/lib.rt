@@ -1,6 +1,6 @@
-//! What no run of the program shows of files: what calls tell of banks, banks that are made of parts and of flat lists, the
-//! calls of the lower crates, writers that fail, and what a terminal is told of long work. What a run of the program
-//! shows stands in the tables of `checks/rows`.
+//! Tests of banks and files that no run of the program can make: getters of `Bank`, banks built from parts and from
+//! flat lists, the lower crates, writers that fail, and progress on a terminal. Runs of the program are tested by
+//! `checks/rows`.
 #![tactic(auto)]
 
 #[cfg(test)]

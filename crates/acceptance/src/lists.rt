@@ -1,4 +1,4 @@
-//! The calls of the lower crates that no run of a file makes.
+//! Tests of calls of the lower crates that no run of the program makes.
 use bank_core::PartsFault;
 use generators::{GenMap, Level, Range, allowed, default_of};
 use hydra_records::{Bag, Generator, Table};
@@ -52,13 +52,13 @@ fn numbers_follow_a_list(rt: HostRuntime) {
 /// The points 1 to 10.
 const TEN: [u8; 20] = [1, 0, 2, 0, 3, 0, 4, 0, 5, 0, 6, 0, 7, 0, 8, 0, 9, 0, 10, 0];
 
-/// Whether these are the points.
+/// Whether `points` has exactly these points.
 fn has(points: &Points<'_>, want: &[i16]) -> bool {
     points.len() == want.len()
         && (0..points.len()).all(|index| want.get(index) == Some(&points.point(index)))
 }
 
-/// The point at a place, read from the slice that holds it.
+/// The low byte of the point at `index`, read from the slice that holds it.
 fn in_its_slice(points: &Points<'_>, index: usize) -> Option<u8> {
     if index >= points.len() {
         return None;
@@ -113,7 +113,7 @@ fn a_map_of_generators(rt: HostRuntime) -> Result<(), Fail> {
     Ok(())
 }
 
-/// The operators of both levels, and those of instruments alone.
+/// The operators allowed at both levels; below, those allowed in instruments only.
 const BOTH: [u16; 37] = [
     5, 6, 7, 8, 9, 10, 11, 13, 15, 16, 17, 21, 22, 23, 24, 25, 26, 27, 28, 29, 30, 31, 32, 33, 34,
     35, 36, 37, 38, 39, 40, 43, 44, 48, 51, 52, 56,
@@ -161,7 +161,7 @@ fn modulators_and_tables(rt: HostRuntime) -> Result<(), Fail> {
     Ok(())
 }
 
-/// Whether an error is told so.
+/// Whether the error is displayed as this text.
 fn is_told<T: Display + Drop>(alloc: Global, error: T, want: &str) -> bool {
     match format!(in alloc; "{error}") {
         Ok(text) => text.as_str() == want,

@@ -1,11 +1,11 @@
-//! What a terminal is told of long work.
+//! Tests of `Meter`: progress shown on a terminal during long work.
 
 use sfbank::{Meter, Progress, Work};
 use std::cell::Cell;
 use std::io;
 use std::time::{Clock, Duration};
 
-/// A clock that goes on by so many seconds each time it is read.
+/// A clock that advances by `step` seconds each time it is read.
 #[derive(Drop)]
 struct Ticking {
     step: u64,
@@ -33,7 +33,7 @@ impl Clock for Ticking {
     }
 }
 
-/// Whether work that is done in two halves is told so.
+/// Whether work done in two halves writes `told` to the terminal.
 fn tells(
     rt: &HostRuntime,
     is_terminal: bool,

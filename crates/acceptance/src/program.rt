@@ -1,5 +1,5 @@
-//! What no run of the checks shows of the program: that it is started without a word or at a terminal, and that an input
-//! fails after its first bytes.
+//! Tests of the program that the checks cannot run: no argument, a terminal, and an input that fails after its first
+//! bytes.
 
 use sf_base::Failure;
 use sfbank::{Unheard, run};
@@ -8,7 +8,7 @@ use std::alloc::AllocError;
 use std::io;
 use std::io::{ErrorKind, Read, Write};
 
-/// Runs the program on words, which spaces part, and returns its status.
+/// Runs the program with these arguments, separated by spaces, and returns its exit status.
 fn run_on<O: Write, E: Write>(
     rt: &HostRuntime,
     words: &str,
@@ -31,7 +31,7 @@ fn run_on<O: Write, E: Write>(
     }
 }
 
-/// Whether words are refused, with something said of them.
+/// Whether the arguments are refused with a message on standard error.
 fn are_refused(rt: &HostRuntime, words: &str) -> bool {
     let mut output = Vec::new(rt.alloc());
     let mut errors = Vec::new(rt.alloc());
@@ -45,7 +45,7 @@ fn no_word_is_no_run(rt: HostRuntime) {
     assert!(rt; are_refused(&rt, ""));
 }
 
-/// Whether a run on a bank that isn't there writes this on the standard error, and nothing else.
+/// Whether a run on a missing bank writes exactly this to standard error.
 fn misses_bank(rt: &HostRuntime, is_terminal: bool, line: &[u8]) -> bool {
     let mut output = Vec::new(rt.alloc());
     let mut errors = Vec::new(rt.alloc());
@@ -67,7 +67,7 @@ fn a_terminal_has_the_reason_of_a_file_fault(rt: HostRuntime) {
     assert!(rt; misses_bank(&rt, true, reason));
 }
 
-/// Gives its bytes three at a time, and then an error.
+/// A reader that returns at most three bytes a call, and an error after the last.
 #[derive(Drop)]
 struct Broken<'a> {
     rest: &'a [u8],

@@ -1,4 +1,4 @@
-//! Writers that fail as no run of the program shows: what `put_all` leaves in them, and flushes.
+//! Tests of writers that fail: what `put_all` writes before the failure, and failed flushes.
 
 use outputs::{WriteFault, put_all};
 use sfbank::{RunFault, Which, canon_run, edit_run, fault_text, show_run};
@@ -6,8 +6,8 @@ use std::alloc::Global;
 use std::test::Fail;
 use worked_files::{FailingWriter, NEVER, RENAME, WriteFailure, renamed_saw, saw, tone, with_more};
 
-/// Whether the answer of `put_all` is right: done where the writer took all, and else the fault that
-/// counts what it holds, which is the front of all.
+/// Whether the result of `put_all` is right: `Ok` if the writer holds all bytes, else a fault that counts the
+/// bytes it holds, which are a prefix of them.
 fn is_right(answer: Result<(), WriteFault>, out: &FailingWriter, all: &[u8]) -> bool {
     match answer {
         Ok(()) => !out.failed && out.held.as_slice() == all,
@@ -19,8 +19,8 @@ fn is_right(answer: Result<(), WriteFault>, out: &FailingWriter, all: &[u8]) -> 
     }
 }
 
-/// Whether `put_all` goes right with writers that take so many bytes a call and fail at the first call,
-/// the second, and so on, until one takes all.
+/// Whether `put_all` is right with writers that accept `bite` bytes a call and fail at the first call, the
+/// second, and so on, until one does not fail.
 fn goes_right(alloc: Global, text: &[u8], bite: usize, failure: WriteFailure) -> bool {
     for fails_at in 0..2000 {
         let mut out = FailingWriter::new(alloc, bite, fails_at, failure);
@@ -46,7 +46,7 @@ fn writers_fail_at_each_call(rt: HostRuntime) {
     ] {
         assert!(rt; goes_right(rt.alloc(), tone().bytes(), bite, failure));
     }
-    // A writer that takes no byte of what is there.
+    // A writer whose calls all return `Ok(0)`.
     let mut none = FailingWriter::new(rt.alloc(), 0, NEVER, WriteFailure::Error);
     let answer = put_all(&mut none, tone().bytes());
     assert!(rt; answer == Err(WriteFault { written: 0 }));
@@ -62,7 +62,7 @@ fn long_texts_go_out_in_large_pieces(rt: HostRuntime) -> Result<(), Fail> {
     Ok(())
 }
 
-/// The runs whose writers fail to flush.
+/// The output whose writer fails to flush.
 #[derive(Clone, Copy)]
 enum Call {
     Canon,
@@ -73,7 +73,7 @@ enum Call {
 
 const SCRIPT: &[u8] = b"rename-sample 0 \"u\"\n";
 
-/// What a call writes about a file.
+/// Writes the output of a run on the file to `out`.
 fn put(alloc: Global, call: Call, file: &[u8], out: &mut FailingWriter) -> Result<(), RunFault> {
     let mut other = Vec::new(alloc);
     match call {
@@ -104,7 +104,7 @@ fn flushes_fail(rt: HostRuntime) {
     }
 }
 
-/// Renames a sample, by a run whose undo text has 22 bytes.
+/// Renames a sample by an edit run; its undo script has 22 bytes.
 fn renames(
     alloc: Global,
     out: &mut FailingWriter,
@@ -123,7 +123,7 @@ fn the_second_of_two_flushes_fails(rt: HostRuntime) {
     assert!(rt; out.held.as_slice() == renamed_saw().bytes() && undo.held.len() as u64 == 22);
 }
 
-/// A writer of that run which takes no byte after so many.
+/// A writer for that run which accepts `room` bytes and no more.
 fn with_room(alloc: Global, room: usize) -> FailingWriter {
     match room {
         0 => FailingWriter::new(alloc, usize::MAX, 0, WriteFailure::Error),

@@ -1,4 +1,4 @@
-//! Answers: the text of each.
+//! Tests of the text of each answer.
 
 use bank_validity::Limit;
 use edit_refusals::{Cause, Refusal};
@@ -6,7 +6,7 @@ use live_lines::{Answer, FilePath, RequestFault, put_answer};
 use outputs::{Output, OutputFault};
 use std::alloc::Global;
 
-/// Refusals, and their texts.
+/// Refusals and their texts.
 const REFUSALS: [(Refusal, &[u8]); 7] = [
     (Refusal::Of(Cause::InUse), b"refused 26 InUse\n"),
     (
@@ -26,7 +26,7 @@ const REFUSALS: [(Refusal, &[u8]); 7] = [
     (Refusal::OutOfMemory, b"out of memory\n"),
 ];
 
-/// Faults of lines, and their texts.
+/// Faults of lines and their texts.
 const FAULTS: [(RequestFault, &[u8]); 5] = [
     (RequestFault::Syntax, b"fault 41 Syntax\n"),
     (RequestFault::Number, b"fault 42 Number\n"),
@@ -35,7 +35,7 @@ const FAULTS: [(RequestFault, &[u8]); 5] = [
     (RequestFault::TooLong, b"fault 47 TooLong\n"),
 ];
 
-/// Whether this is the text of an answer.
+/// Whether the answer is written as this text.
 fn is_told(alloc: Global, answer: &Answer<'_>, text: &[u8]) -> bool {
     let mut told = Vec::new(alloc);
     let mut output = Output::to(&mut told);

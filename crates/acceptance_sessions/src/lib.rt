@@ -1,5 +1,5 @@
-//! What only a run can show of sessions: of those of a program, and of live ones, line by line; and of edits as values: how
-//! they are printed, and copies of their steps. What scripts do stands in the tables of `checks/rows`.
+//! Tests of sessions, of live sessions line by line, and of edits as values: their text form and copies of their steps.
+//! What scripts do is tested by `checks/rows`.
 #![tactic(auto)]
 
 #[cfg(test)]

@@ -1,4 +1,4 @@
-//! A whole session over slices.
+//! A test of a whole live session that reads from and writes to memory.
 ghost use Rattle.std.specs.Prelude.{None};
 
 use bank_core::Bank;
@@ -37,7 +37,7 @@ static EMPTY: &[u8] = b"\
     shdr\x2e\0\0\0\
       EOS\0\0\0\0\0\0\0\0\0\0\0\0\0\0\0\0\0\0\0\0\0\0\0\0\0\0\0\0\0\0\0\0\0\0\0\0\0\0\0\0\0\0\0";
 
-// The instrument plays 1000 in a loop, in the middle and on the right.
+// The instrument plays the point 1000 in a loop, once in the middle and once on the right.
 static LINES: &[u8] = b"\
     add-sample 0 \"c\" 44100 60 0 mono loop 0 1 xe803\n\
     add-inst 0 \"i\" { 0 g 54 1 } { 0 g 17 500 g 54 1 }\n\
@@ -77,7 +77,7 @@ static WAY_BACK: &[u8] = b"\
     remove-inst 0\n\
     remove-sample 0\n";
 
-/// Keeps what is saved.
+/// Keeps saved files in memory.
 #[derive(Drop)]
 struct Kept {
     out: Vec<u8>,

@@ -1,4 +1,4 @@
-//! Lines: what each asks for, each fault, and that the lines of the help are read.
+//! Tests of `read_line`: requests, faults, and the lines of the help.
 ghost use Rattle.std.specs.Prelude.{◌≡◌, not};
 ghost use Rattle.std.specs.List.{list_all};
 ghost use Rattle.line_tokens.specs.Lines.{is_feed};
@@ -12,7 +12,7 @@ use sf_base::{Failure, Lent};
 use std::alloc::Global;
 use std::io::Write;
 
-/// Lines, and what they ask for as a line.
+/// Lines and their requests, written as canonical lines.
 const LINES: [(&[u8], &[u8]); 24] = [
     (b"", b"nothing\n"),
     (b" \t# undo\r", b"nothing\n"),
@@ -58,7 +58,7 @@ const LINES: [(&[u8], &[u8]); 24] = [
     (b"save - -", b"save \"-\" \"-\"\n"),
 ];
 
-/// Lines at fault, and the number and name of the fault.
+/// Lines with a fault, and its number and name.
 const FAULTS: [(&[u8], &[u8]); 36] = [
     (b"play", b"fault 41 Syntax\n"),
     (b"Undo", b"fault 41 Syntax\n"),
@@ -101,7 +101,7 @@ const FAULTS: [(&[u8], &[u8]); 36] = [
     (b"save xbank.sf2 undo.txt", b"fault 43 Literal\n"),
 ];
 
-/// Puts what a line asks for, as a line.
+/// Writes a request as a line.
 fn put_request<W: Write>(request: &Request<'_, '_>, output: &mut Output<'_, W>) {
     match request {
         Request::Edit(edit) => {
@@ -158,8 +158,8 @@ fn has_no_feed(line: &[u8]) -> bool
     line.iter().all(|byte| *byte != b'\n')
 }
 
-/// Puts what a line asks for, or its fault. It puts nothing when out of memory, and where a line feed
-/// stands in the line.
+/// Writes the request of a line, or its fault. Writes nothing if out of memory, or if there is a line feed in
+/// the line.
 fn put_asked<W: Write>(alloc: Global, line: &[u8], output: &mut Output<'_, W>) {
     if !has_no_feed(line) {
         return;
@@ -176,7 +176,7 @@ fn put_asked<W: Write>(alloc: Global, line: &[u8], output: &mut Output<'_, W>) {
     }
 }
 
-/// Whether a line asks for this, or has this fault.
+/// Whether the request or fault of a line is written as `want`.
 fn asks(alloc: Global, line: &[u8], want: &[u8]) -> bool {
     let mut told = Vec::new(alloc);
     let mut output = Output::to(&mut told);
@@ -198,7 +198,7 @@ fn faults_are_told(rt: HostRuntime) {
     }
 }
 
-/// Whether a line asks for something.
+/// Whether a line is read as a request.
 fn is_asked(alloc: Global, line: &[u8]) -> bool {
     has_no_feed(line)
         && match pool_of_line(alloc, line) {

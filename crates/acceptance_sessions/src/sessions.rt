@@ -1,4 +1,4 @@
-//! Sessions on T: edits and a group that are taken back, and brought forth again.
+//! Tests of `Session` on `tone`: edits and a group, undone and redone.
 
 use bank_core::{InfoId, Owner};
 use edit_forms::{Edit, SampleStep, Step, TextStep, ZoneStep};
@@ -13,7 +13,7 @@ use std::alloc::Global;
 use std::test::Fail;
 use worked_files::{File, tone};
 
-/// Whether a session stands at the bank of this file, with this text as its undo list.
+/// Whether the session's bank is that of this file, and its undo list has this text.
 fn stands(alloc: Global, session: &Session<'_>, file: &File, back: &[u8]) -> bool {
     let mut out = Vec::new(alloc);
     let mut text = Vec::new(alloc);
@@ -27,17 +27,17 @@ fn stands(alloc: Global, session: &Session<'_>, file: &File, back: &[u8]) -> boo
         && text.as_slice() == back
 }
 
-/// Whether a session is at its first bank.
+/// Whether there is nothing to undo.
 fn is_first(alloc: Global, session: &mut Session<'_>) -> bool {
     session.undo(alloc) == Err(Refusal::NothingToUndo)
 }
 
-/// Whether a session is at its last bank.
+/// Whether there is nothing to redo.
 fn is_last(alloc: Global, session: &mut Session<'_>) -> bool {
     session.redo(alloc) == Err(Refusal::NothingToRedo)
 }
 
-/// T with another name of its sample, and with a name of its own.
+/// `tone` with another name of its sample; below, `tone` with a bank name.
 fn renamed() -> File {
     tone().patched(&[(440, b'u')])
 }
@@ -46,7 +46,7 @@ fn titled() -> File {
     tone().patched(&[(60, b'x')])
 }
 
-/// Whether a session on T goes to the renamed bank, back, forth and back.
+/// Whether a session on `tone` does, undoes, redoes and undoes the renaming.
 fn goes_back_and_forth<'a>(alloc: Global, session: &mut Session<'a>, rename: Edit<'a>) -> bool {
     let back = b"rename-sample 0 \"t\"\n";
     is_first(alloc, session)
@@ -80,7 +80,7 @@ fn a_session_goes_back_and_forth(rt: HostRuntime) -> Result<(), Fail> {
     Ok(())
 }
 
-/// Whether an edit that the bank refuses is returned, and leaves the edit that was taken back.
+/// Whether a refused edit is returned, and leaves the redo list as it was.
 fn leaves_the_redo(alloc: Global, session: &mut Session<'_>) -> bool {
     let remove = Edit::One(Step::Sample(SampleStep::RemoveSample { sample: 1 }));
     let outcome = session.edit(alloc, remove);
@@ -120,11 +120,11 @@ fn refusals_are_told(rt: HostRuntime) {
     assert!(rt; redo.number() == 40 && redo.name() == "NothingToRedo");
 }
 
-/// Takes the group back.
+/// The inverse of the group.
 const BACK: &[u8] = b"group { add-sample 0 \"t\" 44100 60 0 mono loop 1 3 xe803d00730f8 } \
     { add-zone inst 0 0 { 0 g 54 1 } }\n";
 
-/// T without its sample, and without the zone of its instrument: 376 bytes.
+/// `tone` without its sample and without the zone of its instrument: 376 bytes.
 fn silent() -> File {
     let sizes = [
         (4, 0x70),
@@ -142,7 +142,7 @@ fn silent() -> File {
         .edited("440 46; 420 8; 390 4; 82 98")
 }
 
-/// The edits that take T's zone and sample out.
+/// The group that removes the zone and the sample of `tone`.
 fn removals(alloc: Global) -> Result<Edit<'static>, OutOfMemory> {
     let mut steps = Vec::new(alloc);
     steps.push(Step::Zone(Owner::Inst(0), ZoneStep::RemoveZone { zone: 0 }))?;
@@ -150,7 +150,7 @@ fn removals(alloc: Global) -> Result<Edit<'static>, OutOfMemory> {
     Ok(Edit::Group(NumberedList::from_vec(steps)))
 }
 
-/// Whether a session on T does the group, takes it back, and does it again.
+/// Whether a session on `tone` does, undoes and redoes the group.
 fn takes_a_group_back(alloc: Global, session: &mut Session<'_>) -> bool {
     let Ok(group) = removals(alloc) else {
         return false;

@@ -1,4 +1,4 @@
-//! Edits that are printed, and copies of their steps.
+//! Tests of `print` and of copies of steps.
 
 use edit_forms::{Edit, SampleStep, Step};
 use edit_script::{parse, pool_of, print};
@@ -6,7 +6,7 @@ use sf_base::Name20;
 use std::alloc::Global;
 use std::test::Fail;
 
-/// Whether an edit, and the copy of its step, are printed as this line.
+/// Whether an edit and a copy of its step are both printed as this line.
 fn is_printed(alloc: Global, edit: &Edit<'_>, line: &[u8]) -> bool {
     let Edit::One(step) = edit else {
         return false;

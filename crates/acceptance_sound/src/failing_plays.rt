@@ -1,4 +1,4 @@
-//! A writer that fails to flush behind a WAVE file.
+//! A test of `play_run` with a writer that fails to flush.
 
 use crate::waves::FILE;
 use sfbank::{RunFault, Which, play_run};

@@ -1,7 +1,7 @@
-//! What no run of the program shows of sound: worked values of the tables and of linear modulators, the zones that notes
-//! select, worked voices, players and their sums, WAVE files behind other texts and in writers that fail; and of neutral
-//! edits: which forms are neutral, worked edits and what takes them back, also where notes sound meanwhile. What a run of
-//! the program shows stands in the tables of `checks/rows`.
+//! Tests of sound and of neutral edits that no run of the program can make: values of the tables and of linear
+//! modulators, zone selection, frames of voices, blocks of players, WAVE files after other output and in writers that
+//! fail; which forms of edit are neutral, their inverses, and neutral edits while notes play. Runs of the program are
+//! tested by `checks/rows`.
 #![tactic(auto)]
 
 #[cfg(test)]

@@ -1,8 +1,8 @@
-//! Worked values of linear modulators.
+//! Tests of `linear_value`.
 
 use modulators::{DEFAULT_VELOCITY, Modulator, linear_value};
 
-/// From a source to a generator.
+/// A linear modulator of amount 500 from a source to a generator.
 fn from_to(source: u16, dest: u16) -> Modulator {
     Modulator {
         source,
@@ -13,24 +13,24 @@ fn from_to(source: u16, dest: u16) -> Modulator {
     }
 }
 
-/// A source, a key, a velocity, and the value that a linear modulator has there.
+/// A source, a key, a velocity, and the value of a modulator with that source.
 const VALUES: [(u16, u8, u8, i16); 14] = [
-    // Velocity and key, rising and of one polarity.
+    // Velocity and key, positive and unipolar.
     (0x0002, 60, 127, 127),
     (0x0002, 60, 0, 0),
     (0x0003, 60, 127, 60),
-    // Falling.
+    // Negative.
     (0x0102, 60, 127, 0),
     (0x0102, 60, 100, 27),
     (0x0103, 60, 127, 67),
-    // Of two polarities.
+    // Bipolar.
     (0x0202, 60, 0, -128),
     (0x0202, 60, 127, 126),
     (0x0203, 64, 127, 0),
-    // Both.
+    // Negative and bipolar.
     (0x0302, 60, 127, -128),
     (0x0302, 60, 0, 126),
-    // Above what a note has.
+    // Keys and velocities above the range of notes.
     (0x0002, 60, 255, 255),
     (0x0103, 255, 0, -128),
     (0x0303, 255, 0, -384),
@@ -58,7 +58,7 @@ fn values_of_linear_modulators(rt: HostRuntime) {
 #[test]
 fn modulators_that_are_not_linear(rt: HostRuntime) {
     assert!(rt; linear_value(&DEFAULT_VELOCITY, 60, 127) == None);
-    // Another general controller, one of MIDI's, a link, and a curve.
+    // Other general controllers, MIDI controllers, a link, and curves that are not linear.
     for source in [
         0x0000, 0x0004, 0x000a, 0x0082, 0x0083, 0x007f, 0x0402, 0x8003, 0xfc02,
     ] {

@@ -1,10 +1,10 @@
-//! Which forms of edit are neutral.
+//! Tests of which forms of edit are neutral.
 
 use edit_script::{parse, pool_of};
 use neutral_edits::is_neutral;
 use std::alloc::Global;
 
-/// Whether the first edit of a script is neutral; none where there is no such edit.
+/// Whether the first edit of a script is neutral; `None` if there is no edit.
 fn judged(alloc: Global, script: &[u8]) -> Option<bool> {
     let pool = pool_of(alloc, script).ok()?;
     let lines = parse(alloc, script, pool.as_slice()).ok()?;
@@ -29,7 +29,7 @@ const NEUTRAL: [&[u8]; 13] = [
     b"set-info INAM \"x\"",
 ];
 
-/// A line of each other form, and groups: also of no step, and of neutral steps alone.
+/// A line of each other form, and groups: without steps, of neutral steps alone, and of another step.
 const OTHERS: [&[u8]; 20] = [
     b"add-preset 0 \"n\" 0 0 0 0 0",
     b"remove-preset 0",

@@ -1,4 +1,4 @@
-//! Neutral edits of banks, and what takes them back.
+//! Tests of `apply_neutral` and of the inverses it returns.
 
 use bank_core::Bank;
 use edit_forms::Edit;
@@ -10,7 +10,7 @@ use sfbank::edit_run;
 use std::alloc::Global;
 use worked_files::{RENAME, RENAME_BACK, renamed_saw, saw, tone};
 
-/// Whether an edit is neutral and done; what takes it back is printed.
+/// Applies an edit and prints its inverse to `back`. Returns whether it is neutral and was applied.
 fn is_done<'a>(alloc: Global, bank: &mut Bank<'a>, edit: Edit<'a>, back: &mut Vec<u8>) -> bool {
     if !is_neutral(&edit) {
         return false;
@@ -40,8 +40,8 @@ fn is_written(alloc: Global, bank: &Bank<'_>, file: &[u8]) -> bool {
     write(bank, &mut out).is_ok() && out.as_slice() == file
 }
 
-/// Whether a line, done as a neutral edit, makes the bank of the second file of that of the first, and
-/// this line takes it back.
+/// Whether the neutral edit `line` turns the bank of `file` into the bank of `edited`, and its inverse is
+/// `back`.
 fn edits(alloc: Global, file: &[u8], line: &[u8], edited: &[u8], back: &[u8]) -> bool {
     let Ok(pool) = pool_of(alloc, line) else {
         return false;
@@ -58,7 +58,7 @@ fn edits(alloc: Global, file: &[u8], line: &[u8], edited: &[u8], back: &[u8]) ->
         && undo.as_slice() == back
 }
 
-/// Whether a line makes the second file of the first, and the other line the first of the second.
+/// Whether `line` turns `file` into `edited`, and `back` turns `edited` into `file`; each is the other's inverse.
 fn edits_both_ways(alloc: Global, file: &[u8], line: &[u8], edited: &[u8], back: &[u8]) -> bool {
     edits(alloc, file, line, edited, back) && edits(alloc, edited, back, file, line)
 }
@@ -79,7 +79,7 @@ fn a_renaming_and_its_return(rt: HostRuntime) {
 
 const SPLIT: &[u8] = b"split-zone inst 0 0 key 60\n";
 
-/// The instrument of one zone, and what takes its split back.
+/// An instrument of one zone, and the inverse of splitting it.
 const ROWS: [(&[u8], &[u8]); 2] = [
     (
         b"add-inst 0 \"z\" { 0 g 17 0 }\n",
@@ -91,10 +91,10 @@ const ROWS: [(&[u8], &[u8]); 2] = [
     ),
 ];
 
-/// The same instrument once it is split.
+/// The same instrument after the split.
 const HALVES: &[u8] = b"add-inst 0 \"z\" { 0 g 43 0..59 g 17 0 } { 0 g 43 60..127 g 17 0 }\n";
 
-/// The file of T behind a script; nothing where it is refused.
+/// The file of `tone` after a script; empty if the script is refused.
 fn file_behind(alloc: Global, script: &[u8]) -> Vec<u8> {
     let mut out = Vec::new(alloc);
     let mut undo = Vec::new(alloc);

@@ -1,4 +1,4 @@
-//! A note that sounds while its bank is edited by neutral edits, and once more behind them.
+//! Tests of a note that plays while neutral edits are applied to its bank, and of the same note started after them.
 ghost use Rattle.std.specs.Prelude.{◌≡◌, ◌%◌};
 
 use bank_core::{Bank, Owner};
@@ -11,7 +11,7 @@ use std::alloc::Global;
 use std::test::Fail;
 use worked_files::tone;
 
-// Whether the next block has these sides, the left and the right in turn.
+// Whether the next block has these samples, left and right in turn.
 fn gives<const N: usize>(player: &mut Player<'_>, sides: [i16; N]) -> bool
     requires { N % 2 ≡ 0 }
 {
@@ -20,7 +20,7 @@ fn gives<const N: usize>(player: &mut Player<'_>, sides: [i16; N]) -> bool
     out == sides
 }
 
-// Whether an edit is neutral and done.
+// Whether an edit is neutral and was applied.
 fn is_done<'a>(alloc: Global, bank: &mut Bank<'a>, step: Step<'a>) -> bool {
     let edit = Edit::One(step);
     if !is_neutral(&edit) {
@@ -29,7 +29,7 @@ fn is_done<'a>(alloc: Global, bank: &mut Bank<'a>, step: Step<'a>) -> bool {
     apply_neutral(alloc, bank, edit).is_ok()
 }
 
-// Splits the one zone of the instrument, and turns the halves around.
+// Splits the only zone of the instrument and exchanges its halves.
 fn is_split_and_turned(alloc: Global, bank: &mut Bank<'_>) -> bool {
     let owner = Owner::Inst(0);
     let split = Step::Zone(

@@ -1,4 +1,4 @@
-//! Note lists, and notes within their limits.
+//! Tests of note lists, and of the limits of notes.
 
 use note_list::{Note, parse_notes};
 use std::test::Fail;
@@ -18,7 +18,7 @@ fn notes_of_a_text(rt: HostRuntime) -> Result<(), Fail> {
     Ok(())
 }
 
-/// Texts whose notes end at the last frame.
+/// Note lists whose note ends at the last possible frame.
 const LAST: [&[u8]; 2] = [b"99999999 1 0 0 60 127", b"100000000 0 0 0 60 127"];
 
 #[test]

@@ -1,4 +1,4 @@
-//! Players: blocks of any length, and banks that are edited while they play.
+//! Tests of `Player`: blocks of any length, and banks edited while notes play.
 
 use crate::started_voices::{THREE, file_of};
 use bank_core::{Bank, Owner, Place};
@@ -11,24 +11,24 @@ use std::alloc::Global;
 use std::test::Fail;
 use worked_files::tone;
 
-/// What is done with a bank and a player.
+/// One action on a bank or a player.
 #[derive(Clone, Copy)]
 pub(crate) enum Act {
-    /// Starts a note of this length, in frames, and of this key; of the preset with the numbers 0 and 0.
+    /// Starts a note of this length in frames and this key, on preset 0 of bank 0.
     Start(u32, u8),
-    /// Plays a block with these sides, the left and the right of each frame in turn.
+    /// Plays a block and expects these samples, left and right of each frame in turn.
     Block(&'static [i16]),
-    /// Takes out the first point of the sample.
+    /// Removes the first point of the sample.
     Trim,
-    /// Puts the point 11 before the sample's points and 12 after them.
+    /// Adds the point 11 before the sample's points and 12 after them.
     Extend,
-    /// Takes the one zone of the instrument out.
+    /// Removes the only zone of the instrument.
     RemoveZone,
-    /// Takes the exclusive class from the one zone of the instrument.
+    /// Removes the exclusive class from the only zone of the instrument.
     ClearClass,
 }
 
-// The edit that an act makes, if it makes one.
+// The step of an action that edits the bank; `None` for the others.
 fn step_of<'a>(alloc: Global, act: Act) -> Result<Option<Step<'a>>, Fail> {
     let owner = Owner::Inst(0);
     Ok(match act {
@@ -50,7 +50,7 @@ fn extension<'a>(alloc: Global) -> Result<Step<'a>, Fail> {
     Ok(Step::Points(0, PointStep::Extend { front, back }))
 }
 
-/// Whether the act's edit is done, if it makes one.
+/// Applies the edit of an action. Returns false if it is refused, and true if the action has no edit.
 pub(crate) fn edits<'a>(alloc: Global, bank: &mut Bank<'a>, act: Act) -> Result<bool, Fail> {
     Ok(match step_of(alloc, act)? {
         Some(step) => apply(alloc, bank, Edit::One(step)).is_ok(),
@@ -58,7 +58,7 @@ pub(crate) fn edits<'a>(alloc: Global, bank: &mut Bank<'a>, act: Act) -> Result<
     })
 }
 
-// Whether the next block has these sides; at most 24.
+// Whether the next block has these samples, at most 24.
 fn gives(player: &mut Player<'_>, sides: &[i16]) -> bool {
     let mut out = [0; 24];
     if sides.len() > out.len() || sides.len() % 2 != 0 {
@@ -69,7 +69,7 @@ fn gives(player: &mut Player<'_>, sides: &[i16]) -> bool {
     &*block == sides
 }
 
-// Whether all acts are done and heard as they say, from a bank as it is read.
+// Whether all actions succeed, and their blocks have the expected samples, starting from the bank of a file.
 fn goes(alloc: Global, file: &[u8], acts: &[Act]) -> Result<bool, Fail> {
     let (mut bank, _counts) = read(alloc, file)?;
     let mut player = Player::new(alloc);
@@ -89,7 +89,7 @@ fn goes(alloc: Global, file: &[u8], acts: &[Act]) -> Result<bool, Fail> {
     Ok(true)
 }
 
-// A player that has started a note of 8 frames a fifth above its pitch. The bank is dropped.
+// A player that has started a note of 8 frames a fifth above the sample's pitch. The bank is dropped.
 fn playing<'a>(alloc: Global, file: &'a [u8]) -> Result<Player<'a>, Fail> {
     let (bank, _counts) = read(alloc, file)?;
     let mut player = Player::new(alloc);
@@ -99,7 +99,7 @@ fn playing<'a>(alloc: Global, file: &'a [u8]) -> Result<Player<'a>, Fail> {
     Ok(player)
 }
 
-/// Blocks of one frame and of none, of three and none, and of four.
+/// The same frames in blocks of one frame and none, of three and none, and of four.
 const BLOCKS: [&[&[i16]]; 3] = [
     &[
         &[],
@@ -160,9 +160,9 @@ pub(crate) const TEN: &[u8] =
 
 const OF_CLASS_1: &[u8] = b"add-inst 0 \"i\" { 0 g 54 1 g 57 1 }\n";
 
-/// Samples, instruments over them, and what is done with a player of the bank.
+/// Samples, instruments that play them, and actions on the bank and its player.
 const PLAYED: [(&[u8], &[u8], &[Act]); 3] = [
-    // A block crosses the slices of a sample.
+    // A block crosses from one slice of the sample's points to the next.
     (
         TEN,
         b"add-inst 0 \"i\" { 0 }\n",
@@ -174,7 +174,7 @@ const PLAYED: [(&[u8], &[u8], &[Act]); 3] = [
             ]),
         ],
     ),
-    // A start silences by its class.
+    // A started note silences the voice of the same exclusive class.
     (
         THREE,
         OF_CLASS_1,
@@ -185,7 +185,7 @@ const PLAYED: [(&[u8], &[u8], &[Act]); 3] = [
             Act::Block(&[500, 500, 1000, 1000, -1000, -1000, 1000, 1000]),
         ],
     ),
-    // Classes are those of the bank at the start.
+    // A voice keeps its exclusive class of the time when its note started.
     (
         THREE,
         OF_CLASS_1,

@@ -1,4 +1,4 @@
-//! All frames of a list of notes, by the call that no progress hears: the program makes the other one.
+//! A test of `render`, which reports no progress. The program calls the one that does.
 
 use mixer::render;
 use note_list::parse_notes;
@@ -7,7 +7,7 @@ use std::alloc::Global;
 use std::test::Fail;
 use worked_files::tone;
 
-/// The sides of all frames that a text of notes gives on T.
+/// The frames of a note list rendered on `tone`, left and right in turn.
 fn rendered(alloc: Global, notes: &[u8]) -> Result<Vec<i16>, Fail> {
     let file = tone();
     let (bank, _counts) = read(alloc, file.bytes())?;

@@ -1,4 +1,4 @@
-//! Which zones notes select.
+//! Tests of the zones that notes select.
 
 use crate::started_voices::made;
 use note_list::Note;
@@ -7,8 +7,8 @@ use std::alloc::Global;
 use std::test::Fail;
 use zone_select::matches;
 
-/// Two presets of the numbers 0 and 0, of which the second is never heard, and one of the bank 1 and the
-/// number 2, which has the second instrument.
+/// Two presets of bank 0 and number 0, of which the second is never selected, and one of bank 1 and number 2
+/// that uses the second instrument.
 const LAYERS: &[u8] = b"\
     add-sample 0 \"s\" 44100 60 0 mono noloop x\n\
     add-inst 0 \"i\" { 0 g 43 60..127 } { 0 } { 0 g 44 0..63 }\n\
@@ -17,7 +17,7 @@ const LAYERS: &[u8] = b"\
     add-preset 1 \"p\" 0 0 0 0 0 { 0 }\n\
     add-preset 2 \"p\" 2 1 0 0 0 { 1 }\n";
 
-/// The bank, the number, the key and the velocity of notes, with the pairs that they select.
+/// Bank and preset number, key and velocity of notes, with the pairs that they select.
 const SELECTED: [((u16, u16), (u8, u8), &[(u32, u32)]); 8] = [
     ((0, 0), (60, 64), &[(0, 1), (2, 0), (2, 1)]),
     ((0, 0), (62, 63), &[(2, 0), (2, 1), (2, 2)]),

@@ -1,4 +1,4 @@
-//! Worked frames of single voices.
+//! Tests of the frames of single voices, from parameters.
 ghost use Rattle.std.specs.Prelude.{◌≡◌, ◌≤◌, ◌*◌, ◌%◌, length};
 ghost use Rattle.voices.specs.Within.{AllWithin};
 
@@ -8,10 +8,10 @@ use std::test::Fail;
 use voices::{Voice, Workspace};
 use zone_select::VoiceParameters;
 
-/// 1000, 2000 and -2000.
+/// The points 1000, 2000 and -2000.
 const THREE: [u8; 6] = [0xe8, 0x03, 0xd0, 0x07, 0x30, 0xf8];
 
-// A voice of so many points at their own pitch, with no loop and no envelope.
+// A voice of `end` points at their own pitch, for `length` frames, without loop and envelope.
 fn plain(end: u32, length: u32) -> VoiceParameters {
     VoiceParameters {
         start: 0,
@@ -34,7 +34,7 @@ fn plain(end: u32, length: u32) -> VoiceParameters {
     }
 }
 
-// A voice that plays the three points from the second on in a loop, a fifth above their pitch.
+// A voice of the three points, looped from the second on, a fifth above their pitch.
 fn looped() -> VoiceParameters {
     let mut parameters = plain(3, 8);
     parameters.loop_start = 1;
@@ -44,7 +44,7 @@ fn looped() -> VoiceParameters {
     parameters
 }
 
-// The voice, where its parameters are within their ranges.
+// The voice over these points; `None` if a parameter is out of its range.
 fn voice_of<'a>(points: Points<'a>, parameters: VoiceParameters) -> Option<Voice<'a>> {
     let p = parameters;
     if p.end as usize > points.len() || p.step > 73_043_661 || p.pan < -500 || p.pan > 500 {
@@ -56,7 +56,7 @@ fn voice_of<'a>(points: Points<'a>, parameters: VoiceParameters) -> Option<Voice
     Some(Voice::of(points, parameters))
 }
 
-// The voice over these points, where its parameters are within their ranges.
+// The voice over the points in these bytes; `None` if a parameter is out of its range.
 fn voice_over<'a>(
     alloc: Global,
     points: &'a [u8],
@@ -76,7 +76,7 @@ fn plays(voice: &mut Voice, frames: &[(i32, i32)]) -> bool {
     true
 }
 
-// Whether the voice is over after these frames and no earlier, and silent from then on.
+// Whether the voice ends exactly after these frames and is silent from then on.
 fn ends_after(voice: &mut Voice, frames: &[(i32, i32)]) -> bool {
     for frame in frames {
         if voice.done() {
@@ -90,7 +90,7 @@ fn ends_after(voice: &mut Voice, frames: &[(i32, i32)]) -> bool {
     voice.done() && plays(voice, &[(0, 0), (0, 0)]) && voice.done()
 }
 
-// Sums with nothing in them.
+// Sums of silence.
 fn silence<const N: usize>() -> [i32; N]
     ensures room { AllWithin 65534 result }
     ensures length { length result ≡ N }
@@ -98,7 +98,7 @@ fn silence<const N: usize>() -> [i32; N]
     [0; N]
 }
 
-// Adds the next frames, where there are some.
+// Adds the next frames to the sums unless the voice has ended.
 fn add(voice: &mut Voice, sums: &mut [i32])
     requires even { length sums.old % 2 ≡ 0 }
     requires short { length sums.old ≤ 65536 }
@@ -109,7 +109,7 @@ fn add(voice: &mut Voice, sums: &mut [i32])
     }
 }
 
-// The same, of a voice in the middle to sums that both sides get.
+// As `add`, but adds a voice panned to the middle once, to `middle`.
 fn add_apart(voice: &mut Voice, sums: &mut [i32], middle: &mut [i32])
     requires sums { length sums.old ≡ 2 * length middle.old }
     requires short { length middle.old ≤ 1024 }
@@ -121,7 +121,7 @@ fn add_apart(voice: &mut Voice, sums: &mut [i32], middle: &mut [i32])
     }
 }
 
-// Both sides of a frame.
+// The left and the right sum of a frame.
 fn frame_of(sums: &[i32], frame: usize) -> Option<(i32, i32)> {
     if frame < sums.len() / 2 {
         Some((sums[2 * frame], sums[2 * frame + 1]))
@@ -130,7 +130,7 @@ fn frame_of(sums: &[i32], frame: usize) -> Option<(i32, i32)> {
     }
 }
 
-// Whether these are the frames, equal on both sides.
+// Whether the sums are these frames, equal on both sides.
 fn holds(sums: &[i32], frames: &[i32]) -> bool {
     if sums.len() / 2 != frames.len() {
         return false;
@@ -226,7 +226,7 @@ fn a_loop_that_the_notes_end_leaves(rt: HostRuntime) -> Result<(), Fail> {
     Ok(())
 }
 
-// A voice over seven points in three slices.
+// A voice over seven points in three slices; `None` if they cannot be joined.
 fn over_three_slices(alloc: Global) -> Result<Option<Voice<'static>>, Fail> {
     let mut points = Points::of_slice(alloc, &[0xb8, 0x0b, 0x60, 0xf0, 0x88, 0x13])?;
     let front = Points::of_slice(alloc, &[0xe8, 0x03, 0xd0, 0x07])?;

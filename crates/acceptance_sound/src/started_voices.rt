@@ -1,4 +1,4 @@
-//! The voices of pairs of zones, of banks that scripts build.
+//! Tests of `Voice::start` and `params`, on banks made by scripts.
 
 use crate::players::{Act, TEN, edits};
 use note_list::Note;
@@ -10,12 +10,12 @@ use voices::{Voice, VoiceFault};
 use worked_files::{empty, tone};
 use zone_select::params;
 
-/// A sample of the points 1000, 2000, -2000 with a loop from the second on, and one of one point.
+/// A sample of the points 1000, 2000 and -2000, looped from the second on; below, one of one point.
 pub(crate) const THREE: &[u8] = b"add-sample 0 \"t\" 44100 60 0 mono loop 1 3 xe803d00730f8\n";
 
 const ONE: &[u8] = b"add-sample 0 \"c\" 44100 60 0 mono loop 0 1 xe803\n";
 
-/// An instrument over the sample of one point whose notes have a release of 43 frames.
+/// An instrument of the sample of one point, with a release of 43 frames.
 const RELEASED: &[u8] = b"add-inst 0 \"i\" { 0 g 17 500 g 34 -11999 g 38 -11999 g 54 1 }\n";
 
 const PRESET: &[u8] = b"add-preset 0 \"p\" 0 0 0 0 0 { 0 }\n";
@@ -23,7 +23,7 @@ const PRESET: &[u8] = b"add-preset 0 \"p\" 0 0 0 0 0 { 0 }\n";
 /// The frames of a voice.
 type Frames<'a> = &'a [(i32, i32)];
 
-/// The file of the bank that a script makes of the empty one.
+/// The file of the bank that a script makes from the empty bank.
 pub(crate) fn made(alloc: Global, script: &[u8]) -> Result<Vec<u8>, Fail> {
     let mut out = Vec::new(alloc);
     let mut undo = Vec::new(alloc);
@@ -31,7 +31,7 @@ pub(crate) fn made(alloc: Global, script: &[u8]) -> Result<Vec<u8>, Fail> {
     Ok(out)
 }
 
-/// The file of a bank of a sample, an instrument and a preset of the numbers 0 and 0.
+/// The file of a bank with a sample, an instrument and preset 0 of bank 0.
 pub(crate) fn file_of(alloc: Global, sample: &[u8], instrument: &[u8]) -> Result<Vec<u8>, Fail> {
     let mut script = Vec::from_slice(alloc, sample)?;
     script.extend_from_slice(instrument)?;
@@ -39,13 +39,13 @@ pub(crate) fn file_of(alloc: Global, sample: &[u8], instrument: &[u8]) -> Result
     made(alloc, script.as_slice())
 }
 
-// The voice of the first zones of a file's bank, which is dropped once the voice is started.
+// The voice of the pair of the first zones. The bank is dropped after the start.
 fn started<'a>(alloc: Global, file: &'a [u8], note: &Note) -> Result<Voice<'a>, Fail> {
     let (bank, _counts) = read(alloc, file)?;
     Ok(Voice::start(alloc, &bank, note, (0, 0))?)
 }
 
-// All frames of a voice, one by one; at most 1000.
+// All frames of a voice, read one by one, at most 1000.
 fn frames_of(alloc: Global, mut voice: Voice<'_>) -> Result<Vec<(i32, i32)>, Fail> {
     let mut frames = Vec::new(alloc);
     for _ in 0..1000 {
@@ -57,8 +57,8 @@ fn frames_of(alloc: Global, mut voice: Voice<'_>) -> Result<Vec<(i32, i32)>, Fai
     Ok(frames)
 }
 
-/// Instruments over the sample of three points, a note's length and key, and its frames. Panned to one side, a voice
-/// has there its values as they are before the pan.
+/// Instruments of the sample of three points, length and key of a note, and its frames. A voice panned to one side has
+/// its values before panning there.
 const PLAYED: [(&[u8], (u32, u8), Frames<'static>); 7] = [
     (
         b"add-inst 0 \"i\" { 0 g 54 1 }\n",
@@ -147,8 +147,8 @@ fn worked_voices(rt: HostRuntime) -> Result<(), Fail> {
     Ok(())
 }
 
-/// Instruments over the sample of one point, all on the right: a note's length, how many frames it has if
-/// that is told, the loudest side that it may have, and the right sides of some frames.
+/// Instruments of the sample of one point, panned to the right: length of a note, number of its frames if known,
+/// the highest value on the right, and the right values of some frames.
 const ON_THE_RIGHT: [(&[u8], u32, Option<usize>, i32, &[(usize, i32)]); 3] = [
     // An attack and a release.
     (
@@ -166,7 +166,7 @@ const ON_THE_RIGHT: [(&[u8], u32, Option<usize>, i32, &[(usize, i32)]); 3] = [
             (92, 0),
         ],
     ),
-    // A note without length has its release.
+    // A note of length 0 plays its release.
     (RELEASED, 0, Some(43), 0, &[]),
     // A decay to a sustain.
     (
@@ -230,7 +230,7 @@ fn the_sample_and_the_mode_of_a_pair(rt: HostRuntime) -> Result<(), Fail> {
     Ok(())
 }
 
-// Whether a voice of T is refused since no such pair is there.
+// Whether starting a voice of `tone` is refused because the pair does not exist.
 fn is_refused(alloc: Global, pair: (u32, u32)) -> Result<bool, Fail> {
     let file = tone();
     let (bank, _counts) = read(alloc, file.bytes())?;
@@ -250,7 +250,7 @@ fn no_such_pair(rt: HostRuntime) -> Result<(), Fail> {
     Ok(())
 }
 
-// The frames of a voice over a sample whose points stand in three slices.
+// The frames of a voice over a sample whose points are in three slices.
 fn frames_over_three_slices(alloc: Global) -> Result<Vec<(i32, i32)>, Fail> {
     let file = file_of(alloc, TEN, b"add-inst 0 \"i\" { 0 }\n")?;
     let (mut bank, _counts) = read(alloc, file.as_slice())?;

@@ -1,4 +1,4 @@
-//! Worked values of the tables.
+//! Tests of values of the sound tables.
 
 use sound_tables::{frames, gain, pitch, step, velatt};
 

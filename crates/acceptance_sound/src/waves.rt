@@ -1,4 +1,4 @@
-//! Worked WAVE files, and writers that take no more.
+//! Tests of `write_wave` and `put_wave`, also with writers that fail.
 ghost use Rattle.std.specs.Prelude.{Some};
 ghost use Rattle.wave_file.specs.Wave.{FitsWave};
 
@@ -14,13 +14,13 @@ const FRAMES: [i16; 16] = [
     500, 500, 3, 3, 993, 993, -11, -11, -987, -987, 16, 16, 979, 979, -24, -24,
 ];
 
-/// The file of those frames.
+/// The WAVE file of those frames.
 pub(crate) const FILE: &[u8] =
     b"RIFF\x44\0\0\0WAVEfmt \x10\0\0\0\x01\0\x02\0\x44\xac\0\0\x10\xb1\x02\0\x04\0\x10\0\
 data\x20\0\0\0\xf4\x01\xf4\x01\x03\0\x03\0\xe1\x03\xe1\x03\xf5\xff\xf5\xff\x25\xfc\x25\xfc\x10\0\x10\0\
 \xd3\x03\xd3\x03\xe8\xff\xe8\xff";
 
-/// The file of no frame.
+/// The WAVE file without frames.
 const SILENCE: &[u8] =
     b"RIFF\x24\0\0\0WAVEfmt \x10\0\0\0\x01\0\x02\0\x44\xac\0\0\x10\xb1\x02\0\x04\0\x10\0\
 data\0\0\0\0";
@@ -48,7 +48,7 @@ fn a_file_after_another_text(rt: HostRuntime) {
     assert!(rt; out.as_slice().ends_with(FILE));
 }
 
-/// Samples of more than two pieces, each other than its neighbours.
+/// Samples that are written in more than two pieces; neighbours differ.
 fn many() -> [i16; 10_000] {
     let mut samples = [0; 10_000];
     for at in 0..10_000 {
@@ -72,7 +72,7 @@ fn a_long_file(rt: HostRuntime) {
     }
 }
 
-/// Takes so many bytes, a few at each call, and then no more.
+/// A writer that accepts `room` bytes, at most 1000 a call, and no more.
 #[derive(Drop)]
 struct Short {
     held: Vec<u8>,
@@ -94,7 +94,7 @@ impl Write for Short {
     }
 }
 
-/// What a writer with so much room holds after a file of samples, and the count of its fault.
+/// Writes the samples as a WAVE file to a writer with this room. Returns what it holds, and the count of the fault.
 fn cut_off(alloc: Global, samples: &[i16], room: usize) -> (Vec<u8>, Option<u64>)
     requires { FitsWave samples.now }
 {

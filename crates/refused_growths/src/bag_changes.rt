@@ -1,4 +1,4 @@
-//! The changes of bags that make no allocation.
+//! Changes of `Bags` that allocate nothing.
 ghost use Rattle.std.specs.Prelude.{◌<◌, ◌≤◌, ◌+◌, length, slice_get};
 ghost use Rattle.std.specs.Bool.{OnTrue};
 ghost use Rattle.std.specs.Option.{IsSomeAnd};
@@ -21,7 +21,7 @@ static OTHER: Modulator = Modulator {
     transform: 0,
 };
 
-/// One bag, with spare places for what is put in.
+/// One bag, with spare capacity for what `changes_bags` inserts.
 pub(crate) fn spare_bags(alloc: Global) -> Result<Bags, OutOfMemory> {
     let mut bags = Bags::new(alloc)?;
     let _ = put_bag(&mut bags, 0);
@@ -29,8 +29,8 @@ pub(crate) fn spare_bags(alloc: Global) -> Result<Bags, OutOfMemory> {
     Ok(bags)
 }
 
-/// Puts bags, generators and modulators into spare places, replaces some, exchanges both bags, and takes all but one
-/// bag out. Returns whether each list of records was as it has to be.
+/// Inserts a bag, generators and modulators within the spare capacity, replaces some, exchanges both bags, and removes
+/// one bag. Returns whether the lists of records were right.
 pub(crate) fn changes_bags(bags: &mut Bags) -> bool {
     grows(bags)
         && has(
@@ -55,7 +55,7 @@ fn shrinks(bags: &mut Bags) -> bool {
     cut_gens(bags, 0, 1) && cut_mods(bags, 0, 0) && set_bag(bags, 0) && cut_bag(bags, 1)
 }
 
-// Whether these are the records, with as many modulators as the last bag says.
+// Whether these are the records; the last bag holds the number of modulators.
 fn has(bags: &Bags, bag_records: &[(u16, u16)], gen_records: &[(u16, u16)]) -> bool {
     let Some((_, mods)) = bag_records.last() else {
         return false;
@@ -65,7 +65,7 @@ fn has(bags: &Bags, bag_records: &[(u16, u16)], gen_records: &[(u16, u16)]) -> b
         && bags.mod_count() == *mods as usize
 }
 
-// Each of these that puts something in asks for the places first: they are spare, so that takes no memory either.
+// Each function that inserts something first calls `reserve`, which allocates nothing within the spare capacity.
 
 fn put_bag(bags: &mut Bags, k: usize) -> bool {
     if bags.reserve(1, 2, 1).is_err() || bags.gen_count() > 100 || bags.mod_count() > 100 {
@@ -157,7 +157,7 @@ fn cut_bag(bags: &mut Bags, k: usize) -> bool {
     true
 }
 
-// Whether there is the bag, and it has so many generators.
+// Whether the bag exists and has at least `count` generators.
 fn has_gens(bags: &Bags, k: usize, count: usize) -> bool
     ensures { OnTrue result (IsSomeAnd (slice_get bags.now.bags k) (λ (b : Bag). count ≤ length b.gens)) }
 {
@@ -170,7 +170,7 @@ fn has_mods(bags: &Bags, k: usize, count: usize) -> bool
     k < bags.bag_count() && count <= bags.mods(k).len()
 }
 
-// Whether there is the bag, and it has a generator at the index.
+// Whether the bag exists and has a generator at index `j`.
 fn has_gen(bags: &Bags, k: usize, j: usize) -> bool
     ensures there { OnTrue result (IsSomeAnd (slice_get bags.now.bags k) (λ (b : Bag). j < length b.gens)) }
     ensures one { OnTrue result (IsSomeAnd (slice_get bags.now.bags k) (λ (b : Bag). j + 1 ≤ length b.gens)) }

@@ -1,4 +1,4 @@
-//! Whole runs over a bank, a read and a copy of it.
+//! Whole runs on a bank, and reading and copying it.
 use crate::outcome::Outcome;
 use bank_core::Bank;
 use sf_base::front_of;
@@ -50,7 +50,7 @@ pub(crate) static BANK: &[u8] = b"\
       \0\0\x01\0\
       EOS\0\0\0\0\0\0\0\0\0\0\0\0\0\0\0\0\0\0\0\0\0\0\0\0\0\0\0\0\0\0\0\0\0\0\0\0\0\0\0\0\0\0\0";
 
-// Holds what it is given without asking for memory.
+// A writer of at most 1000 bytes that allocates nothing.
 #[derive(Drop)]
 pub(crate) struct Fixed {
     held: [u8; 1000],
@@ -73,12 +73,12 @@ impl Write for Fixed {
 }
 
 impl Fixed {
-    // What it was given.
+    // The bytes written so far.
     pub(crate) fn text(&self) -> &[u8] {
         front_of(&self.held, self.len)
     }
 
-    // Whether it was given exactly this text.
+    // Whether exactly this text was written.
     pub(crate) fn has(&self, text: &[u8]) -> bool {
         self.text() == text
     }
@@ -91,7 +91,7 @@ pub(crate) fn fixed_writer() -> Fixed {
     }
 }
 
-/// Scripts, each with the undo text that takes it back.
+/// Scripts, each with its undo script.
 pub(crate) static EDITS: [(&[u8], &[u8]); 6] = [
     (b"rename-sample 0 \"sine\"\n", b"rename-sample 0 \"saw\"\n"),
     (
@@ -123,8 +123,8 @@ pub(crate) static EDITS: [(&[u8], &[u8]); 6] = [
     ),
 ];
 
-/// Runs a script, and its undo text on the written file, which gives the bank back and returns the
-/// script. Out of memory leaves no byte at either writer, and the run is made again.
+/// Runs a script, then its undo script on the written file: this restores the bank, and the undo script of that run is
+/// the script. A run that is out of memory writes nothing and is made again.
 pub(crate) fn edit_and_return(alloc: Global, script: &[u8], back: &[u8]) -> Outcome {
     let mut out = fixed_writer();
     let mut undo = fixed_writer();
@@ -136,7 +136,7 @@ pub(crate) fn edit_and_return(alloc: Global, script: &[u8], back: &[u8]) -> Outc
     there.and(returned).and(Outcome::done(right))
 }
 
-// Runs a script. Out of memory leaves no byte at either writer, and the run is made again.
+// Runs a script. A run that is out of memory writes nothing and is made again.
 pub(crate) fn edited(
     alloc: Global,
     file: &[u8],
@@ -153,8 +153,7 @@ pub(crate) fn edited(
     }
 }
 
-/// Writes the canonical file, which is the file. Out of memory leaves no byte, and the run is made
-/// again.
+/// Writes the canonical file, which is the file itself. A run that is out of memory writes nothing and is made again.
 pub(crate) fn canonical_run(alloc: Global) -> Outcome {
     let mut out = fixed_writer();
     match canon_run(alloc, BANK, &mut out) {
@@ -167,7 +166,7 @@ pub(crate) fn canonical_run(alloc: Global) -> Outcome {
     }
 }
 
-/// Lists the bank. Out of memory leaves no byte, and the run is made again.
+/// Lists the bank. A run that is out of memory writes nothing and is made again.
 pub(crate) fn listing_run(alloc: Global) -> Outcome {
     let mut out = fixed_writer();
     match show_run(alloc, BANK, &mut out) {
@@ -184,7 +183,7 @@ fn is_listing(out: &Fixed) -> bool {
     out.held[..].starts_with(b"bank 4 presets 1 instruments 1 samples 1 points 2\n".as_slice())
 }
 
-/// Plays two frames of a note. Out of memory leaves no byte, and the run is made again.
+/// Plays two frames of a note. A run that is out of memory writes nothing and is made again.
 pub(crate) fn playing_run(alloc: Global) -> Outcome {
     let notes = b"0 2 0 0 60 127\n";
     let mut out = fixed_writer();
@@ -202,7 +201,7 @@ fn is_wave(out: &Fixed) -> bool {
     out.len == 52 && out.held[..].starts_with(b"RIFF\x2c\0\0\0WAVE".as_slice())
 }
 
-/// Reads a file's bank. A refused read is made again.
+/// Reads a file's bank. A read that fails is made again.
 pub(crate) fn bank_of(alloc: Global, file: &[u8]) -> Option<(Bank<'_>, Outcome)> {
     match read(alloc, file) {
         Ok((bank, _counts)) => Some((bank, Outcome::Done)),
@@ -213,7 +212,7 @@ pub(crate) fn bank_of(alloc: Global, file: &[u8]) -> Option<(Bank<'_>, Outcome)>
     }
 }
 
-/// Reads a file's bank and copies it; the file is canonical. A refused copy is made again.
+/// Reads a bank from a canonical file and copies it. A copy that fails is made again.
 pub(crate) fn bank_copy(alloc: Global, file: &[u8]) -> Outcome {
     let Some((bank, outcome)) = bank_of(alloc, file) else {
         return Outcome::Wrong;
@@ -228,7 +227,7 @@ pub(crate) fn bank_copy(alloc: Global, file: &[u8]) -> Outcome {
     }
 }
 
-/// The file of a bank.
+/// The canonical file of a bank.
 pub(crate) fn file_of(bank: &Bank<'_>) -> Fixed {
     let mut out = fixed_writer();
     let _ = write(bank, &mut out);

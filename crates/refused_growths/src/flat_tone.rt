@@ -1,4 +1,4 @@
-//! T as the flat lists of its file.
+//! The bank `tone` as flat lists.
 use bank_core::{Flat, FlatHeads, Head, Kind, Recs, Sample, Texts};
 use linked_members::LinkedMembers;
 use modulators::Modulator;
@@ -9,7 +9,7 @@ use std::alloc::Global;
 
 static POINTS: [u8; 6] = [0xe8, 0x03, 0xd0, 0x07, 0x30, 0xf8];
 
-/// The modulator that ends a list.
+/// The terminal modulator of a list.
 static LAST: [Modulator; 1] = [Modulator {
     source: 0,
     dest: 0,
@@ -38,7 +38,7 @@ pub(crate) fn flat_tone(alloc: Global) -> Result<Flat<'static>, OutOfMemory> {
     })
 }
 
-/// The records of its instrument.
+/// The records of the instrument of `tone`.
 pub(crate) fn tone_records(alloc: Global) -> Result<Recs, OutOfMemory> {
     records(alloc, &[(0, 0), (2, 0)], &[(54, 1), (53, 0), (0, 0)])
 }

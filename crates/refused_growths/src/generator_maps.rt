@@ -1,4 +1,4 @@
-//! The calls of generators that may run out of memory.
+//! Calls of `GenMap` that may return out of memory.
 use crate::outcome::Outcome;
 use generators::GenMap;
 use std::alloc::Global;
@@ -27,7 +27,7 @@ pub(crate) fn generators_copy(alloc: Global) -> Outcome {
     }
 }
 
-// A map of all settings. A refused one leaves the map as it was, and is made again.
+// A map of all settings. A call that fails leaves the map as it was and is made again.
 fn all_set(alloc: Global) -> (GenMap, Outcome) {
     let mut gens = GenMap::new(alloc);
     let mut outcome = Outcome::Done;

@@ -1,9 +1,9 @@
-//! Makes each call that may return out of memory, and compares what it leaves.
+//! Makes each call that may return `OutOfMemory`, and checks that a failed call changes nothing.
 //!
-//! A check refuses one growth after the other. After a refusal a case compares every value that the
-//! call could have changed, makes the same call again, which has to succeed now, and compares what
-//! that gave. The exit status is 0 where no growth was refused, 6 where one was and all went well, and
-//! 1 where a value is wrong; and a line on the standard output says which.
+//! `checks/refused_growths` runs this program once for each of its allocations, and lets that one fail. After a
+//! failure a case compares every value that the call could have changed, makes the same call again, which must
+//! succeed, and compares its results. The exit status is 0 if no allocation failed, 6 if one failed and all values
+//! are right, and 1 if a value is wrong. One line on standard output states the result.
 #![tactic(auto)]
 
 mod bag_changes;

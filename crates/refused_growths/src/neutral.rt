@@ -1,4 +1,4 @@
-//! Neutral edits that may run out of memory, and the run of a script of such.
+//! Neutral edits, and runs of neutral scripts, that may be out of memory.
 use crate::banks::{BANK, Fixed, bank_of, edited, file_of, fixed_writer};
 use crate::outcome::Outcome;
 use bank_core::{Bank, Owner};
@@ -10,7 +10,7 @@ use sf_base::Name20;
 use sfbank::{RunFault, Unheard, neutral_run};
 use std::alloc::Global;
 
-// Takes the bank for one of two instruments of one zone: the second one's has a range of its own.
+// Makes a bank of two instruments with one zone each. The second instrument's zone has a key range of its own.
 static SCRIPT: &[u8] = b"\
     remove-preset 0\n\
     remove-inst 0\n\
@@ -20,11 +20,11 @@ static SCRIPT: &[u8] = b"\
 #[derive(Clone, Copy)]
 enum Call {
     Rename,
-    // The zone of the instrument of this number is split.
+    // Splits the zone of the instrument with this number.
     Split(u32),
 }
 
-// Calls, each with the script that does the same, and with the one that takes it back.
+// Calls, each with the script that does the same and with its undo script.
 static CALLS: [(Call, &[u8], &[u8]); 3] = [
     (
         Call::Rename,
@@ -43,8 +43,8 @@ static CALLS: [(Call, &[u8], &[u8]); 3] = [
     ),
 ];
 
-/// Does neutral edits, and takes them back. When out of memory, one leaves the bank and the edit as they
-/// were, and is made again.
+/// Does and undoes neutral edits. An edit that is out of memory leaves the bank and the edit as they were and is made
+/// again.
 pub(crate) fn neutral_walk(alloc: Global) -> Outcome {
     let mut file = fixed_writer();
     let mut undo = fixed_writer();
@@ -55,7 +55,7 @@ pub(crate) fn neutral_walk(alloc: Global) -> Outcome {
     outcome
 }
 
-// Does an edit of a file's bank, as the script does it and as it is; then as a run.
+// Does an edit of a file's bank as a script, as a value, and as a neutral run.
 fn called(alloc: Global, file: &[u8], call: Call, line: &[u8], back: &[u8]) -> Outcome {
     let mut out = fixed_writer();
     let mut undo = fixed_writer();
@@ -72,7 +72,7 @@ fn called(alloc: Global, file: &[u8], call: Call, line: &[u8], back: &[u8]) -> O
         .and(run(alloc, file, line, out.text(), back))
 }
 
-// Does an edit of a bank, which is that of a file afterwards, and takes it back.
+// Applies an edit to a bank, compares it with the file `edited`, and undoes the edit.
 fn there_and_back<'a>(
     alloc: Global,
     bank: &mut Bank<'a>,
@@ -92,8 +92,8 @@ fn there_and_back<'a>(
     there.and(returned).and(Outcome::done(right && restored))
 }
 
-// Does an edit that is neutral, and again where memory was wanting; gives what takes it back. None where
-// it is not neutral or is refused.
+// Applies a neutral edit, and again if it was out of memory. Returns its inverse; `None` if the edit is not neutral or
+// is refused.
 fn done<'a>(alloc: Global, bank: &mut Bank<'a>, edit: Edit<'a>) -> Option<(Edit<'a>, Outcome)> {
     if !is_neutral(&edit) {
         return None;
@@ -147,8 +147,8 @@ fn edit_of(call: Call) -> Option<Edit<'static>> {
     }
 }
 
-// Runs a neutral script, which gives this file and this undo text. Out of memory leaves no byte at
-// either writer, and the run is made again.
+// Runs a neutral script and compares the file and the undo script. A run that is out of memory writes nothing and is
+// made again.
 fn run(alloc: Global, file: &[u8], script: &[u8], edited: &[u8], back: &[u8]) -> Outcome {
     let mut out = fixed_writer();
     let mut undo = fixed_writer();

@@ -1,4 +1,4 @@
-//! The calls that make no allocation, made while each allocation fails.
+//! Calls that allocate nothing, made while every allocation fails.
 use crate::bag_changes::{changes_bags, spare_bags};
 use crate::banks::{BANK, file_of};
 use crate::flat_tone::{flat_tone, tone_records};
@@ -16,11 +16,11 @@ use voices::Voice;
 use worked_files::tone;
 use zone_select::{matches, params};
 
-/// More bytes than there are. In a run of the check that is made for these calls, a request for so many has each
-/// allocation fail from there on, up to the next such request.
+/// More bytes than any machine has. In one run of `checks/refused_growths`, a request for this many makes every
+/// allocation fail until the next such request.
 const TOO_MANY: usize = 1 << 62;
 
-/// Makes them. When out of memory before them, all is made again.
+/// Makes the calls. If preparing them is out of memory, all is done again.
 pub(crate) fn calls_without_memory(alloc: Global) -> Outcome {
     let file = tone();
     match all_calls(alloc, file.bytes()) {
@@ -32,8 +32,8 @@ pub(crate) fn calls_without_memory(alloc: Global) -> Outcome {
     }
 }
 
-// Makes what the calls need, and then makes the calls between two requests for more bytes than there are. Returns
-// whether each value was right.
+// Prepares the values that the calls need, then makes the calls between two requests for `TOO_MANY` bytes. Returns
+// whether each result is right.
 fn all_calls(alloc: Global, tone: &[u8]) -> Result<bool, OutOfMemory> {
     let mut requests = Vec::from_slice(alloc, &[0u8])?;
     let bank = bank_in(alloc, BANK)?;
@@ -68,7 +68,7 @@ fn bank_in(alloc: Global, file: &[u8]) -> Result<Bank<'_>, OutOfMemory> {
     }
 }
 
-// The getters of a bank's members.
+// The getters of presets, instruments, samples and texts.
 fn tells_members(bank: &Bank<'_>) -> bool {
     let lists = [List::Presets, List::Instruments, List::Samples];
     bank.minor() == 4
@@ -89,7 +89,7 @@ fn tells_members(bank: &Bank<'_>) -> bool {
         && bank.sample(1).is_none()
 }
 
-// The getters of its zones.
+// The getters of zones.
 fn tells_zones(bank: &Bank<'_>) -> bool {
     let (preset, instrument) = (Owner::Preset(0), Owner::Inst(0));
     bank.zone_count(preset) == Some(2)
@@ -106,7 +106,7 @@ fn tells_zones(bank: &Bank<'_>) -> bool {
         && bank.mod_at(preset, Place::Global, 0).is_none()
 }
 
-// The getters of its records.
+// The getters of records.
 fn tells_records(bank: &Bank<'_>) -> bool {
     let at = Level::Inst;
     let parts = [Part::Heads, Part::Bags, Part::Gens, Part::Mods];
@@ -123,7 +123,7 @@ fn tells_records(bank: &Bank<'_>) -> bool {
         && bank.mod_rec(at, 4).is_none()
 }
 
-// The pairs that a note selects of a bank, and the numbers of T's one pair.
+// The pairs that a note selects, and the parameters of the only pair of `tone`.
 fn selects(bank: &Bank<'_>, tone_bank: &Bank<'_>, note: &Note) -> bool {
     let mut pairs = matches(bank, note);
     pairs.next() == Some((0, 0))
@@ -137,7 +137,7 @@ fn selects(bank: &Bank<'_>, tone_bank: &Bank<'_>, note: &Note) -> bool {
         })
 }
 
-// All frames of T's voice.
+// All frames of the voice on `tone`.
 fn sounds(voice: &mut Voice<'_>) -> bool {
     for frame in 0..8 {
         let (left, right) = voice.next_frame();
@@ -150,7 +150,7 @@ fn sounds(voice: &mut Voice<'_>) -> bool {
     voice.done()
 }
 
-// A block of T's frames in two parts, and a long one of silence.
+// The frames of the note on `tone` in two blocks, then a long block of silence.
 fn plays(player: &mut Player<'_>) -> bool {
     let mut front = [0; 6];
     player.block(&mut front);

@@ -1,23 +1,23 @@
-//! How a case ended.
+//! The outcome of a case.
 
-/// How a case ended.
+/// The outcome of a case.
 #[derive(Clone, Copy)]
 pub(crate) enum Outcome {
-    /// No growth was refused, and each value is right.
+    /// No allocation failed, and each value is right.
     Done,
-    /// A growth was refused and nothing was changed; made again, the call did its work.
+    /// An allocation failed and nothing was changed; the same call made again succeeded.
     Refused,
-    /// A value is wrong, or the call made again was refused too.
+    /// A value is wrong, or the call made again failed too.
     Wrong,
 }
 
 impl Outcome {
-    /// Without a refusal.
+    /// The outcome without a failed allocation.
     pub(crate) fn done(right: bool) -> Outcome {
         if right { Outcome::Done } else { Outcome::Wrong }
     }
 
-    /// After a refusal.
+    /// The outcome after a failed allocation.
     pub(crate) fn refused(right: bool) -> Outcome {
         if right {
             Outcome::Refused
@@ -26,7 +26,7 @@ impl Outcome {
         }
     }
 
-    /// Of two cases one after the other.
+    /// The outcome of both cases together: the worse one.
     pub(crate) fn and(self, other: Outcome) -> Outcome {
         match (self, other) {
             (Outcome::Wrong, _) | (_, Outcome::Wrong) => Outcome::Wrong,

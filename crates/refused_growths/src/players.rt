@@ -1,4 +1,4 @@
-//! The calls of players that may run out of memory, with edits of the bank between them.
+//! Calls of `Player` that may return out of memory, with edits of the bank between them.
 use crate::banks::{BANK, bank_of, edited, file_of, fixed_writer};
 use crate::outcome::Outcome;
 use bank_core::{Bank, Owner, Place};
@@ -11,8 +11,8 @@ use sample_view::Points;
 use std::alloc::Global;
 use worked_files::tone;
 
-// Takes the bank for one whose instrument has two zones that play 1000 in a loop, up to key 100: one of
-// an exclusive class, on both sides, and one on the right.
+// Makes a bank whose instrument has two zones that play the point 1000 in a loop, up to key 100: one with an exclusive
+// class, in the middle, and one on the right.
 static SCRIPT: &[u8] = b"\
     remove-preset 0\n\
     remove-inst 0\n\
@@ -24,7 +24,7 @@ static SCRIPT: &[u8] = b"\
 // The sample's point.
 static POINT: [u8; 2] = [0xe8, 0x03];
 
-/// The sides of T's note, the left and the right of each frame in turn.
+/// The frames of the note on `tone`, left and right in turn.
 pub(crate) static TONE_SIDES: [i16; 16] = [
     500, 500, 3, 3, 993, 993, -11, -11, -987, -987, 16, 16, 979, 979, -24, -24,
 ];
@@ -32,22 +32,22 @@ pub(crate) static TONE_SIDES: [i16; 16] = [
 #[derive(Clone, Copy)]
 enum Call {
     Start,
-    // A note starts whose key no zone holds.
+    // Starts a note whose key is in no zone's range.
     Outside,
-    // A note starts whose preset isn't there.
+    // Starts a note whose preset does not exist.
     Absent,
-    // The first zone plays on the left.
+    // Pans the first zone to the left.
     Left,
-    // The sample has its point twice more, each in a slice of its own.
+    // Adds the sample's point twice more, each in a slice of its own.
     Longer,
-    // The sample has its point once, after it had it five times.
+    // Trims the sample from five points to one.
     Shorter,
-    // The first zone is taken out.
+    // Removes the first zone.
     Fewer,
 }
 
-// Calls, each with what is heard after it on the left and on the right. A start silences the first zone
-// of the note before it, as long as it has that zone itself; a note without zones changes nothing.
+// Calls, each with the left and the right sample of all frames after it. A start silences the first zone of the note
+// before it, if the new note plays that zone itself; a note without zones changes nothing.
 static CALLS: [(Call, i16, i16); 12] = [
     (Call::Start, 500, 1500),
     (Call::Left, 500, 1500),
@@ -63,8 +63,8 @@ static CALLS: [(Call, i16, i16); 12] = [
     (Call::Absent, 1000, 4000),
 ];
 
-/// Starts notes and edits their bank in turn, and hears a block after each. When out of memory, a call
-/// leaves the player and the bank as they were, and is made again.
+/// Starts notes and edits their bank in turn, and compares a block after each. A call that is out of memory leaves the
+/// player and the bank as they were and is made again.
 pub(crate) fn player_walk(alloc: Global) -> Outcome {
     let mut file = fixed_writer();
     let mut undo = fixed_writer();
@@ -83,8 +83,8 @@ pub(crate) fn player_walk(alloc: Global) -> Outcome {
     outcome
 }
 
-/// Starts T's note, and edits T while it plays; the note started again is silent. When out of memory, a call leaves the
-/// player and the bank as they were, and is made again.
+/// Starts a note on `tone` and edits the bank while it plays; the note started again is silent. A call that is out of
+/// memory leaves the player and the bank as they were and is made again.
 pub(crate) fn tone_player_walk(alloc: Global) -> Outcome {
     let file = tone();
     let Some(note) = Note::new(0, 8, 0, 0, 67, 127) else {
@@ -111,7 +111,7 @@ pub(crate) fn tone_player_walk(alloc: Global) -> Outcome {
         .and(heard)
 }
 
-// Starts a note, and again where memory was wanting. What was then started is heard in the next block.
+// Starts a note, and again if it was out of memory. A voice started by the failed call would show in the next block.
 fn begun<'a>(alloc: Global, player: &mut Player<'a>, bank: &Bank<'a>, note: &Note) -> Outcome {
     match player.start(alloc, bank, note) {
         Ok(()) => Outcome::Done,
@@ -119,7 +119,7 @@ fn begun<'a>(alloc: Global, player: &mut Player<'a>, bank: &Bank<'a>, note: &Not
     }
 }
 
-// Makes an edit, and again where memory was wanting; till then the bank is as it was.
+// Applies an edit, and again if it was out of memory, after comparing the bank with what it was.
 fn edited_once<'a>(alloc: Global, bank: &mut Bank<'a>, step: Step<'a>) -> Outcome {
     let file = file_of(bank);
     match apply(alloc, bank, Edit::One(step)) {
@@ -132,7 +132,7 @@ fn edited_once<'a>(alloc: Global, bank: &mut Bank<'a>, step: Step<'a>) -> Outcom
     }
 }
 
-// Whether the next block has these sides; at most 16.
+// Whether the next block has these samples, at most 16.
 fn plays(player: &mut Player<'_>, sides: &[i16]) -> bool {
     let mut out = [0; 16];
     if sides.len() > out.len() || sides.len() % 2 != 0 {
@@ -143,7 +143,7 @@ fn plays(player: &mut Player<'_>, sides: &[i16]) -> bool {
     &*block == sides
 }
 
-// Makes a call, and again where memory was wanting; till then the player is heard as before.
+// Makes a call, and again if it was out of memory, after comparing the player's frames with those before.
 fn called<'a>(
     alloc: Global,
     player: &mut Player<'a>,
@@ -194,7 +194,7 @@ fn applied<'a>(
     }
 }
 
-// Whether the next four frames are all this one.
+// Whether the next four frames are all this frame.
 fn gives(player: &mut Player<'_>, heard: (i16, i16)) -> bool {
     let (left, right) = heard;
     let mut out = [0; 8];
@@ -202,7 +202,7 @@ fn gives(player: &mut Player<'_>, heard: (i16, i16)) -> bool {
     out == [left, right, left, right, left, right, left, right]
 }
 
-// The note that a call starts; none for an edit.
+// The note that a call starts; `None` for an edit.
 fn note_of(call: Call) -> Option<Note> {
     let (number, key) = match call {
         Call::Start => (0, 60),
@@ -213,7 +213,7 @@ fn note_of(call: Call) -> Option<Note> {
     Note::new(0, 1000, 0, number, key, 127)
 }
 
-// What a call does to the bank; none for a start.
+// The edit of a call; `None` for a start.
 fn step_of(alloc: Global, call: Call) -> Option<Step<'static>> {
     let owner = Owner::Inst(0);
     match call {

@@ -1,4 +1,4 @@
-//! The calls of points that may run out of memory.
+//! Calls of `Points` that may return out of memory.
 use crate::outcome::Outcome;
 use sample_view::Points;
 use std::alloc::Global;
@@ -7,7 +7,7 @@ static FILE: [u8; 30] = [
     1, 0, 2, 0, 3, 0, 4, 0, 5, 0, 6, 0, 7, 0, 8, 0, 9, 0, 10, 0, 11, 0, 12, 0, 13, 0, 14, 0, 15, 0,
 ];
 
-// The points that the file spells.
+// The points in the file.
 static POINTS: [i16; 15] = [1, 2, 3, 4, 5, 6, 7, 8, 9, 10, 11, 12, 13, 14, 15];
 
 pub(crate) fn points_join(alloc: Global) -> Outcome {
@@ -25,7 +25,7 @@ pub(crate) fn points_narrow(alloc: Global) -> Outcome {
     outcome.and(narrowed(alloc, &mut points))
 }
 
-// All points of the file, three in a slice, so that a copy and each part of a cut need memory.
+// All points of the file in five slices of three, so that a copy and each part of a `narrow` allocate.
 fn in_five_slices(alloc: Global) -> (Points<'static>, Outcome) {
     let mut points = slice(alloc, &FILE[12..18]);
     let inner = joined(
@@ -50,7 +50,7 @@ fn slice(alloc: Global, bytes: &'static [u8]) -> Points<'static> {
     }
 }
 
-// Joins, where the three lists have these points.
+// Joins. A join that fails must leave the three lists as they were, with the points `want`, and is made again.
 fn joined(
     points: &mut Points<'static>,
     front: Points<'static>,
@@ -83,7 +83,7 @@ fn copied(alloc: Global, points: &Points<'static>) -> Outcome {
     }
 }
 
-// Cuts four points off each end of all points, and joins them again.
+// Takes four points off each end of all points, and joins them again.
 fn narrowed(alloc: Global, points: &mut Points<'static>) -> Outcome {
     if points.len() != 15 {
         return Outcome::Wrong;
@@ -100,7 +100,7 @@ fn narrowed(alloc: Global, points: &mut Points<'static>) -> Outcome {
     }
 }
 
-// Joins the parts of that cut to what it left.
+// Joins what was taken off to the rest.
 fn rejoined(
     points: &mut Points<'static>,
     front: Points<'static>,

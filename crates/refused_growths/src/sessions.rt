@@ -1,4 +1,4 @@
-//! The calls of sessions that may run out of memory.
+//! Calls of `Session` that may return out of memory.
 use crate::banks::{BANK, Fixed, bank_of, file_of, fixed_writer};
 use crate::outcome::Outcome;
 use bank_core::{InfoId, Owner};
@@ -26,10 +26,10 @@ enum Call {
     Redo,
 }
 
-// A call, why it is refused if it is, and the number of edits to undo after it.
+// A call, its refusal if it is refused, and the length of the undo list after it.
 type Called = (Call, Option<Refusal>, usize);
 
-// Calls on T.
+// Calls on `tone`.
 static TONE_CALLS: [Called; 8] = [
     (Call::Undo, Some(Refusal::NothingToUndo), 0),
     (Call::Edit(Change::Rename), None, 1),
@@ -41,7 +41,7 @@ static TONE_CALLS: [Called; 8] = [
     (Call::Redo, Some(Refusal::NothingToRedo), 1),
 ];
 
-// Calls on the other bank, which give it back.
+// Calls on `BANK`, which restore it.
 static CALLS: [Called; 20] = [
     (Call::Undo, Some(Refusal::NothingToUndo), 0),
     (Call::Edit(Change::Rename), None, 1),
@@ -65,21 +65,21 @@ static CALLS: [Called; 20] = [
     (Call::Undo, Some(Refusal::NothingToUndo), 0),
 ];
 
-/// Makes twenty calls of a session, and the same of its twin. They give the first bank back. When out of
-/// memory, a call leaves the session as it was, and is made again.
+/// Makes twenty calls of a session and of a second, equal one. They restore the first bank. A call that is out of
+/// memory leaves the session as it was and is made again.
 pub(crate) fn session_walk(alloc: Global) -> Outcome {
     walked(alloc, BANK, &CALLS, BANK, b"")
 }
 
-/// Makes eight calls of a session on T in the same way. They leave T with a title, and one edit to undo.
+/// Makes eight calls of a session on `tone` in the same way. They leave a bank name set, and one edit to undo.
 pub(crate) fn tone_session_walk(alloc: Global) -> Outcome {
     let titled = tone().patched(&[(60, b'x')]);
     let back = b"set-info INAM \"\"\n";
     walked(alloc, tone().bytes(), &TONE_CALLS, titled.bytes(), back)
 }
 
-// Makes calls of a session on a file's bank, and the same of its twin. They lead to the bank of the last file, with this
-// text as the undo list.
+// Makes calls of a session on a file's bank, and of a second, equal session. In the end the bank is that of `last` and
+// the undo list has the text `back`.
 fn walked(alloc: Global, file: &[u8], calls: &[Called], last: &[u8], back: &[u8]) -> Outcome {
     let Some((bank, read)) = bank_of(alloc, file) else {
         return Outcome::Wrong;
@@ -98,8 +98,8 @@ fn walked(alloc: Global, file: &[u8], calls: &[Called], last: &[u8], back: &[u8]
     outcome.and(Outcome::done(right))
 }
 
-// Makes a call of a session, and again where memory was wanting; till then it is as its twin, of which
-// the call is made afterwards.
+// Makes a call of the session, and again if it was out of memory, after comparing the session with its twin. Then makes
+// the same call of the twin.
 fn called(
     alloc: Global,
     session: &mut Session<'_>,
@@ -117,7 +117,7 @@ fn called(
     outcome.and(followed(alloc, twin, call, refusal))
 }
 
-// Makes a call of the twin, and again where memory was wanting.
+// Makes a call of the twin, and again if it was out of memory.
 fn followed(
     alloc: Global,
     twin: &mut Session<'_>,
@@ -130,7 +130,7 @@ fn followed(
     }
 }
 
-// Whether two sessions are alike, also in what there is to redo: both go to the last bank, and return.
+// Whether two sessions are equal, with their redo lists: compares them while all edits are redone and undone again.
 fn are_alike(alloc: Global, one: &mut Session<'_>, other: &mut Session<'_>) -> bool {
     let undos = one.undo_list().len();
     let alike = stand_alike(one, other);
@@ -139,8 +139,8 @@ fn are_alike(alloc: Global, one: &mut Session<'_>, other: &mut Session<'_>) -> b
     alike && forth && back
 }
 
-// Goes to the last bank of two sessions. Returns whether both stood alike all the way: no more calls
-// were made than this.
+// Redoes all edits of both sessions. Returns whether they were equal after each; there are no more edits than calls in
+// `CALLS`.
 fn go_forth(alloc: Global, one: &mut Session<'_>, other: &mut Session<'_>) -> bool {
     let mut alike = true;
     for _ in CALLS {
@@ -150,7 +150,7 @@ fn go_forth(alloc: Global, one: &mut Session<'_>, other: &mut Session<'_>) -> bo
     alike
 }
 
-// Goes back to where so many edits are left to undo. Returns whether both stood alike all the way.
+// Undoes edits of both sessions until `undos` edits remain to undo. Returns whether they were equal after each.
 fn go_back(alloc: Global, one: &mut Session<'_>, other: &mut Session<'_>, undos: usize) -> bool {
     let mut alike = true;
     for _ in CALLS {
@@ -176,7 +176,7 @@ fn back_of(session: &Session<'_>) -> Fixed {
     out
 }
 
-// Makes a call, and returns why it was refused, if it was.
+// Makes a call and returns its refusal, if it is refused.
 fn made(
     alloc: Global,
     session: &mut Session<'_>,
@@ -216,7 +216,7 @@ fn rename() -> Result<Edit<'static>, OutOfMemory> {
     }
 }
 
-// A group that takes out the zone of the instrument, and then the sample that it plays.
+// A group that removes the zone of the instrument, then the sample it uses.
 fn emptying(alloc: Global) -> Result<Edit<'static>, OutOfMemory> {
     let mut steps = Vec::new(alloc);
     steps.push(Step::Zone(Owner::Inst(0), ZoneStep::RemoveZone { zone: 0 }))?;
@@ -238,7 +238,7 @@ fn moved(answer: Result<(), Refusal>) -> Result<Option<Refusal>, OutOfMemory> {
     }
 }
 
-// Why a call was refused, or that memory was wanting.
+// The refusal of a call, or `OutOfMemory`.
 fn refused(why: Refusal) -> Result<Option<Refusal>, OutOfMemory> {
     match why {
         Refusal::OutOfMemory => Err(OutOfMemory),

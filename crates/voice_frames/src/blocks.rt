@@ -1,4 +1,4 @@
-//! Voices in blocks, and frame by frame.
+//! Plays a voice in blocks, and compares a block with single frames.
 ghost use Rattle.std.specs.Prelude.{◌≡◌, ◌*◌, ◌≤◌, ◌%◌, length};
 ghost use Rattle.voices.specs.Within.{AllWithin};
 
@@ -9,14 +9,14 @@ use std::alloc::Global;
 use std::io;
 use voices::{Voice, Workspace};
 
-/// The most frames of a block.
+/// The largest number of frames of a block.
 pub(crate) const MOST: usize = 1024;
 
-/// The frames of a voice, if whole blocks have as many.
+/// The number of frames to play of a voice, rounded down to whole blocks.
 pub(crate) const FRAMES: u64 = 65536;
 
-/// Plays a voice in blocks of so many frames, adds these up, and returns a sum over that; 0 where there
-/// is no such voice.
+/// Plays a voice in blocks of `block` frames, adds these up, and returns a checksum of the sums; 0 if there are too few
+/// points.
 pub(crate) fn play(
     alloc: Global,
     points: &Points,
@@ -39,7 +39,7 @@ pub(crate) fn play(
     Ok(folded(&sums[..2 * block]))
 }
 
-/// Whether the frames of a block are those that come one by one.
+/// Whether the frames of a block equal the frames read one by one.
 pub(crate) fn is_as_single_frames(
     alloc: Global,
     points: &Points,
@@ -70,7 +70,7 @@ fn no_memory(_error: OutOfMemory) -> io::Error {
     io::Error::from(io::ErrorKind::OutOfMemory)
 }
 
-// Sums with nothing in them.
+// Sums of silence.
 fn silence<const N: usize>() -> [i32; N]
     ensures room { AllWithin 0 result }
     ensures length { length result ≡ N }
@@ -78,7 +78,7 @@ fn silence<const N: usize>() -> [i32; N]
     [0; N]
 }
 
-// Adds so many blocks of a voice to the same sums.
+// Adds `blocks` blocks of a voice to the same sums.
 fn add_blocks(voice: &mut Voice, blocks: u64, work: &mut Workspace, sums: &mut [i32])
     requires fresh { voice.old.age ≡ 0 }
     requires few { blocks ≤ 65534 }
@@ -91,7 +91,7 @@ fn add_blocks(voice: &mut Voice, blocks: u64, work: &mut Workspace, sums: &mut [
     }
 }
 
-// One number for all sums and their order.
+// A checksum of the sums that depends on their order.
 fn folded(sums: &[i32]) -> u64 {
     let mut sum: u64 = 0;
     for k in 0..sums.len() {

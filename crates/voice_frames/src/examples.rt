@@ -1,4 +1,4 @@
-//! The voices that are played, and their sample.
+//! The measured voices and their sample.
 ghost use Rattle.std.specs.Prelude.{◌≡◌, ◌≤◌, ℕ, length, IfSome};
 ghost use Rattle.zone_select.specs.Playable.{IsPlayable};
 
@@ -7,10 +7,10 @@ use std::alloc::{AllocError, Global};
 use voices::Voice;
 use zone_select::VoiceParameters;
 
-/// How many points the sample has.
+/// The number of points of the sample.
 const POINTS: u32 = 65536;
 
-/// The frames of a phase, somewhat more than are played.
+/// The frames of a phase, more than are played.
 const PHASE: u32 = 70000;
 
 /// A phase of an envelope.
@@ -22,7 +22,7 @@ pub(crate) enum Phase {
     Release,
 }
 
-/// A voice that is played: looped or not, and all along in one phase.
+/// A measured voice: looped or not, in one phase of its envelope all the time.
 #[derive(Debug, Clone, Copy, PartialEq, Eq)]
 pub(crate) struct Example {
     pub(crate) looped: bool,
@@ -33,7 +33,7 @@ pub(crate) struct Example {
 pub(crate) const PHASES: [Phase; 4] = [Phase::Attack, Phase::Decay, Phase::Sustain, Phase::Release];
 
 impl Example {
-    /// What it is called.
+    /// The name to print.
     pub(crate) fn name(self) -> &'static str {
         match (self.looped, self.phase) {
             (true, Phase::Attack) => "looped-attack",
@@ -47,8 +47,8 @@ impl Example {
         }
     }
 
-    /// The voice in its first frame, which begins elsewhere in each of 64 rounds; none where the points
-    /// are too few.
+    /// The voice before its first frame. It starts at another point in each of 64 rounds. `None` if there are too
+    /// few points.
     pub(crate) fn voice<'a>(self, points: Points<'a>, round: u32) -> Option<Voice<'a>>
         ensures { IfSome result (λ v. v.age ≡ 0) }
     {
@@ -84,7 +84,7 @@ fn parameters(example: Example, round: u32) -> VoiceParameters
     }
 }
 
-/// The bytes of the sample.
+/// The points of the sample as bytes.
 pub(crate) fn sample_bytes(alloc: Global) -> Result<Vec<u8>, AllocError> {
     let mut bytes = Vec::new(alloc);
     for i in 0..POINTS {

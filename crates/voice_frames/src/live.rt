@@ -1,4 +1,4 @@
-//! Notes that are played as they are in live play: all at once, block by block.
+//! Plays notes as in a live session: all together, block by block.
 ghost use Rattle.std.specs.Prelude.{◌≤◌};
 
 use crate::blocks::MOST;
@@ -8,7 +8,7 @@ use sf_reader::read;
 use std::alloc::Global;
 use std::io;
 
-/// A player that has started all notes of a text on a file's bank.
+/// A player that has started all notes of a note list on a file's bank.
 pub(crate) fn player_of<'a>(alloc: Global, file: &'a [u8], notes: &[u8]) -> io::Result<Player<'a>> {
     let Ok((bank, _counts)) = read(alloc, file) else {
         return Err(io::Error::from(io::ErrorKind::InvalidData));
@@ -25,7 +25,7 @@ pub(crate) fn player_of<'a>(alloc: Global, file: &'a [u8], notes: &[u8]) -> io::
     Ok(player)
 }
 
-/// Plays so many blocks, and returns a sum over the last frames of all.
+/// Plays `blocks` blocks, and returns a checksum of the first sample of each.
 pub(crate) fn play_blocks(player: &mut Player, block: usize, blocks: u64) -> u64
     requires { block ≤ MOST }
 {

@@ -1,11 +1,13 @@
-//! Plays voices in blocks, each of them all along in one phase of its envelope.
+//! Measures how fast voices play. Each measured voice stays in one phase of its envelope.
 //!
-//! Without a word it compares a block with single frames. With a number it plays each voice so many
-//! times, and prints its name, a sum over what it played, its frames, and the nanoseconds that they
-//! took; a second number says of how many frames its blocks are, 512 without it. `scripts/voice_frames.c`
-//! prints the same of the same voices in blocks of 512. With the paths of a bank and of a list of notes
-//! it prints how many frames the voices of all notes have; with a number behind them it starts all notes
-//! at once, plays ten seconds in blocks of so many frames, and prints what it prints of a voice.
+//! Arguments:
+//! - none: compares a block of each voice with single frames.
+//! - ROUNDS [BLOCK]: plays each voice ROUNDS times in blocks of BLOCK frames (512 if not given), and prints its
+//!   name, a checksum, the number of frames, and the nanoseconds. `scripts/voice_frames.c` prints the same of the
+//!   same voices in blocks of 512.
+//! - BANK NOTES: prints the number of frames of all voices of the notes.
+//! - BANK NOTES BLOCK: starts all notes together, plays ten seconds in blocks of BLOCK frames, and prints `live`,
+//!   a checksum, the number of frames, and the nanoseconds.
 #![tactic(auto)]
 
 ghost use Rattle.std.specs.Prelude.{◌≤◌};
@@ -23,13 +25,13 @@ use sample_view::Points;
 use std::time::Instant;
 use std::{env, fs, io};
 
-/// The fewest frames of a block.
+/// The smallest number of frames of a block.
 const LEAST: usize = 16;
 
-/// The frames of a block that no word tells.
+/// The frames of a block if no argument gives them.
 const USUAL: usize = 512;
 
-/// The frames of live play.
+/// The frames of ten seconds of live play.
 const LIVE: u64 = 441000;
 
 fn main(rt: HostRuntime) -> io::Result<()> {
@@ -54,7 +56,7 @@ fn main(rt: HostRuntime) -> io::Result<()> {
     }
 }
 
-// The frames of a block that a word tells.
+// The frames of a block that an argument gives, in `LEAST..=MOST`; `USUAL` if it is no number.
 fn frames_of(word: &str) -> usize
     ensures { (16 ≤ result) × (result ≤ MOST) }
 {

@@ -1,4 +1,4 @@
-//! The frames that the voices of a list of notes have.
+//! Counts the frames of all voices of a note list.
 
 use bank_core::Bank;
 use note_list::{Note, parse_notes};
@@ -8,8 +8,8 @@ use std::io;
 use voices::Voice;
 use zone_select::matches;
 
-/// How many frames the voices of a text's notes have on a file's bank, each until it is over. That an
-/// exclusive class silences a voice earlier is not looked at.
+/// The number of frames of all voices of the notes on a file's bank, each counted to its end. Exclusive classes, which
+/// may silence a voice earlier, are ignored.
 pub(crate) fn voice_frames(alloc: Global, file: &[u8], notes: &[u8]) -> io::Result<u64> {
     let Ok((bank, _counts)) = read(alloc, file) else {
         return Err(io::Error::from(io::ErrorKind::InvalidData));

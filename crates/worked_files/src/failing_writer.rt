@@ -6,23 +6,23 @@ use std::alloc::Global;
 use std::io;
 use std::io::{ErrorKind, Write};
 
-/// A number that no call has.
+/// For `fails_at`: no call fails.
 pub const NEVER: usize = usize::MAX;
 
-/// How a write fails: by an error, or by taking no byte.
+/// How a write fails: with an error, or by accepting no byte.
 #[derive(Clone, Copy)]
 pub enum WriteFailure {
     Error,
     TakesNone,
 }
 
-/// Takes at most `bite` bytes a call, and fails from the call numbered `fails_at` on, counted from 0; its
-/// flush fails where `flushes` is false.
+/// A writer that accepts at most `bite` bytes a call, and fails from call `fails_at` on, counted from 0. Its flush
+/// fails if `flushes` is false.
 #[derive(Drop)]
 pub struct FailingWriter {
     pub held: Vec<u8>,
     pub flushes: bool,
-    /// How many calls took bytes.
+    /// The number of calls that accepted bytes.
     pub calls: usize,
     pub failed: bool,
     bite: usize,
@@ -31,7 +31,7 @@ pub struct FailingWriter {
 }
 
 impl FailingWriter {
-    /// One that holds nothing yet, and whose flush does not fail.
+    /// A writer that holds nothing yet and whose flush succeeds.
     pub fn new(
         alloc: Global,
         bite: usize,

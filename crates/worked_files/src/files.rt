@@ -1,8 +1,8 @@
-//! The files that the tests read, and their changes.
+//! Files that tests read, and changes of them.
 
 use sf_base::{front_of, rest_from};
 
-/// A place in a file, and the byte that stands there now.
+/// A position in a file, and the new byte there.
 pub type Patch = (usize, u8);
 
 /// A file of at most 1,024 bytes.
@@ -20,8 +20,8 @@ impl File {
         }
     }
 
-    /// The file of these words: `'abc` stands for the text `abc`, `*3` for three zeros, and every
-    /// other word is bytes in hex digits.
+    /// The file of these words: `'abc` is the text `abc`, `*3` is three zero bytes, and every other word is
+    /// bytes in hexadecimal digits.
     pub fn of(words: &str) -> File {
         let mut file = File::new();
         for word in words.split_ascii_whitespace() {
@@ -62,7 +62,7 @@ impl File {
         }
     }
 
-    /// The file with other bytes at some places.
+    /// The file with some bytes replaced.
     pub fn patched(&self, patches: &[Patch]) -> File {
         let mut file = *self;
         for (at, byte) in patches {
@@ -73,8 +73,8 @@ impl File {
         file
     }
 
-    /// The file with changes, made one after the other and parted by `;`: each is a place, the number
-    /// of bytes that are taken out there, and the words that are put in.
+    /// The file after these changes, separated by `;`. Each is a position, the number of bytes to remove there,
+    /// and the words to insert.
     pub fn edited(&self, changes: &str) -> File {
         let mut file = *self;
         for change in changes.split(';') {
@@ -89,7 +89,7 @@ impl File {
         file
     }
 
-    /// The file with so many bytes taken out at a place, and others put in.
+    /// The file with `out` bytes at position `at` replaced by `bytes`.
     pub fn with(&self, at: usize, out: usize, bytes: &[u8]) -> File {
         let mut file = File::new();
         file.add(front_of(self.bytes(), at));
@@ -130,7 +130,7 @@ fn saw_head() -> File {
     File::of("'saw *17 00000000 02000000 00000000 00000000 44ac0000 3c 00 0000 0100")
 }
 
-/// S1, the bank of the sample `saw` of the points 1 and -2: 450 bytes.
+/// S1, the bank with the sample `saw` of the points 1 and -2: 450 bytes.
 pub fn saw() -> File {
     let points = File::of("0100feff *92");
     let sizes = [
@@ -150,7 +150,7 @@ pub fn saw() -> File {
 /// Gives the sample a name of 20 bytes.
 pub const RENAME: &[u8] = b"rename-sample 0 \"ABCDEFGHIJKLMNOPQRST\"\n";
 
-/// Takes it back.
+/// The undo script of `RENAME`.
 pub const RENAME_BACK: &[u8] = b"rename-sample 0 \"saw\"\n";
 
 /// S1 with a name of 20 bytes.
@@ -158,14 +158,14 @@ pub fn renamed_saw() -> File {
     saw().with(358, 20, b"ABCDEFGHIJKLMNOPQRST")
 }
 
-/// A file of the RIFF size, the texts that all examples have, and these words.
+/// A file with this RIFF size, the texts that all examples have, and these words.
 fn file_of(size: &str, words: &str) -> File {
     let lists = File::of(words);
     let front = empty().with(4, 4, File::of(size).bytes());
     front.with(62, 246, lists.bytes())
 }
 
-/// T, the preset `p` over the instrument `i` over the looped sample `t`: 532 bytes.
+/// T, the preset `p` of the instrument `i` of the looped sample `t`: 532 bytes.
 pub fn tone() -> File {
     file_of(
         "0c020000",
@@ -183,8 +183,8 @@ pub fn tone() -> File {
     )
 }
 
-/// The bank of two presets and three instruments, with global zones, modulators, and an instrument
-/// without zones, over the sample `t`: 720 bytes.
+/// A bank of two presets, three instruments and the sample `t`, with global zones, modulators, and an instrument
+/// without zones: 720 bytes.
 pub fn wide() -> File {
     file_of(
         "c8020000",

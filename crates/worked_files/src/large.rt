@@ -4,7 +4,7 @@ use crate::files::{empty, tone};
 use sf_base::{front_of, part_of, rest_from};
 use std::alloc::{AllocError, Global};
 
-/// A file with a piece put in at a place, so many times, and these size fields then.
+/// The file with `piece` inserted `times` times at position `at`, and then these size fields set.
 fn grown(
     alloc: Global,
     file: &[u8],
@@ -32,7 +32,8 @@ fn put_size(file: &mut Vec<u8>, at: usize, size: usize) {
     }
 }
 
-/// The empty bank's file with so many zero records before the one of a list.
+/// The empty bank's file with `count` zero records inserted before the terminal of one list. `size` is the position of
+/// the list's size field, `record` the length of a record.
 pub fn with_more(
     alloc: Global,
     size: usize,
@@ -56,7 +57,7 @@ pub fn with_more(
     )
 }
 
-/// T whose sample stands so many times over the same 49,954 points, and whose preset has a target.
+/// T with `samples` copies of its sample header, all of the same 49,954 points, and this target of its preset.
 pub fn many_points(alloc: Global, samples: usize, target: u8) -> Result<Vec<u8>, AllocError> {
     let more = samples.saturating_mul(46);
     let long = tone().patched(&[(320, target), (464, 0x22), (465, 0xc3)]);

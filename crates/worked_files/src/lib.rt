@@ -1,4 +1,4 @@
-//! The files that the tests read, and a writer that fails.
+//! Files that tests read, and a writer that fails.
 #![tactic(auto)]
 
 mod failing_writer;
