@@ -1,4 +1,4 @@
-# The banks that the checks begin with, as bytes, and changes of their bytes.
+# Banks of the checks as bytes, and changes of bytes.
 package Banks;
 use strict;
 use warnings;
@@ -14,7 +14,7 @@ our $EMPTY = <<'WORDS';
 'inst =22 'EOI *19 'ibag =4 *4 'imod =10 *10 'igen =4 *4 'shdr =46 'EOS *43
 WORDS
 
-# The other banks: the length of the file, and the script that makes it of the empty bank.
+# The other banks: the length of the file, and the script that makes it from the empty bank.
 our %SCRIPTS = (
     saw => [450, 'add-sample 0 "saw" 44100 60 0 mono noloop x0100feff'],
     tone => [
@@ -47,8 +47,8 @@ our %SCRIPTS = (
     ],
 );
 
-# The bytes of words: `'abc` stands for the text `abc`, `*3` for three zeros, `=300` for a number of 32
-# bits, and every other word is bytes in hex digits. A word behind which `^N` stands counts N times.
+# Returns the bytes of words: `'abc` is the text `abc`, `*3` three zero bytes, `=300` a number of 32 bits, and every
+# other word is bytes in hexadecimal digits. A word followed by `^N` counts N times.
 sub bytes_of {
     my ($words) = @_;
     return join '', map { word_bytes($_) } split ' ', $words;
@@ -61,8 +61,8 @@ sub word_bytes {
     return $bytes x $times;
 }
 
-# Bytes with changes, which `;` parts, made one after the other: each is a place, the number of bytes that
-# are taken out there, and the words that are put in.
+# Returns bytes after changes, separated by `;` and made in order: each is a position, the number of bytes to remove
+# there, and the words to insert.
 sub changed {
     my ($bytes, $changes) = @_;
     for my $change (split /;/, $changes) {

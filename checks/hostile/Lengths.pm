@@ -1,5 +1,5 @@
-# Inputs that are longer than a file is at most, the longest file, inputs and sounds that memory does not hold,
-# and paths that no file has: each ends by its line, with no output. The long files have holes, and take no room.
+# Tests inputs longer than the longest file, the longest file, inputs and sounds that do not fit in memory, and paths
+# that no file can have: each run ends with its line and no output. The long files are sparse.
 package Lengths;
 use strict;
 use warnings;
@@ -8,7 +8,7 @@ use Runs;
 use Exporter 'import';
 our @EXPORT = qw(try_lengths);
 
-# The longest file that is read: the largest size that its head can say, and the eight bytes before that.
+# The length of the longest file: the largest size that a RIFF header can hold, and its eight bytes.
 my $most = 4_294_967_295 + 8;
 my $long_path = 'p' x 5_000;
 
@@ -28,7 +28,7 @@ sub make_inputs {
     tell('a bank of a million voices', $run->{wrong} // ($run->{status} ? $run->{line} : undef));
 }
 
-# The empty bank's file behind a chunk that nothing reads, the last pad byte of which is not there.
+# Writes the empty bank's file after an unknown chunk, without the last pad byte.
 sub put_longest {
     my ($empty) = @_;
     my $lists = substr $empty, 12;
@@ -41,19 +41,19 @@ sub put_longest {
     truncate 'longest', $most or die "longest: $!\n";
 }
 
-# Runs of the shell: the program is `$0`, and `$1` a path. Each with its status and what is told.
+# Shell commands: the program is `$0`, and `$1` a path. Each with its status and its line.
 my @shells = (
-    # Too long by a byte, and without an end.
+    # Too long by a byte, and endless.
     ['"$0" canon over out', 5, 'file fault over'],
     ['"$0" apply empty /dev/zero out undo', 5, 'file fault /dev/zero'],
     ['"$0" apply --neutral empty /dev/zero out undo', 5, 'file fault /dev/zero'],
     ['"$0" play empty /dev/zero out', 5, 'file fault /dev/zero'],
-    # A fault of IN comes before what another input is.
+    # A fault of IN is reported before other inputs are read.
     ['"$0" apply none over out undo', 5, 'file fault none'],
     ['"$0" play none over out', 5, 'file fault none'],
     # The longest file.
     ['"$0" canon longest back && cmp back empty', 0],
-    # What memory does not hold.
+    # Too large for memory.
     ['ulimit -v 1000000; "$0" canon over out', 6, 'out of memory'],
     ['ulimit -v 1000000; "$0" show longest', 6, 'out of memory'],
     ['ulimit -v 200000; "$0" show /dev/zero', 6, 'out of memory'],

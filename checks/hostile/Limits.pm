@@ -1,5 +1,5 @@
-# Banks that have as much as a bank can, of each of the seven limits: an edit that would go past it is refused
-# by its name, and edits that don't are undone to the byte.
+# Tests banks at each of the seven limits: an edit that would exceed the limit is refused with its name, and other edits
+# are done and undone byte for byte.
 package Limits;
 use strict;
 use warnings;
@@ -13,8 +13,8 @@ my $sample = 'add-sample 0 "s" 44100 60 0 mono noloop x';
 my $inst = 'add-inst 0 "i"';
 my $preset = 'add-preset 0 "p" 0 0 0 0 0';
 
-# Of each bank: the limit, the lines that make it of the empty bank, the edits that are refused, and the
-# scripts that are undone.
+# Returns for each bank: the limit, the lines that make it from the empty bank, the edits that are refused, and the
+# scripts that are done and undone.
 sub full_banks {
     return (
         ['samples', [map { "add-sample $_ \"\" 0 0 0 mono noloop x" } 0 .. $most - 1],
@@ -31,7 +31,7 @@ sub full_banks {
     );
 }
 
-# A preset or an instrument of the most zones, generators and modulators.
+# The same for presets or instruments at the limits of zones, generators and modulators.
 sub full_levels {
     my ($owner, $add, @first) = @_;
     return (
@@ -47,14 +47,14 @@ sub full_levels {
     );
 }
 
-# What is wrong with a script that has to be done on a bank and undone.
+# Returns what is wrong with a script that must be done on a bank and undone, or undef.
 sub is_undone {
     my ($bank, $script) = @_;
     my $run = apply_text($bank, $script, 'out', 'undo');
     return $run->{wrong} // ($run->{status} ? $run->{line} : undone($bank));
 }
 
-# What is wrong with an edit that a limit has to refuse.
+# Returns what is wrong with an edit that must be refused for a limit, or undef.
 sub is_full {
     my ($bank, $edit, $limit) = @_;
     my $run = apply_text($bank, $edit, 'out', 'undo');
@@ -73,7 +73,7 @@ sub try_bank {
     tell("$name: $_", is_undone('full', $_)) for @$taken;
 }
 
-# A file of so many samples, each over the same 49,954 points, but that the first begins at a place.
+# Returns a file of samples that all have the same 49,954 points; the first begins at a given point.
 sub of_many_points {
     my ($samples, $start) = @_;
     my $points = pack 'v*', map { $_ * 7919 & 0xffff } 1 .. 49_954;
@@ -85,11 +85,11 @@ sub of_many_points {
     return $file;
 }
 
-# Whether two runs write the same to /dev/stdout, a file of a gigabyte.
+# Returns whether two runs write the same gigabyte to /dev/stdout.
 sub write_the_same { my ($one, $other) = @_; return system('bash', '-c', "cmp -s <($one) <($other)") == 0; }
 
-# The most points: the files that go out have a gigabyte, and so they are compared as they come. What the edited
-# bank is written as, a small file says too.
+# Tests the limit of points. The outputs have a gigabyte, so they are compared while they are written; the edited bank
+# is compared with a file made as the edit would make it.
 sub try_points {
     my $program = program_of_runs();
     write_bytes('most', of_many_points(10_000, 0));

@@ -1,5 +1,5 @@
-# Scripts of neutral edits by seeds, as scripts/make_neutral makes them of some banks: `apply --neutral` does each, and
-# undoes it to the byte; and notes of all presets give the same WAVE file before it and behind it.
+# Tests random neutral scripts that scripts/make_neutral makes for some banks: `apply --neutral` does and undoes each
+# byte for byte, and notes of all presets render identically before and after it.
 package Neutral;
 use strict;
 use warnings;
@@ -10,7 +10,7 @@ our @EXPORT = qw(try_neutral_seeds);
 
 my $seeds = 40;
 
-# Puts the listing of a bank, and the script that puts its presets and instruments in, which the makers read.
+# Writes the listing of a bank, and the script that adds its presets and instruments, for scripts/make_neutral.
 sub take_apart {
     my ($bank) = @_;
     my $shown = run(['show', $bank], 'listing');
@@ -27,7 +27,7 @@ sub play {
     return $run->{wrong} // ($run->{status} ? $run->{line} : undef);
 }
 
-# What is wrong with the script of a seed on a bank.
+# Returns what is wrong with the script of a seed on a bank, or undef.
 sub wrong_of_script {
     my ($maker, $bank, $seed) = @_;
     system("$maker 40 listing content $seed > neutral") and return 'scripts/make_neutral failed';
@@ -37,7 +37,7 @@ sub wrong_of_script {
     return play('out', 'again.wave') // (same('wave', 'again.wave') ? undef : 'sounds otherwise') // undone($bank);
 }
 
-# Tries all seeds on canonical banks, with the folder of the makers.
+# Tests all seeds on canonical banks; the first argument is the folder of the generators.
 sub try_neutral_seeds {
     my ($scripts, @banks) = @_;
     for my $bank (@banks) {

@@ -1,5 +1,5 @@
-# The tables of files, scripts, lists of notes and recordings beside this file, row by row; and that they meet each fault,
-# each refusal and each count that there is.
+# Tests the tables of files, scripts, note lists and recordings in this folder row by row, and that together they have
+# each fault, each refusal and each count.
 package Rows;
 use strict;
 use warnings;
@@ -8,26 +8,26 @@ use Runs;
 use Exporter 'import';
 our @EXPORT = qw(try_rows);
 
-# What the rows met: numbers of faults and refusals, and counts.
+# The faults, refusals and counts that rows had.
 my %met;
 
-# The rows of a table: its parts between `|`, without the blanks around them.
+# Returns the rows of a table: the parts between `|`, without the blanks around them.
 sub rows_of {
     my ($path) = @_;
     return map { [split /\s*\|\s*/, $_, -1] } grep { /^[^#]/ } split /\s*\n/, read_bytes($path) // die "$path: $!\n";
 }
 
-# What is wrong with a run that has to end by this part of a line.
+# Returns what is wrong with a run whose line must end with this text, or undef.
 sub ends_by {
     my ($run, $part) = @_;
     $met{$1}++ if $run->{line} =~ /(?:fault|refused) (\d+)/;
     return $run->{wrong} // (index($run->{line}, $part) < 0 ? "'$run->{line}' instead of $part" : undef);
 }
 
-# What is wrong with a run that has to be done.
+# Returns what is wrong with a run that must be done, or undef.
 sub is_done { my ($run) = @_; return $run->{wrong} // ($run->{status} ? $run->{line} : undef); }
 
-# The line of counts of a listing.
+# Returns the line of counts of a listing.
 sub counts_line {
     my ($counts) = @_;
     my %counted = split ' ', $counts;
@@ -35,7 +35,7 @@ sub counts_line {
     return join ' ', 'counts', map { "$_ " . ($counted{$_} // 0) } qw(texts sm24 zones gens ranges loops links);
 }
 
-# What is wrong with a file that has to come to this canonical file, with these counts.
+# Returns what is wrong with a file that must have this canonical file and these counts, or undef.
 sub reads_as {
     my ($canonical, $counts) = @_;
     write_bytes('want', $canonical);
@@ -57,7 +57,7 @@ sub try_file {
     tell("$bank with $changes", $wrong);
 }
 
-# Each front of a file: NotRiff while its first four bytes are cut, and Truncated then.
+# Tests each proper prefix of a file: NotRiff for less than four bytes, else Truncated.
 sub try_fronts {
     for my $bank (qw(empty saw tone)) {
         my $whole = read_bytes($bank);
@@ -89,7 +89,7 @@ sub play {
     return run_command(['play', $bank, 'notes', $out], $out eq '/dev/null' ? () : $out);
 }
 
-# The WAVE file of these frames.
+# Returns the WAVE file of these frames.
 sub wave {
     my ($frames) = @_;
     return pack('a4Va8VvvVVvva4V', 'RIFF', 36 + length $frames, 'WAVEfmt ', 16, 1, 2, 44_100, 176_400, 4, 16, 'data', length $frames) . $frames;
@@ -108,7 +108,7 @@ sub try_notes {
     tell("$notes on $bank", $wrong);
 }
 
-# What is too long for a table.
+# Tests what is too long for a table.
 sub try_long {
     tell('65,535 notes', is_done(play('tone', "0 1 0 1 60 1\n" x 65_535, 'out')));
     tell('65,535 notes that sound at one frame', is_done(play('tone', "0 1 0 0 60 127\n" x 65_535, 'out')));
@@ -138,7 +138,7 @@ sub try_long {
     }
 }
 
-# What is wrong with a script that has to be done on the tone, and taken back by this text.
+# Returns what is wrong with a script that must be done on `tone` with this undo script, or undef.
 sub is_undone {
     my ($script, $undo) = @_;
     my $wrong = is_done(apply_text('tone', $script, 'out', 'undo'));
@@ -154,7 +154,7 @@ sub try_groups {
     tell('48 is met by a row', $met{48} ? undef : 'it is not');
 }
 
-# Neutral edits, whose way back is neutral too.
+# Tests neutral edits, whose inverses must be neutral too.
 sub try_neutral {
     my ($here) = @_;
     local @Runs::flags = ('--neutral');
@@ -168,7 +168,7 @@ sub try_long_line {
     tell($name, ends_by(apply_text('tone', $script, 'out', 'undo'), ": $line\n"));
 }
 
-# Imports of the WAVE file of a sample, with changes.
+# Tests an import of the WAVE file of a sample, with changes.
 sub try_recording {
     my ($changes, $answer) = @_;
     write_bytes('in.wav', changed(read_bytes('tone.wav'), $changes));
@@ -183,7 +183,7 @@ sub try_recordings {
     try_recording(@$_) for rows_of("$here/recordings");
 }
 
-# That each fault, refusal and count was met.
+# Tests that each fault, refusal and count was in some row.
 sub try_met {
     for (sort(keys %Runs::FAULTS, grep { /^\d+$/ } keys %Runs::REFUSALS), qw(texts sm24 zones gens ranges loops links)) {
         tell("$_ is met by a row", $met{$_} ? undef : 'it is not');

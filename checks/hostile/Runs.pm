@@ -1,5 +1,5 @@
-# Runs of the program in a folder, and what holds of each: it ends by itself, with a status, the line
-# that goes with it, and no output but where it is done.
+# Runs the program in a folder and checks what holds for each run: it ends by itself, with an exit status, the line for
+# that status, and no output unless it is done.
 package Runs;
 use strict;
 use warnings;
@@ -9,7 +9,7 @@ use Starter;
 use Exporter 'import';
 our @EXPORT = qw(program_that_was_built run_in program_of_runs run run_command is_right tell totals canon apply apply_text knows_groups same undone);
 
-# The faults and refusals, by their numbers.
+# The names of faults and refusals, by number.
 our %FAULTS = (
     1 => 'NotRiff', 2 => 'NotSfbk', 3 => 'Truncated', 4 => 'MissingList', 5 => 'MissingChunk', 6 => 'Version',
     7 => 'RecordSize', 8 => 'NoTerminal', 9 => 'BagOrder', 10 => 'IndexOutside', 11 => 'BadInstrument',
@@ -26,16 +26,16 @@ our %REFUSALS = (
 );
 
 my ($program, $folder);
-# What each run has in its environment beside what the check has there.
+# Environment variables of each run beside those of the check.
 our %settings;
-# What stands behind `apply` in each run of it.
+# The flags of each `apply`.
 our @flags;
-# What stands before each line that is told.
+# The prefix of each printed line.
 our $prefix = 'hostile';
 my ($passed, $failed) = (0, 0);
 
-# The program that SFBANK names; else the one that the gate left, which is proved and built where it is older than a
-# source of the folder above all others.
+# Returns the program that SFBANK names, else the one that the gate left in this checkout, which is proved and built if
+# a source is newer.
 sub program_that_was_built {
     my ($top) = @_;
     return abs_path($ENV{SFBANK}) if $ENV{SFBANK};
@@ -45,7 +45,7 @@ sub program_that_was_built {
     return $made;
 }
 
-# The program that all runs are of, and the folder in which they are.
+# Sets the program and the folder of all runs.
 sub run_in {
     ($program, $folder) = @_;
     chdir $folder or die "$folder: $!\n";
@@ -54,7 +54,7 @@ sub run_in {
 
 sub program_of_runs { return $program; }
 
-# Counts what was tried, and shows what went wrong with it: the first twenty.
+# Counts a case, and prints what is wrong with it, for the first twenty.
 sub tell {
     my ($name, $wrong) = @_;
     if (!defined $wrong) { $passed++; return; }
@@ -63,8 +63,8 @@ sub tell {
 
 sub totals { return ($passed, $failed); }
 
-# Runs the program on words; its standard output is the file `printed`, or what is given. Answers what the
-# run was: its words, its status, the signal that ended it, the seconds that it computed, its line of errors.
+# Runs the program with these arguments; its standard output is the file `printed`, or the one given. Returns the run:
+# its arguments, exit status, signal, processor seconds, and what it wrote to standard error.
 sub run {
     my ($words, $output) = @_;
     my ($status, $seconds) = started($program, $words, \%settings, '/dev/null', $output // 'printed', 'errors');
@@ -74,7 +74,7 @@ sub run {
     };
 }
 
-# The status that goes with a line of errors; none where no such line is told.
+# Returns the exit status for a line on standard error; undef if the program has no such line.
 sub status_of {
     my ($line) = @_;
     return 0 if $line eq '';
@@ -93,7 +93,7 @@ sub is_cause {
     return $REFUSALS{$cause} || $cause =~ /^(\d+) (\w+)$/ && ($REFUSALS{$1} // '') eq $2;
 }
 
-# What is wrong with a run, whatever it was on: nothing of it, or words. `bytes` is what it read and wrote.
+# Returns what is wrong with a run of any kind, or undef. `bytes` is the number of bytes that it read and wrote.
 sub is_right {
     my ($run, $bytes) = @_;
     return "$run->{words}: ended by signal $run->{signal}" if $run->{signal};
@@ -105,8 +105,8 @@ sub is_right {
     return;
 }
 
-# How long a run computes: where it is over the limit it is tried four times more and the least counts, since a
-# busy machine counts waiting too.
+# Returns the processor seconds of a run. If they are over the limit the run is repeated up to four times and the least
+# counts, since other processes on the machine can slow it down.
 sub least_seconds {
     my ($run, $limit) = @_;
     my $seconds = $run->{seconds};
@@ -118,8 +118,8 @@ sub least_seconds {
     return $seconds;
 }
 
-# Runs a command that makes files, which are not there before; and answers the run with what is wrong: as
-# above, or a file that is there after a fault.
+# Removes the output files, runs a command that makes them, and returns the run with what is wrong: as above, or an
+# output file that exists after a fault.
 sub run_command {
     my ($words, @made) = @_;
     die 'a file to be made is elsewhere' if grep { m{/} } @made;
@@ -136,18 +136,18 @@ sub run_command {
 sub canon { my ($in, $out) = @_; return run_command(['canon', $in, $out], $out); }
 sub apply { my ($in, $script, $out, $undo) = @_; return run_command(['apply', @flags, $in, $script, $out, $undo], $out, $undo); }
 
-# The same for the text of a script.
+# The same with a script given as text.
 sub apply_text {
     my ($in, $text, $out, $undo) = @_;
     write_bytes('script', $text);
     return apply($in, 'script', $out, $undo);
 }
 
-# Whether the program has groups of edits.
+# Returns whether the program has groups of edits.
 sub knows_groups { return !apply_text('empty', 'group', 'out', 'undo')->{status}; }
 
-# What is wrong with the way back from `out` by `undo`: it gives the canonical file `in` back, and the way
-# back from there gives `out` and `undo`.
+# Returns what is wrong with undoing `out` by `undo`, which must restore the canonical file `in`, and whose own undo
+# must give `out` and `undo`; or undef.
 sub undone {
     my ($in) = @_;
     for (['out', 'undo', 'back', 'again', $in], ['back', 'again', 'out.again', 'undo.again', 'out']) {

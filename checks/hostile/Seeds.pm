@@ -1,5 +1,5 @@
-# Files, scripts and lists of notes by seeds, as scripts/make_hostile makes them of some banks: the canonical file
-# of an accepted file is its own, and is listed alike; each accepted script is undone to the byte.
+# Tests random files, scripts and note lists that scripts/make_hostile makes from some banks: the canonical file of an
+# accepted file is canonical and has the same listing; each accepted script is undone byte for byte.
 package Seeds;
 use strict;
 use warnings;
@@ -8,16 +8,16 @@ use Runs;
 use Exporter 'import';
 our @EXPORT = qw(try_seeds try_accepted);
 
-# How many of each kind have to be accepted at least of those that the seeds of the gate make.
+# The smallest number of each kind to be accepted with the seeds of the gate.
 our %floors = (files => 800, edge => 50, wild => 500, both => 250, notes => 1300);
 
 my @banks;
 our %done;
 
-# A listing without its line of counts.
+# Returns a listing without its line of counts.
 sub without_counts { return $_[0] =~ s/^counts.*\n//mr; }
 
-# What is wrong with a hostile file.
+# Returns what is wrong with the run on a hostile file, or undef.
 sub wrong_of_file {
     my ($file) = @_;
     my $run = canon($file, 'fixed');
@@ -34,7 +34,7 @@ sub wrong_of_file {
     return $again->{wrong} // (!$again->{status} && same('fixed', 'again') ? undef : 'the canonical file is not its own');
 }
 
-# What is wrong with a script on a file whose canonical file is given.
+# Returns what is wrong with a script on a file whose canonical file is given, or undef.
 sub wrong_of_script {
     my ($kind, $file, $canonical, $script) = @_;
     my $run = apply($file, $script, 'out', 'undo');
@@ -43,7 +43,7 @@ sub wrong_of_script {
     return undone($canonical);
 }
 
-# What is wrong with notes on a file: the sizes in a WAVE file are those of the file.
+# Returns what is wrong with notes on a file, or undef: the sizes in the WAVE file must be those of the file.
 sub wrong_of_notes {
     my ($file, $notes) = @_;
     my $run = run_command(['play', $file, $notes, 'wave'], 'wave');
@@ -64,7 +64,7 @@ sub wrong_of_seed {
         // wrong_of_notes(-e 'fixed' ? "seeds/$seed.sf2" : $bank, "seeds/$seed.notes");
 }
 
-# Tries so many seeds from one on, with a maker of their files and the banks that it makes them of.
+# Tests `count` seeds from one on, with the generator of their files and its banks.
 sub try_seeds {
     my ($maker, $first, $count, @from) = @_;
     for my $number (0 .. $#from) {
@@ -82,7 +82,7 @@ sub try_seeds {
     }
 }
 
-# That so many of what those seeds made were accepted that it says something.
+# Tests that enough of the files of those seeds were accepted.
 sub try_accepted {
     for my $kind (sort keys %floors) {
         my $count = $done{$kind} // 0;

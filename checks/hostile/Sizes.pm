@@ -1,5 +1,5 @@
-# Inputs of sizes that a program might give up at: a run that has memory for them is done. A contract can't say so,
-# since out of memory may come at any time.
+# Tests inputs of sizes at which a program might fail: with enough memory each run is done. A contract can't state that,
+# since any allocation may fail.
 package Sizes;
 use strict;
 use warnings;
@@ -10,14 +10,14 @@ our @EXPORT = qw(try_sizes);
 
 my $sample = 'add-sample 0 "s" 44100 60 0 mono loop 0 2 x00100020';
 
-# What is wrong with a script that has to be done on a bank and undone.
+# Returns what is wrong with a script that must be done on a bank and undone, or undef.
 sub is_done {
     my ($bank, @lines) = @_;
     my $run = apply_text($bank, join("\n", @lines), 'out', 'undo');
     return $run->{wrong} // ($run->{status} ? $run->{line} : undone($bank));
 }
 
-# Each minor version, whose bank is read and written.
+# Tests that a bank of each minor version is read and written.
 sub try_versions {
     for my $minor (0 .. 16, 255, 256, 65_535) {
         my $run = run_command(['new', '--minor', $minor, 'version'], 'version');
@@ -27,7 +27,7 @@ sub try_versions {
     }
 }
 
-# Lists of so many members and zones, which are read, edited, written and listed.
+# Tests that banks of many members and zones are read, edited, written and listed.
 sub try_counts {
     for my $count (1, 2, 64, 65, 256, 1_000, 32_768, 39_999 .. 40_001) {
         my @lines = ($sample, 'add-inst 0 "i"' . ' { 0 }' x $count, map { "add-sample $_ \"\" 0 0 0 mono noloop x" } 1 .. $count);
@@ -40,7 +40,7 @@ sub try_counts {
     }
 }
 
-# A note of so many voices sounds as as many notes of one voice.
+# Tests that a note of many voices renders like as many notes of one voice.
 sub try_voices {
     for my $count (1, 2, 63 .. 66, 100, 128, 1_000) {
         my ($one, $many) = map { 'add-inst 0 "i"' . ' { 0 g 54 1 }' x $_ } 1, $count;
@@ -57,7 +57,7 @@ sub try_voices {
     }
 }
 
-# Scripts and texts of several megabytes.
+# Tests scripts and texts of several megabytes.
 sub try_scripts {
     my @names = map { sprintf 'rename-sample 0 "name %07d"', $_ } 1 .. 60_000;
     tell('a script of 1.6 MB', is_done('empty', $sample, @names));

@@ -1,4 +1,4 @@
-# Runs of programs in the folder at hand by start.c, which is compiled into a folder and goes on as long as the check.
+# Runs programs in the current folder by start.c, which is compiled into a folder and runs as long as the check.
 package Starter;
 use strict;
 use warnings;
@@ -17,8 +17,8 @@ sub begin_starts {
     $starter = open2($answers, $requests, "$folder/start");
 }
 
-# Runs a program on words, with settings of its environment and the files of its standard input, output and errors; answers
-# its status, as `wait` has it, and the seconds that it computed.
+# Runs a program with arguments, environment variables and the files of its standard input, output and error. Returns
+# its `wait` status and its processor seconds.
 sub started {
     my ($program, $words, $settings, @streams) = @_;
     my @variables = map { "$_=$settings->{$_}" } keys %$settings;
@@ -29,7 +29,7 @@ sub started {
     return ($status, $microseconds / 1_000_000);
 }
 
-# What the runs took counts as the check's, once it has waited for their starter.
+# Waits for the starter, so that the processor time of the runs counts as the check's.
 END {
     local $?;
     if ($starter) {

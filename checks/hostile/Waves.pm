@@ -1,5 +1,5 @@
-# WAVE files: that of a sample comes back as the sample; fronts of one, and ones in which bytes are others, are
-# refused by a line or imported, and an import is undone to the byte.
+# Tests WAVE files: that of a sample is imported as the sample; prefixes of one, and files with changed bytes, are
+# rejected with a line or imported, and an import is undone byte for byte.
 package Waves;
 use strict;
 use warnings;
@@ -8,7 +8,7 @@ use Runs;
 use Exporter 'import';
 our @EXPORT = qw(try_waves);
 
-# How many of the changed files have to be imported at least.
+# The smallest number of changed files to be imported.
 our $floor = 300;
 
 my $imported = 0;
@@ -16,7 +16,8 @@ my $imported = 0;
 sub wave { my ($bank, $sample, $out) = @_; return run_command(['wave', $bank, $sample, $out], $out); }
 sub imported { my ($bank, $wave, $out, $undo) = @_; return run_command(['import', $bank, $wave, $out, $undo], $out, $undo); }
 
-# What is wrong with the import of the file `in.wav`, which is done or refused; an import has to be undone.
+# Returns what is wrong with the import of the file `in.wav`, which may be rejected and must be undone if done; or
+# undef.
 sub wrong_of_import {
     my ($bytes) = @_;
     write_bytes('in.wav', $bytes);
@@ -26,7 +27,7 @@ sub wrong_of_import {
     return undone('tone');
 }
 
-# What is wrong with a sample that goes out and comes in: its WAVE file is the same again.
+# Returns what is wrong with a sample exported and imported, whose WAVE file must be the same again; or undef.
 sub wrong_of_sample {
     my ($bank) = @_;
     my $first = wave($bank, 0, 'first.wav');
@@ -37,10 +38,10 @@ sub wrong_of_sample {
     return $again->{wrong} // (!$again->{status} && same('first.wav', 'again.wav') ? undef : 'another WAVE file');
 }
 
-# The numbers of 32 bits that are put over sizes, counts and frames.
+# 32-bit numbers to write over sizes, counts and frames.
 my @lies = (0, 1, 2, 3, 7, 24, 36, 43, 44, 67, 68, 69, 127, 128, 255, 0x7fff_ffff, 0x8000_0000, 0xffff_fffe, 0xffff_ffff);
 
-# Each front of the file, each byte of it changed in some ways, and each number of it that may lie.
+# Tests each prefix of the file, changes of each byte, and changes of each number that may be wrong.
 sub try_changes {
     my ($whole) = @_;
     for my $length (0 .. length($whole) - 1) {
@@ -55,7 +56,7 @@ sub try_changes {
     }
 }
 
-# Files by seeds: up to four bytes of the file are others.
+# Tests random files: up to four bytes of the file are changed.
 sub try_wave_seeds {
     my ($whole, $count) = @_;
     for my $seed (1 .. $count) {
@@ -66,7 +67,7 @@ sub try_wave_seeds {
     }
 }
 
-# Whether the program has WAVE files of samples.
+# Returns whether the program has the command `wave`.
 sub knows_waves { return !run(['wave', '--help'])->{status}; }
 
 sub try_waves {

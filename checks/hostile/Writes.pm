@@ -1,6 +1,5 @@
-# Outputs that can't be written: a write that fails, or takes no byte, at each call in turn, devices that are
-# full, streams that are closed. The fault counts exactly the bytes that the file holds, which are that front
-# of the text.
+# Tests outputs that can't be written: a write that fails, or accepts no byte, at each call in turn, full devices, and
+# closed streams. The fault counts exactly the bytes in the file, which are a prefix of the output.
 package Writes;
 use strict;
 use warnings;
@@ -9,7 +8,7 @@ use Runs;
 use Exporter 'import';
 our @EXPORT = qw(try_writes);
 
-# The runs, each with the outputs in the order in which they are written; `-` is the standard output.
+# The runs, each with the outputs in order of writing; `-` is standard output.
 my @runs = (
     [['apply', 'saw', 'rename', 'out', 'undo'], 'out', 'undo'],
     [['apply', '--neutral', 'saw', 'rename', 'out', 'undo'], 'out', 'undo'],
@@ -25,7 +24,8 @@ my @runs = (
     [['import', 'saw', 'take', 'out', 'undo'], 'out', 'undo'],
 );
 
-# How writes go wrong: by an error or by taking nothing, and the most bytes that each call takes before, if any.
+# How writes fail: with an error or by accepting nothing, and the largest number of bytes that each call before accepts,
+# if limited.
 my @ways = map { my $way = $_; map { [$way, $_] } 0, 1, 100 } qw(FAILED_WRITE EMPTY_WRITE);
 
 sub make_inputs {
@@ -39,10 +39,10 @@ sub make_inputs {
     tell('a longer bank', $run->{wrong});
 }
 
-# The file of an output; a run that had no fault leaves all of it there.
+# Returns the file of an output; a run without a fault writes all of it there.
 sub file_of { my ($output) = @_; return $output eq '-' ? 'printed' : $output; }
 
-# Runs with the shim, new files only.
+# Runs the program with the shim; output files are removed before.
 sub run_under {
     my ($shim, $settings, $words, @outputs) = @_;
     unlink 'mark', map { file_of($_) } @outputs;
@@ -51,8 +51,8 @@ sub run_under {
     return run($words);
 }
 
-# What is wrong with a run of which a write went wrong: one output has the front that its fault counts, those
-# before it are whole, and those after it are not there.
+# Returns what is wrong with a run with a failed write, or undef: one output must be the prefix that the fault counts,
+# those before it whole, and those after it missing.
 sub is_front {
     my ($run, $whole, @outputs) = @_;
     my ($path, $written) = $run->{line} =~ /^sfbank: write fault (\S+) after (\d+) bytes\n\z/;
@@ -69,7 +69,7 @@ sub is_front {
     return $place ? undef : "the fault is of $path";
 }
 
-# Has each write of a run go wrong in turn, until none does.
+# Makes each write of a run fail in turn, until none does.
 sub try_each_write {
     my ($shim, $way, $most, $words, @outputs) = @_;
     my $name = "@$words, $way, $most bytes a call";
@@ -85,8 +85,8 @@ sub try_each_write {
     }
 }
 
-# Runs of the shell: the program is `$0`. Each with its status, its line if one can be told, and a test of the
-# files that it left.
+# Shell commands: the program is `$0`. Each with its status, its line if it can print one, and a test of the files that
+# it left.
 my @shells = (
     ['"$0" canon empty /dev/full', 5, '/dev/full', '[ -c /dev/full ]'],
     ['"$0" show tone > /dev/full', 5, '-', 'true'],

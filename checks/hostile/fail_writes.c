@@ -1,10 +1,9 @@
-/* Has writes of a program go wrong: preloaded, it counts the calls of `write` to files that the program
- * opened, from 1, and has
- *   FAILED_WRITE=K   the call numbered K fail, and all that follow;
- *   EMPTY_WRITE=K    the same calls take no byte;
- *   SHORT_WRITES=N   each call take N bytes at most.
- * It creates the file that FAILED_MARK names as a call goes wrong. The standard streams are left alone,
- * but standard output counts as a file where FAILED_OUTPUT is set. */
+/* Makes writes of a program fail. Preloaded, it counts the calls of `write` to files that the program opened, from 1:
+ *   FAILED_WRITE=K   call K and all later ones fail;
+ *   EMPTY_WRITE=K    call K and all later ones accept no byte;
+ *   SHORT_WRITES=N   each call accepts at most N bytes.
+ * When a call fails it creates the file that FAILED_MARK names. The standard streams are left alone, but standard
+ * output counts as a file if FAILED_OUTPUT is set. */
 #include <errno.h>
 #include <fcntl.h>
 #include <stdlib.h>
@@ -22,7 +21,7 @@ static ssize_t through(int file, const void *bytes, size_t count) {
     return syscall(SYS_write, file, bytes, count);
 }
 
-/* Whether calls from the one of this number on go wrong, and this is one of them. */
+/* Returns whether a variable is set and this call has its number or a later one. */
 static int goes_wrong(const char *name) {
     long first = number_of(name);
     if (first == 0 || counted < first)

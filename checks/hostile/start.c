@@ -1,9 +1,8 @@
-/* Starts programs for a check that makes thousands of runs: a fork of Perl copies all that tells where its memory is,
- * and costs more than the run itself. A request on the standard input is the number of its bytes, and so many bytes:
- * words that a zero byte ends each. They are the program; the files of its standard input, output and errors; settings
- * NAME=VALUE of its environment; an empty word; and what the program gets as its words. The answer on the standard
- * output is the status of the run, as `wait` has it, and the microseconds that it computed. A run that goes on for two
- * minutes is killed. */
+/* Starts programs for a check that makes thousands of runs: a fork of Perl copies its page tables, which costs more
+ * than the run itself. A request on standard input is a number of bytes, and then so many bytes: words that each end
+ * with a zero byte. They are the program; the files of its standard input, output and error; environment variables
+ * NAME=VALUE; an empty word; and the arguments. The answer on standard output is the `wait` status of the run and its
+ * processor time in microseconds. A run is killed after two minutes. */
 #define _GNU_SOURCE
 #include <fcntl.h>
 #include <signal.h>
@@ -34,7 +33,7 @@ static int read_all(int file, void *bytes, size_t count) {
     return 1;
 }
 
-/* The words of a request, and NULL behind them. */
+/* The words of a request, then NULL. */
 static char **words_of(char *bytes, size_t length) {
     size_t count = 0;
     char **words = malloc((length + 1) * sizeof *words);
@@ -44,7 +43,7 @@ static char **words_of(char *bytes, size_t length) {
     return words;
 }
 
-/* Whether one of so many settings is of the same name. */
+/* Returns whether one of `count` settings has the same name. */
 static int is_set(char **settings, size_t count, const char *variable) {
     size_t name = strcspn(variable, "=") + 1;
     for (size_t i = 0; i < count; i++)
@@ -53,7 +52,7 @@ static int is_set(char **settings, size_t count, const char *variable) {
     return 0;
 }
 
-/* The environment of a run: so many settings, and what else is set here. */
+/* The environment of a run: `count` settings, and the other variables of this process. */
 static char **environment_of(char **settings, size_t count) {
     size_t others = 0, all = count;
     while (environ[others])
@@ -83,7 +82,7 @@ static int start(char **words) {
     return error == 0;
 }
 
-/* Waits for the child, and gives its status and the microseconds that it computed. */
+/* Waits for the child, and returns its status and its processor time in microseconds. */
 static void wait_for_child(int32_t answer[2]) {
     struct rusage used;
     int status = 0;

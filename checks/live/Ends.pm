@@ -1,4 +1,4 @@
-# Inputs that end or are cut anywhere, and outputs that can't be written.
+# Tests inputs that end or are split anywhere, and outputs that can't be written.
 package Ends;
 use strict;
 use warnings;
@@ -13,7 +13,7 @@ our @EXPORT = qw(try_inputs try_outputs);
 
 my $digits = 'e803' x 250_000;
 
-# Inputs on the bank `tone`, and all answers to them.
+# Inputs to sessions on the bank `tone`, and all answers.
 my @inputs = (
     ['', ''],
     ["\n\n \t\r\n# undo\n", ''],
@@ -46,7 +46,7 @@ sub wrong_of_input {
     return is_done($run) // ($run->{answers} eq $want ? undef : 'answered ' . one_line($run->{answers}));
 }
 
-# Runs a line of the shell: the program is `$0`, the lines are the file `lines`. Answers its status.
+# Runs a shell command: the program is `$0`, the input lines are in the file `lines`. Returns its exit status.
 sub shell {
     my ($line, $lines) = @_;
     unlink qw(pcm answers errors status);
@@ -54,7 +54,8 @@ sub shell {
     return system('bash', '-c', "exec 2> errors; $line", program_of_runs()) >> 8;
 }
 
-# A session, whose input comes byte by byte, gives the same.
+# Returns what is wrong with a session whose input arrives in pieces of one to three bytes, which must have the same
+# outputs; or undef.
 sub wrong_of_bytes {
     my ($seed) = @_;
     my ($bank, @lines) = session_of($seed);
@@ -66,7 +67,7 @@ sub wrong_of_bytes {
     return read_bytes('answers') eq $whole->{answers} && read_bytes('pcm') eq $whole->{frames} ? undef : 'answered otherwise';
 }
 
-# Bytes by lot, with those that mean something among them: each line that says something has one answer.
+# Returns what is wrong with a session on random bytes and tokens, or undef: each line that is not blank has one answer.
 sub wrong_of_noise {
     my @pieces = ("\n", ' ', '"', 'x', '#', 'undo', 'redo', 'note 1 0 0 60 9', 'frames 9', 'rename-sample 0 "u"', 'save a', '{', '}', 'group', "\0", "\r", '4294967296', '-', "\xc3");
     my $lines = join '', map { rand() < 0.7 ? $pieces[rand @pieces] : chr rand 256 } 1 .. 200;
@@ -77,14 +78,14 @@ sub wrong_of_noise {
     return $wrong // (@told == $count + 1 ? undef : @told - 1 . " answers to $count lines: " . one_line($lines));
 }
 
-# A session gives 100,000,000 frames at most.
+# Returns what is wrong with the limit of 100,000,000 frames, or undef.
 sub wrong_of_limit {
     my $status = shell('"$0" live tone /dev/null < lines > answers', "frames 60000000\nframes 40000001\nframes 40000000\nframes 1\nframes 0\nundo\n");
     my $want = "ok\nrefused 52 TooManyFrames\nok\nrefused 52 TooManyFrames\nok\nrefused 39 NothingToUndo\n";
     return $status || read_bytes('answers') ne $want ? "status $status, answers " . one_line(read_bytes('answers')) : undef;
 }
 
-# The lines of the help can be typed as they stand.
+# Returns what is wrong with the lines of the help, or undef: each must be a valid line.
 sub wrong_of_help {
     my @told = told(live('tone', "help\n"));
     splice @told, -2;
@@ -107,21 +108,21 @@ sub try_inputs {
 
 my $lines = "rename-sample 0 \"u\"\nnote 4000 0 0 60 100\nframes 3000\nundo\nframes 2000\nframes 0\nredo\n";
 
-# Runs of the shell, with their status and their line of errors, and a test of what they left.
+# Shell commands, with their exit status, their line of errors, and a test of their files.
 my @shells = (
     ['"$0" live tone /dev/full < lines > answers', 5, qr{^sfbank: write fault /dev/full after 0 bytes\n\z}, '[ "$(cat answers)" = "$(printf "ok\nok 1")" ]'],
     ['"$0" live tone no/pcm < lines > answers', 5, qr{^sfbank: [^\n]*no/pcm[^\n]*\n\z}, '[ ! -e no ]'],
     ['"$0" live tone pcm < lines > /dev/full', 5, qr{^sfbank: write fault - after 0 bytes\n\z}, 'true'],
     ['"$0" live tone pcm < lines >&-', 5, qr{^sfbank: write fault - after 0 bytes\n\z}, 'true'],
     ['{ sleep 0.2; "$0" live tone pcm < lines; echo $? > status; } | true; exit $(cat status)', 5, qr{^\z}, 'true'],
-    # (more frames than a pipe holds, so that none goes out behind the reader's end)
+    # (more frames than a pipe holds, so that the reader ends before they are written)
     ['mkfifo pipe; head -c 400 pipe > /dev/null & { cat lines; echo frames 100000; } | "$0" live tone pipe > answers; s=$?; rm pipe; exit $s', 5, qr{^sfbank: write fault pipe after \d+ bytes\n\z}, 'true'],
     ['mkfifo pipe; cat pipe > pcm & "$0" live tone pipe < lines > answers; s=$?; wait; rm pipe; exit $s', 0, qr{^\z}, 'cmp -s pcm whole.pcm && cmp -s answers whole.answers'],
     ['"$0" live none pcm < lines > answers', 5, qr{^sfbank: file fault none\n\z}, '[ ! -s answers ] && [ ! -e pcm ]'],
     ['"$0" live lines pcm < lines > answers', 2, qr{^sfbank: read fault 1 NotRiff\n\z}, '[ ! -s answers ]'],
 );
 
-# A save that fails leaves the session as it is.
+# Saves that fail, which must leave the session as it is.
 my @saves = (
     ['save /dev/full undo.1', 'write fault /dev/full after 0 bytes'],
     ['save no/saved undo.1', 'write fault no/saved after 0 bytes'],
@@ -145,8 +146,8 @@ sub wrong_of_save {
     return $wrong // (same('saved.2', 'tone') && read_bytes('undo.2') eq '' ? undef : 'the bank is another');
 }
 
-# Has each write of frames go wrong in turn, until none does: the frames are that front which the fault counts, and all
-# answers before are there.
+# Makes each write of frames fail in turn, until none does: the frames must be the prefix that the fault counts, and all
+# earlier answers must be written.
 sub try_each_write {
     my ($way, $most) = @_;
     for my $number (1 .. 10_000) {

@@ -1,5 +1,5 @@
-# Each growth refused in turn, until a session asks for no further one: the line at which it was is answered `out of memory`
-# and changes nothing, and the session goes on as if it hadn't been; or the session ends for want of memory.
+# Makes each allocation of a session fail in turn: the line being handled is answered `out of memory` and changes
+# nothing, and the session goes on as without it; or the session ends because it is out of memory.
 package Growths;
 use strict;
 use warnings;

@@ -1,4 +1,4 @@
-# Live sessions: their banks, one run of them, and what holds of each.
+# Live sessions: their banks, running one, and what holds for each.
 package Live;
 use strict;
 use warnings;
@@ -8,7 +8,7 @@ use Starter;
 use Exporter 'import';
 our @EXPORT = qw(make_banks @BANKS live live_under told is_done one_line);
 
-# The banks of the sessions. None has an exclusive class, so that notes of several banks sound beside each other.
+# The banks of the sessions. None has an exclusive class, so notes of several banks do not silence each other.
 our @BANKS = qw(tone layered struck);
 
 my %scripts = (
@@ -25,7 +25,7 @@ my %scripts = (
         'add-preset 1 "q" 1 0 0 0 0 { global g 48 30 } { 2 } { 0 g 44 0..90 }'),
 );
 
-# Puts the banks into the folder, each as its own canonical file.
+# Writes the banks into the folder as canonical files.
 sub make_banks {
     write_bytes('empty', bytes_of($EMPTY));
     for my $bank (@BANKS) {
@@ -34,8 +34,8 @@ sub make_banks {
     }
 }
 
-# Runs a session: the program on a bank, with these lines as its input and these settings of the environment. Answers
-# its status, the signal that ended it, its line of errors, its answers and its frames.
+# Runs a session on a bank, with these input lines and environment variables. Returns its exit status, signal, line of
+# errors, answers and frames.
 sub live_under {
     my ($settings, $bank, $lines) = @_;
     unlink qw(pcm answers errors mark);
@@ -49,10 +49,10 @@ sub live_under {
 
 sub live { return live_under({}, @_); }
 
-# The answers of a session, as lines.
+# Returns the lines of the answers of a session.
 sub told { my ($run) = @_; return split /\n/, $run->{answers}, -1; }
 
-# What is wrong with a session that has to be done.
+# Returns what is wrong with a session that must be done, or undef.
 sub is_done {
     my ($run) = @_;
     return "ended by signal $run->{signal}" if $run->{signal};
@@ -60,7 +60,7 @@ sub is_done {
     return $run->{answers} =~ /[^\n]\z/ ? 'the last answer has no line feed' : undef;
 }
 
-# Text as one line, for telling; a long one is cut.
+# Returns a text as one line for a message; a long one is truncated.
 sub one_line { my ($text) = @_; return length $text > 300 ? substr($text, 0, 300) =~ s/\n/\\n/gr . '..' : $text =~ s/\n/\\n/gr; }
 
 1;

@@ -1,6 +1,6 @@
-# Sessions by seeds: edits of all kinds, many of them refused, undo and redo, notes, frames, saves and listings by lot. What
-# each line has to be answered is what `apply` says of the same edit on the same bank; what is saved is what `apply` writes,
-# and what is heard is the sum of what `play` makes of the notes of each bank, each from its start on.
+# Tests random sessions: edits of all kinds, many of them refused, undo and redo, notes, frames, saves and listings. The
+# expected answer to an edit is the result of `apply` of the same edit to the same bank; saved files are those that
+# `apply` writes, and frames are the sum of what `play` renders of the notes of each bank, each from its start.
 package Sessions;
 use strict;
 use warnings;
@@ -10,7 +10,7 @@ use Runs;
 use Exporter 'import';
 our @EXPORT = qw(try_sessions try_kinds session_of wrong_of_run);
 
-# How many lines of each kind have to be answered so at least in 3,000 sessions.
+# The smallest number of lines with each kind of answer in 3,000 sessions.
 my %floors = (
     'edit ok' => 5000, 'edit refused' => 3000, 'neutral ok' => 500, 'neutral refused' => 500, 'undo ok' => 1500, 'undo refused' => 500,
     'redo ok' => 500, 'redo refused' => 500, 'note ok' => 4000, 'frames ok' => 4000, 'save ok' => 1500, 'show ok' => 300, 'fault' => 500,
@@ -30,7 +30,7 @@ sub one_of { return $_[below(scalar @_)]; }
 
 sub owner { return one_of('preset', 'inst') . ' ' . below(3); }
 
-# An edit by lot, of members that may be there.
+# Returns a random edit, of members that may exist.
 sub step {
     my @forms = (
         sub { 'rename-sample ' . below(3) . ' "s' . below(100) . '"' },
@@ -57,7 +57,7 @@ sub step {
     return $forms[below(scalar @forms)]->();
 }
 
-# An edit that no note list hears, where its members are there.
+# Returns a random neutral edit, if its members exist.
 sub unheard_step {
     my @forms = (
         sub { 'rename-sample ' . below(2) . ' "s' . below(100) . '"' },
@@ -73,7 +73,7 @@ sub unheard_step {
 
 sub edit { return below(5) ? step() : join ' ', 'group', map { '{ ' . step() . ' }' } 0 .. below(3); }
 
-# A note that is so quiet that some twenty of them together are never cut.
+# Returns a random note, so quiet that twenty of them together are never clipped.
 sub note { return 'note ' . one_of(0, 1, 50 + below(400), 3000) . ' 0 ' . one_of(0, 0, 1, 2) . ' ' . (30 + below(70)) . ' ' . (1 + below(20)); }
 
 my $saves;
@@ -88,13 +88,13 @@ sub line {
     return ref $line ? $line->() : $line;
 }
 
-# ---- what a session is, as far as it was answered
+# ---- the state of a session after its answers so far
 
-# The script of the edits that lead to the bank as it is.
+# Returns the script of the edits that made the current bank.
 sub script_of { my ($s) = @_; return join '', map { "$_\n" } @{ $s->{edits} }[0 .. $s->{at} - 1]; }
 
-# What `apply` makes of the bank under a script: its run, with the bytes of both outputs. A session comes back to a bank
-# again and again, which is made once.
+# Returns the run of `apply` of a script to the first bank, with the bytes of both outputs. Results are cached, since a
+# session returns to the same bank often.
 sub made_by {
     my ($s, $script) = @_;
     return $s->{made}{$script} //= made_anew($s->{bank}, $script);
@@ -106,8 +106,7 @@ sub made_anew {
     return { %$run, out => read_bytes('out'), undo => read_bytes('undo') };
 }
 
-# What `apply` says of the bank under these lines behind those that led to it: nothing where it takes them, or the line
-# without the number of its line.
+# Returns `ok` if `apply` accepts these lines on the current bank, else its line without the line number.
 sub judged {
     my ($s, $line, @flags) = @_;
     my $run;
@@ -163,7 +162,7 @@ sub is_saved {
     return $wrong // (read_bytes($out) ne $run->{out} ? "$out is another bank" : read_bytes($undo) eq $run->{undo} ? undef : "$undo is another way back");
 }
 
-# The lines of the listing of the bank as it is, and `ok`.
+# Returns what is wrong with the listing of the current bank, or undef: its lines, then `ok`.
 sub is_shown {
     my ($s, @told) = @_;
     write_bytes('out', made_by($s, script_of($s))->{out});
@@ -174,7 +173,7 @@ sub is_shown {
     return $listed eq "${want}ok\n" ? undef : 'another listing: ' . one_line($listed);
 }
 
-# Takes the lines of an answer to a line off the front of those that are left.
+# Removes and returns the answer to a line from the remaining answers.
 sub take_answer {
     my ($line, $left) = @_;
     return shift @$left unless $line eq 'show' || $line eq 'help';
@@ -186,7 +185,7 @@ sub take_answer {
     return @told;
 }
 
-# What is wrong with the answer to a line; the session goes on behind it.
+# Returns what is wrong with the answer to a line, or undef, and updates the session.
 sub wrong_of_line {
     my ($s, $line, @told) = @_;
     my $told = $told[0] // return 'no answer';
@@ -210,7 +209,7 @@ sub wrong_of_line {
     return is_edited($s, $told, $line);
 }
 
-# The samples of the frames that a session gave, as `play` makes them: the sum over its banks.
+# Returns the frames that a session must write: the sum over its banks of what `play` renders.
 sub frames_of {
     my ($s) = @_;
     my @sum = (0) x (2 * $s->{frame});
@@ -230,8 +229,8 @@ sub frames_of {
 
 # ---- sessions
 
-# What is wrong with what a run made of these lines on a bank. Where memory may be wanting, a line may be answered so and
-# change nothing, and the run may end so.
+# Returns what is wrong with a run on these lines, or undef. If an allocation may fail, a line may be answered `out of
+# memory` and change nothing, or the run may end.
 sub wrong_of_run {
     my ($bank, $run, $may_want, @lines) = @_;
     my $stopped = $may_want && $run->{status} == 6 && $run->{line} eq "sfbank: out of memory\n";
@@ -253,7 +252,7 @@ sub wrong_of_run {
     return $wrong // ($frames eq $run->{frames} ? undef : 'other frames: ' . length($run->{frames}) . ' bytes, not ' . length $frames);
 }
 
-# The lines of a session by its seed, with its bank before them.
+# Returns the bank and the lines of the session of a seed.
 sub session_of {
     my ($seed) = @_;
     ($lot, $saves) = ($seed, 0);
@@ -268,7 +267,7 @@ sub wrong_of_session {
     return wrong_of_run($bank, $run, 0, @lines);
 }
 
-# Tries so many sessions from a seed on.
+# Tests `count` sessions from a seed on.
 sub try_sessions {
     my ($first, $count) = @_;
     for my $seed ($first .. $first + $count - 1) {
@@ -277,7 +276,7 @@ sub try_sessions {
     }
 }
 
-# That there were so many answers of each kind that it says something.
+# Tests that there were enough answers of each kind.
 sub try_kinds {
     for my $kind (sort keys %floors) {
         my $there = $count{$kind} // 0;

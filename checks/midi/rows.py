@@ -1,6 +1,6 @@
-"""The rows of checks/midi: MIDI files, the notes that they are, and what is told of the rest.
+"""The rows of checks/midi: MIDI files, their notes, and the messages about what is left out.
 
-A quarter note has 480 ticks and half a second where a row says nothing else, so a tick has 45.9375 frames."""
+A quarter note has 480 ticks and lasts half a second unless a row changes that, so a tick has 45.9375 frames."""
 from dataclasses import dataclass, field
 
 from mido import Message, MetaMessage
@@ -8,7 +8,7 @@ from mido import Message, MetaMessage
 
 @dataclass
 class Row:
-    """A file of some tracks, and the lines of its notes and of what is told."""
+    """The tracks of a file, the lines of its notes, and the lines on standard error."""
 
     name: str
     tracks: list
@@ -51,7 +51,7 @@ def never_ended(count):
 
 
 def choice(high, low):
-    """A bank's two controllers, and behind them a program and a note of it."""
+    """Returns the two controllers of a bank, then a program and a note."""
     return [control(0, 0, high), control(0, 32, low), program(0, 5), on(0, 60), off(480, 60)]
 
 

@@ -1,10 +1,10 @@
-/* Refuses one growth of a program: preloaded, it has the call of the C library's allocations that
- * REFUSED_GROWTH numbers, counted from 1, answer that there is no memory, and creates the file that
- * REFUSED_MARK names. All other calls go on to the C library, but for a request for 2^62 bytes or more, which
- * is refused and not counted.
+/* Makes an allocation of a program fail. Preloaded, it lets the allocation with the number FAILED_ALLOCATION, counted
+ * from 1, fail and creates the file that FAILED_MARK names. All other calls go to the C library, except requests for
+ * 2^62 bytes or more, which fail and are not counted.
  *
- * Where REFUSED_STRETCH names a file, it refuses all calls of a stretch of the program: such a request begins it,
- * and the next one ends it and creates that file. A call in the stretch creates the file of REFUSED_MARK. */
+ * If FAILED_SECTION names a file, all allocations in a section of the program fail: a request for 2^62 bytes begins the
+ * section, and the next one ends it and creates that file. An allocation in the section creates the file of
+ * FAILED_MARK. */
 #include <errno.h>
 #include <fcntl.h>
 #include <stddef.h>
@@ -16,7 +16,7 @@ void *__libc_calloc(size_t count, size_t size);
 void *__libc_realloc(void *old, size_t size);
 void *__libc_memalign(size_t align, size_t size);
 
-/* More bytes than there are. */
+/* More bytes than any machine has. */
 static const size_t boundary = (size_t)1 << 62;
 
 static unsigned long refused;
@@ -29,7 +29,7 @@ __attribute__((constructor)) static void begin(void) {
     counted = 0;
 }
 
-/* Creates the file that a variable names, if it names one. */
+/* Creates the file that an environment variable names, if it is set. */
 static void create(const char *variable) {
     const char *file = getenv(variable);
     if (file)

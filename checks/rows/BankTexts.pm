@@ -1,4 +1,4 @@
-# The tables `bank_texts` and `differences`: empty banks, banks as texts, and differences of banks.
+# Tests the tables `bank_texts` and `differences`: empty banks, banks as scripts, and differences of banks.
 package BankTexts;
 use strict;
 use warnings;
@@ -11,14 +11,14 @@ use Worked;
 use Exporter 'import';
 our @EXPORT = qw(try_bank_texts);
 
-# What is wrong with a run of these words, of which `out` is the output: it makes a bank, or writes a text.
+# Returns what is wrong with a run that must write this bank or this text to `out`, or undef.
 sub wrong_of_done {
     my ($words, $kind, $due) = @_;
     my $wrong = Rows::is_done(run_command([split ' ', $words], 'out'));
     return $wrong // (read_bytes('out') eq ($kind eq 'makes' ? bank_bytes($due) : lines(spelled($due))) ? undef : 'another output');
 }
 
-# What is wrong with a run that has to end by this status and this line, and to make nothing.
+# Returns what is wrong with a run that must end with this status and line and write nothing, or undef.
 sub wrong_of_refused {
     my ($words, $status, $line) = @_;
     unlink 'out';
@@ -34,7 +34,7 @@ sub wrong_of_text {
     return $answer =~ /^(makes|writes) (.*)/ ? wrong_of_done($words, $1, $2) : "has the answer '$answer'";
 }
 
-# What is wrong with the difference of a bank and of what a script makes of it, which is the script itself.
+# Returns what is wrong with the difference of a bank and the bank after a script, which must be the script; or undef.
 sub wrong_of_difference {
     my ($bank, $script) = @_;
     my $wrong = Rows::is_done(apply_text($bank, lines(spelled($script)), 'other', 'undo'));

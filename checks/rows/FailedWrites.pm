@@ -1,4 +1,4 @@
-# The table of writes: outputs that can't be written, by the shim of checks/hostile that has writes go wrong.
+# Tests the table `writes`: outputs that can't be written, by the shim of checks/hostile that makes writes fail.
 package FailedWrites;
 use strict;
 use warnings;
@@ -17,14 +17,14 @@ sub put_file {
     write_bytes($name, $what =~ /^text (.*)/ ? spelled($1) : bank_bytes($what));
 }
 
-# What is wrong with the count of writes that a whole text took.
+# Returns what is wrong with the number of writes of a whole output, or undef.
 sub is_count {
     my ($count, $sign, $number) = @_;
     return if !defined $sign;
     return ($sign eq '=' ? $count == $number : $count < $number) ? undef : "$count writes, not $sign $number";
 }
 
-# Has each write of a run go wrong in turn, until none does.
+# Makes each write of a run fail in turn, until none does.
 sub try_each_write {
     my ($words, $outputs, $how) = @_;
     my ($most, $way, $sign, $number) = $how =~ /^(\d+|all) (error|nothing)(?: ([=<])(\d+))?$/ or die "'$how' is no way\n";

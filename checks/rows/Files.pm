@@ -1,4 +1,4 @@
-# The tables of files and of generators: which bank is read of each file, or by which fault it is refused.
+# Tests the tables `files` and `generators`: the bank read from each file, or the fault.
 package Files;
 use strict;
 use warnings;
@@ -10,13 +10,13 @@ use Worked;
 use Exporter 'import';
 our @EXPORT = qw(try_files);
 
-# The bytes of a file of the table.
+# Returns the bytes of a file of the table.
 sub file_bytes {
     my ($file) = @_;
     return $file =~ /^words\b(.*)/ ? bytes_of($1) : bank_bytes($file);
 }
 
-# The line of these counts; all others are zero.
+# Returns the line of these counts; all others are zero.
 sub counts_line {
     my ($counts) = @_;
     my %counted = split ' ', $counts;
@@ -25,7 +25,7 @@ sub counts_line {
     return $line;
 }
 
-# The listing of a file as its first line, its line of counts and the others; or what is wrong with the run.
+# Returns the first line of a file's listing, its line of counts and the other lines; or what is wrong with the run.
 sub listed {
     my ($file) = @_;
     my $run = run(['show', $file]);
@@ -34,14 +34,15 @@ sub listed {
     return (undef, split /\n/, read_bytes('printed'));
 }
 
-# What is wrong with the file `in`, which has to be refused.
+# Returns what is wrong with the file `in`, which must be rejected with this fault; or undef.
 sub is_refused {
     my ($fault) = @_;
     my $run = canon('in', 'out');
     return $run->{wrong} // ($run->{line} eq "sfbank: read fault $fault\n" ? undef : "'$run->{line}' instead of $fault");
 }
 
-# What is wrong with the file `in`, whose canonical file has to be this one: it is its own, and is listed alike.
+# Returns what is wrong with the file `in`, whose canonical file must be this one, itself canonical and with the same
+# listing; or undef.
 sub reads_as {
     my ($canonical, $counts) = @_;
     write_bytes('want', $canonical);
@@ -55,7 +56,7 @@ sub reads_as {
     return join("\n", $bank, @lines) eq join("\n", $want_bank, counts_line($counts), @want) ? undef : "is listed as @lines";
 }
 
-# What is wrong with the file `in`, which has to be listed so.
+# Returns what is wrong with the file `in`, whose listing must have these lines; or undef.
 sub is_listed {
     my ($counts, @want) = @_;
     my ($fault, $bank, @lines) = listed('in');
@@ -73,7 +74,7 @@ sub try_file {
     tell($file, $wrong);
 }
 
-# The bank `tone` with these generators in the zone of its instrument, or of its preset, the target among them.
+# Returns the bank `tone` with these generators, target included, in the zone of its instrument or of its preset.
 sub tone_with {
     my ($level, $generators) = @_;
     my ($size, $at, $out, $last) = $level eq 'inst' ? (416, 420, 8, 390) : (314, 318, 4, 288);
@@ -89,7 +90,7 @@ sub try_generators {
     tell("$level with $generators", reads_as(tone_with($level, $kept), $counts // ''));
 }
 
-# Each front of a file: NotRiff while its first four bytes are cut, and Truncated then.
+# Tests each proper prefix of a file: NotRiff for less than four bytes, else Truncated.
 sub try_fronts {
     for my $bank (qw(empty saw)) {
         my $whole = bank_bytes($bank);

@@ -1,4 +1,4 @@
-# The table `full_files`: what is read of files of as much as a file may have, and of more.
+# Tests the table `full_files`: files at and above the limits.
 package FullFiles;
 use strict;
 use warnings;
@@ -10,7 +10,7 @@ use Worked;
 use Exporter 'import';
 our @EXPORT = qw(try_full_files);
 
-# What is wrong with a file that has to be read, with nothing counted.
+# Returns what is wrong with a file that must be read with all counts zero, or undef.
 sub wrong_of_whole {
     my ($file) = @_;
     write_bytes('in', bank_bytes($file));

@@ -1,4 +1,4 @@
-# The table of listings: what `show` prints of banks, to the byte.
+# Tests the table `listings`: the output of `show`, byte for byte.
 package Listings;
 use strict;
 use warnings;
@@ -8,7 +8,7 @@ use Tables;
 use Exporter 'import';
 our @EXPORT = qw(try_listings other_line);
 
-# What is wrong with a text that has to be another one: the first line that differs.
+# Returns the first line of a text that differs from the expected text, or undef.
 sub other_line {
     my ($text, $want) = @_;
     return if $text eq $want;

@@ -1,4 +1,5 @@
-# The table of neutral scripts: each is refused by its line, or does what `apply` does, and a note is heard as before.
+# Tests the table `neutral`: each script is refused with its line, or does what `apply` does and a note renders
+# identically.
 package NeutralScripts;
 use strict;
 use warnings;
@@ -19,7 +20,7 @@ sub apply_neutral {
     return apply_text($in, $script, $out, $undo);
 }
 
-# What is wrong with the note on a bank: its frames have to be those of the bank `tone`, or others.
+# Returns what is wrong with the note on a bank: its frames must be those of the bank `tone`, or differ from them.
 sub is_heard {
     my ($bank, $others) = @_;
     my $wrong = Rows::is_done(play_notes($bank, $note, 'wave'));
@@ -28,7 +29,7 @@ sub is_heard {
     return !$is_same == !!$others ? undef : $others ? 'the note is heard alike' : 'the note is heard otherwise';
 }
 
-# What is wrong with a script that has to be done by `apply`, and makes another bank on which the note is heard so.
+# Returns what is wrong with a script that `apply` must accept, and with the note on the new bank; or undef.
 sub is_applied {
     my ($script, $others) = @_;
     my $wrong = Rows::is_done(apply_text('tone', $script, 'out', 'undo'));
@@ -36,7 +37,8 @@ sub is_applied {
     return $wrong // is_heard('out', $others);
 }
 
-# What is wrong with a neutral script: it does what `apply` does, to the byte, and is taken back by another one.
+# Returns what is wrong with a neutral script, which must do what `apply` does, byte for byte, and have a neutral undo
+# script; or undef.
 sub is_neutral {
     my ($script) = @_;
     my $wrong = is_applied($script, 0) // Rows::is_done(apply_neutral('tone', $script, 'same.out', 'same.undo'));

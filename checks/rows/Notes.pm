@@ -1,4 +1,4 @@
-# The table of notes: the WAVE file of each list of notes on its bank, to the byte, or the fault that is told.
+# Tests the table `notes`: the WAVE file of each note list on its bank, byte for byte, or the fault.
 package Notes;
 use strict;
 use warnings;
@@ -9,7 +9,7 @@ use Tables;
 use Exporter 'import';
 our @EXPORT = qw(try_notes wave_of play_notes);
 
-# The WAVE file of frames, which are spelled as in the table.
+# Returns the WAVE file of frames, given as in the table.
 sub wave_of {
     my ($spelled) = @_;
     return Rows::wave(join '', map { frame_of($_) } split ' ', $spelled);
@@ -21,7 +21,7 @@ sub frame_of {
     return pack('s<2', $left, $right // $left) x ($times // 1);
 }
 
-# Plays notes on the bank of a file, into another one.
+# Plays notes on a bank into the file `out`.
 sub play_notes {
     my ($bank, $notes, $out) = @_;
     write_bytes('notes', $notes);

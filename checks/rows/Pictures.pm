@@ -1,4 +1,5 @@
-# The table of pictures: what `map` draws of presets and instruments, to the byte, and what it tells of those that are not there.
+# The table of pictures: what `map` draws of presets and instruments, to the byte, and what it tells of those that are
+# not there.
 package Pictures;
 use strict;
 use warnings;

@@ -1,4 +1,4 @@
-# The tables of outputs, of words and of what is printed: how runs of the program end, and what they leave.
+# Tests the tables `outputs`, `words` and `printed`: how runs end and which files they leave.
 package Program;
 use strict;
 use warnings;
@@ -10,10 +10,10 @@ use Worked;
 use Exporter 'import';
 our @EXPORT = qw(try_program);
 
-# What holds behind each run in the folder at hand.
+# The facts that hold after each run in the current folder.
 my @always;
 
-# Makes something so that is said of a file.
+# Makes a fact about a file true.
 sub put {
     my ($said) = @_;
     my ($path, $what) = $said =~ /^(\S+) (.*)$/;
@@ -24,7 +24,7 @@ sub put {
     else { die "nothing can be made of '$said'\n"; }
 }
 
-# Whether something is so that is said of a file.
+# Returns whether a fact about a file holds.
 sub is_so {
     my ($said) = @_;
     return !-e $1 && !-l $1 if $said =~ /^no (\S+)$/;
@@ -43,7 +43,7 @@ sub begin {
     @always = ();
 }
 
-# What is wrong with a run that has to end by this status and line, and to print nothing.
+# Returns what is wrong with a run that must end with this status and line and print nothing, or undef.
 sub ends {
     my ($run, $status, $line) = @_;
     return "ended by signal $run->{signal}" if $run->{signal};
@@ -61,7 +61,7 @@ sub try_output {
     tell($words, $wrong // (defined $other ? "it isn't so that $other" : undef));
 }
 
-# Words that are no run, the program's own name first.
+# Tests arguments that are no command; the program's name is the first word.
 sub try_words {
     my ($words, $line) = @_;
     my (undef, @words) = split ' ', $words;
@@ -70,7 +70,7 @@ sub try_words {
     tell($words, $wrong // ($run->{line} eq '' ? 'tells nothing' : undef));
 }
 
-# Runs the program so that each of its files takes seven bytes and no more, and answers its status. A pipe takes all.
+# Runs the program with a file size limit of seven bytes, and returns its status. Pipes have no limit.
 sub run_in_little_room {
     my ($streams, @words) = @_;
     my $line = 'trap "" XFSZ; { prlimit --fsize=7 "$0" "$@" > printed; } ' . $streams;
@@ -97,7 +97,7 @@ sub try_printed {
     tell("$words in much room and little", wrong_of_printed(join('', map { spelled($_) } @texts), split ' ', $words));
 }
 
-# Frames for which there is no memory.
+# Tests frames for which there is not enough memory.
 sub try_memory {
     write_bytes('late', "99999999 1 0 0 60 127\n");
     unlink 'out', 'errors';
@@ -106,7 +106,7 @@ sub try_memory {
     tell('out of memory', $status == 6 && $told eq "sfbank: out of memory\n" && !-e 'out' ? undef : "status $status with '$told'");
 }
 
-# A terminal, on which the reason of an input that can't be read follows its line.
+# Tests that on a terminal the reason why an input can't be read follows the line of the fault.
 sub try_terminal {
     local $ENV{PROGRAM} = program_of_runs();
     my $told = qx{script -qec '"\$PROGRAM" show missing' /dev/null < /dev/null};

@@ -1,4 +1,5 @@
-# The table of recordings: the WAVE file of a sample, to the byte, and what comes of WAVE files that are put into a bank.
+# The table of recordings: the WAVE file of a sample, to the byte, and what comes of WAVE files that are put into a
+# bank.
 package Recordings;
 use strict;
 use warnings;
@@ -9,13 +10,13 @@ use Tables;
 use Exporter 'import';
 our @EXPORT = qw(try_recordings);
 
-# The WAVE file of the sample of the bank `tone`.
+# The bytes of the WAVE file of the sample of the bank `tone`.
 my $file;
 
-# What is wrong with a run that has to tell this line.
+# Returns what is wrong with a run that must print this line, or undef.
 sub tells { my ($run, $line) = @_; return $run->{wrong} // ($run->{line} eq "$line\n" ? undef : "'$run->{line}' instead of $line"); }
 
-# The bytes of a WAVE file of the table.
+# Returns the bytes of a WAVE file of the table.
 sub wave_bytes {
     my ($wave) = @_;
     return $wave =~ /^words\b(.*)/ ? bytes_of($1) : changed($file, $wave);
@@ -30,7 +31,7 @@ sub try_wave {
     tell("the WAVE file of tone behind $script", $wrong // (read_bytes('out.wav') eq wave_bytes($changes) ? undef : 'is another'));
 }
 
-# An import that has to be done: it makes what the script makes, and is taken back.
+# Tests an import that must do what the script does and have this undo script.
 sub try_import {
     my ($name, $wave, $script, $undo) = @_;
     write_bytes($name, wave_bytes($wave));

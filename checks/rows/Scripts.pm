@@ -1,5 +1,5 @@
-# The tables of scripts, row by row: a script on a bank, and what `apply` answers. The last line of a script may end by a
-# line feed or not: each is tried both ways.
+# The tables of scripts, row by row: a script on a bank, and what `apply` answers. The last line of a script may end by
+# a line feed or not: each is tried both ways.
 package Scripts;
 use strict;
 use warnings;
@@ -13,20 +13,20 @@ our @EXPORT = qw(try_scripts wrong_of_line lines);
 
 my @tables = qw(spellings syntax members zones settings splits samples points texts groups limits);
 
-# A text of lines, of which the last ends by a line feed too.
+# Returns the text with a line feed at its end.
 sub lines { my ($text) = @_; return $text eq '' ? '' : "$text\n"; }
 
-# Text as it is told: a long one is cut.
+# Returns a text for a message; a long one is truncated.
 sub short { my ($text) = @_; return length $text > 200 ? substr($text, 0, 200) . '..' : $text; }
 
-# What is wrong with a run that has to be refused by a line.
+# Returns what is wrong with a run that must be refused with a line, or undef.
 sub wrong_of_line {
     my ($run, $due) = @_;
     my $line = 'sfbank: ' . ($due =~ /^line \d|^read fault/ ? $due : "line 1: $due") . "\n";
     return $run->{wrong} // ($run->{line} eq $line ? undef : "told '$run->{line}'");
 }
 
-# What is wrong with the written file.
+# Returns what is wrong with the written file, or undef.
 sub wrong_of_out {
     my ($due) = @_;
     return 'another file' if defined $due->{makes} && read_bytes('out') ne bank_bytes($due->{makes});
@@ -37,7 +37,7 @@ sub wrong_of_out {
     return is_right($run, -s 'out') // ($last eq spelled($due->{lists}) ? undef : "lists '$last'");
 }
 
-# What is wrong with the text that takes a script back, and with the way back and forth again.
+# Returns what is wrong with the undo script, or with undoing and redoing; or undef.
 sub wrong_of_undo {
     my ($bank, $script, $due) = @_;
     my $undo = $due->{undo};
@@ -48,7 +48,7 @@ sub wrong_of_undo {
     return read_bytes('again') eq lines($printed) ? undef : 'is printed otherwise: ' . short(read_bytes('again'));
 }
 
-# What is wrong with a script that has to be done, and of which all this has to hold.
+# Returns what is wrong with a script that must be done with these results, or undef.
 sub wrong_of_done {
     my ($bank, $script, $due) = @_;
     my $wrong = Rows::is_done(apply_text($bank, "$script\n", 'out', 'undo')) // wrong_of_out($due) // wrong_of_undo($bank, $script, $due);
@@ -56,14 +56,14 @@ sub wrong_of_done {
     return $wrong // (same('bare', 'out') && same('bare.undo', 'undo') ? undef : 'another answer without the last line feed');
 }
 
-# What is wrong with a script that has to be refused.
+# Returns what is wrong with a script that must be refused with this line, or undef.
 sub wrong_of_refused {
     my ($bank, $script, $due) = @_;
     my $wrong = wrong_of_line(apply_text($bank, "$script\n", 'out', 'undo'), $due);
     return $wrong // wrong_of_line(apply_text($bank, $script, 'out', 'undo'), $due);
 }
 
-# What is wrong with a row: its answer is a line alone, or parts that begin with a word each.
+# Returns what is wrong with a row, or undef. Its results are one line, or parts that begin with a keyword each.
 sub wrong_of_row {
     my ($bank, $script, @answers) = @_;
     my ($file, $text) = (bank_file($bank), spelled($script));

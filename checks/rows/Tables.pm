@@ -1,4 +1,4 @@
-# Tables: what their rows are, and how the parts of a row are spelled.
+# Reads tables: their rows, and the escapes in the parts of a row.
 package Tables;
 use strict;
 use warnings;
@@ -18,8 +18,8 @@ sub rows_of {
 
 my %bytes = (n => "\n", t => "\t", r => "\r", '\\' => '\\');
 
-# The bytes that a part spells: `\n`, `\t`, `\r`, `\\` and, in hex digits, `\x7f` are one byte each, and `(..)^3` is three
-# times what stands between the parentheses.
+# The bytes that a part spells: `\n`, `\t`, `\r`, `\\` and, in hex digits, `\x7f` are one byte each, and `(..)^3` is
+# three times what stands between the parentheses.
 sub spelled {
     my ($part) = @_;
     $part =~ s/\(([^()]*)\)\^(\d+)/$1 x $2/ge;

@@ -1,4 +1,4 @@
-# The banks of the table `banks`, as files in the folder of the runs.
+# Writes the banks of the table `banks` as files into the folder of the runs.
 package Worked;
 use strict;
 use warnings;
@@ -9,14 +9,14 @@ use Tables;
 use Exporter 'import';
 our @EXPORT = qw(put_banks bank_bytes bank_file);
 
-# The bytes of `NAME`, or of `NAME: CHANGES`.
+# Returns the bytes of `NAME`, or of `NAME: CHANGES`.
 sub bank_bytes {
     my ($bank) = @_;
     my ($name, $changes) = split /\s*:\s*/, $bank, 2;
     return changed(read_bytes($name) // die("there is no bank $name\n"), $changes // '');
 }
 
-# The file of `NAME`, or of `NAME: CHANGES`.
+# Returns the file of `NAME`, or of `NAME: CHANGES`.
 sub bank_file {
     my ($bank) = @_;
     return $bank if $bank !~ /:/;
@@ -24,7 +24,7 @@ sub bank_file {
     return 'changed';
 }
 
-# What is wrong with a bank that is made so: it stands in the file `out` then.
+# Makes a bank in the file `out`. Returns what is wrong with the run, or undef.
 sub made {
     my ($way) = @_;
     if ($way !~ /^canon (.*)/) { write_bytes('out', bank_bytes($way)); return; }

@@ -1,9 +1,8 @@
-/* Stops a program, or has one of its calls fail: preloaded, it counts the calls by which a program makes
- * and changes files, from 1. Before the one that STOP_AT numbers the program is killed. The calls that
- * FAIL_CALL names, a list parted by commas, answer FAIL_ERROR, an error's number: each of them, or where
- * FAIL_AT is set that one of them alone, counted from 1. The file that FAIL_MARK names is created as one fails,
- * and what was counted is written to the file that COUNTED names, as the program ends. All other calls go on to
- * the C library. */
+/* Kills a program at a system call, or makes calls fail. Preloaded, it counts the calls that make and change files,
+ * from 1. Before call STOP_AT the program is killed. The calls named in FAIL_CALL, a list separated by commas, fail
+ * with the error number FAIL_ERROR: all of them, or only the one with number FAIL_AT among them, if set. The file that
+ * FAIL_MARK names is created when one fails, and the number of calls is written to the file that COUNTED names at the
+ * end. All other calls go to the C library. */
 #define _GNU_SOURCE
 #include <dlfcn.h>
 #include <errno.h>
@@ -17,7 +16,7 @@
 #include <sys/types.h>
 #include <unistd.h>
 
-/* The calls that change files so far, and those of them and others that FAIL_CALL names. */
+/* The number of calls that change files so far, and of calls that FAIL_CALL names. */
 static unsigned long counted;
 static unsigned long named;
 
@@ -28,7 +27,7 @@ static unsigned long number_of(const char *name) {
 
 static void *next(const char *name) { return dlsym(RTLD_NEXT, name); }
 
-/* Whether the list of the calls that are to fail has this one. */
+/* Returns whether FAIL_CALL names this call. */
 static int is_named(const char *call) {
     const char *list = getenv("FAIL_CALL");
     size_t length = strlen(call);
@@ -48,7 +47,7 @@ static void leave_mark(void) {
         fclose(file);
 }
 
-/* Whether a call is to fail. */
+/* Returns whether a call must fail. */
 static int fails(const char *call) {
     if (!is_named(call))
         return 0;
@@ -60,7 +59,7 @@ static int fails(const char *call) {
     return 1;
 }
 
-/* Counts a call that changes files, at which the program may be killed. Whether the call is to fail. */
+/* Counts a call that changes files, and kills the program at STOP_AT. Returns whether the call must fail. */
 static int changing_fails(const char *call) {
     if (++counted == number_of("STOP_AT"))
         kill(getpid(), SIGKILL);
@@ -81,7 +80,7 @@ __attribute__((destructor)) static void end(void) {
     }
 }
 
-/* Whether the opening of a file that is to be written, or of a folder, is to fail. */
+/* Returns whether opening a file for writing, or a folder, must fail. */
 static int opening_fails(const char *path, int flags) {
     struct stat found;
     if (flags & (O_WRONLY | O_RDWR))
@@ -117,7 +116,7 @@ int fdatasync(int file) {
     return ((int (*)(int))next("fdatasync"))(file);
 }
 
-/* A file is closed also where this fails. */
+/* The file is closed even if the call must fail. */
 int close(int file) {
     int answer = ((int (*)(int))next("close"))(file);
     return fails("close") ? -1 : answer;

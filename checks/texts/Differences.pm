@@ -1,5 +1,5 @@
-# Differences of banks: what `diff` writes is as the table says, and a script that makes the one bank of the other, and is
-# undone, to the byte.
+# Tests differences of banks: `diff` writes what the table states, and its script makes the second bank from the first
+# and is undone, byte for byte.
 package Differences;
 use strict;
 use warnings;
@@ -11,21 +11,21 @@ use Told;
 use Exporter 'import';
 our @EXPORT = qw(try_differences);
 
-# What is wrong with the difference of two banks, whose canonical files are given: `difference` holds it afterwards.
+# Writes the difference of two banks, whose canonical files are given, to `difference`. Returns what is wrong, or undef.
 sub leads {
     my ($from, $to, $canonical, $goal) = @_;
     my $wrong = done(diff($from, $to, 'difference')) // done(apply($from, 'difference', 'out', 'undo'));
     return $wrong // (same('out', $goal) ? undone($canonical) : 'the difference makes another bank: ' . one_line(read_bytes('difference')));
 }
 
-# The same both ways; the difference of the way there is held.
+# The same in both directions; `difference` has the first.
 sub back_and_forth {
     my ($from, $to, $canonical, $goal) = @_;
     my $back = leads($to, $from, $goal, $canonical);
     return defined $back ? "the other way round: $back" : leads($from, $to, $canonical, $goal);
 }
 
-# Puts B into the folder as `b`.
+# Writes B as `b`.
 sub make_other {
     my ($from, $edits) = @_;
     my $wrong = $edits =~ /^bank (\w+)$/ ? done(canon($1, 'out')) : done(apply_text($from, $edits, 'out', 'undo'));
@@ -33,7 +33,7 @@ sub make_other {
     return $wrong;
 }
 
-# What is wrong with a difference that has to be a text, or to have at most so many lines.
+# Returns what is wrong with a difference that must be a text, or have at most so many lines; or undef.
 sub is_expected {
     my ($expected) = @_;
     my $difference = read_bytes('difference');

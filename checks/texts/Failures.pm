@@ -1,4 +1,4 @@
-# Texts and banks that can't be written: a write that fails, or takes no byte, at each call in turn.
+# Tests texts and banks that can't be written: a write that fails, or accepts no byte, at each call in turn.
 package Failures;
 use strict;
 use warnings;
@@ -19,7 +19,7 @@ my @runs = (
     ['diff', 'renamed', 'tone', 'out'],
 );
 
-# Has each write of a run go wrong in turn, until none does.
+# Makes each write of a run fail in turn, until none does.
 sub try_each_write {
     my ($way, $most, $words) = @_;
     my $name = "@$words, $way, $most bytes a call";

@@ -1,5 +1,4 @@
-# Banks that have as much as a bank can: their texts, and differences of one edit, in a second and a second for each
-# megabyte.
+# Tests banks at a limit: their scripts, and differences of one edit, within a second and a second for each megabyte.
 package Full;
 use strict;
 use warnings;
@@ -12,8 +11,8 @@ use Told;
 use Exporter 'import';
 our @EXPORT = qw(try_full);
 
-# What is wrong with the difference of the full bank and what an edit makes of it, which has at most so many lines if a
-# number is given.
+# Returns what is wrong with the difference of the full bank and the bank after an edit, which has at most so many lines
+# if a number is given; or undef.
 sub differs {
     my ($edit, $most) = @_;
     my $wrong = done(apply_text('full', $edit, 'edited', 'undo')) // done(diff('full', 'edited', 'difference')) // done(apply('full', 'difference', 'out', 'undo'));
@@ -23,7 +22,8 @@ sub differs {
     return $lines <= $most ? undef : "the difference has $lines lines, not at most $most";
 }
 
-# One edit is one line again; more than one may be many, where what is put in first would go past a limit.
+# The difference of one edit is one line. That of several edits may be longer, if additions must come after removals to
+# stay within a limit.
 sub try_bank {
     my ($name, @edits) = @_;
     tell_text("the text of $name", remade('full', 'full'));

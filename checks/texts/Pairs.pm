@@ -1,6 +1,6 @@
-# Pairs of banks by seeds, and the texts of some: a bank and what the lines of a hostile script that it takes make of it,
-# states of a bank under a script of edits of all forms, a bank and a hostile file that can be read, and banks that have
-# nothing to do with each other.
+# Tests differences of random pairs of banks, and the scripts of some: a bank before and after the accepted lines of a
+# hostile script, two states of a bank during a script of edits of all forms, a bank and a readable hostile file, and
+# unrelated banks.
 package Pairs;
 use strict;
 use warnings;
@@ -12,17 +12,17 @@ use Told;
 use Exporter 'import';
 our @EXPORT = qw(try_pairs try_counts);
 
-# How many pairs are of each kind at least, of 3,000; and how many of them have a difference of no more lines than the
-# edits that made the pair.
+# The smallest number of pairs of each kind among 3,000, and of pairs whose difference has no more lines than the edits
+# that made the pair.
 my %floors = (edited => 1500, states => 500, files => 200, strangers => 250, short => 2000);
 
-# The banks, and those that scripts/make_edits can edit.
+# All banks, and those that scripts/make_edits can edit.
 my (@banks, @edited);
 my (%states, %count);
-# A bank that an earlier seed made.
+# A bank made by an earlier seed.
 my $stranger;
 
-# Puts into the folder what the lines of a hostile script that a bank takes make of it, as `b`; answers how many these are.
+# Writes the bank after the accepted lines of a hostile script as `b`, and returns the number of these lines.
 sub put_edited {
     my ($bank, $path) = @_;
     my @lines = split /\n/, read_bytes($path);
@@ -34,15 +34,15 @@ sub put_edited {
     }
 }
 
-# How many presets, instruments and samples a bank has.
+# Returns the numbers of presets, instruments and samples of a bank.
 sub members_of {
     my ($bank) = @_;
     run(['show', $bank], 'listing');
     return read_bytes('listing') =~ /^bank \d+ presets (\d+) instruments (\d+) samples (\d+) /;
 }
 
-# The states of a bank under a script of edits of all forms, as bytes, with the number of the edits: each some edits behind
-# the one before it.
+# Returns states of a bank during a script of edits of all forms, as bytes with the number of edits so far: each is some
+# edits after the one before it.
 sub states_of {
     my ($maker, $bank) = @_;
     my @lines = split /\n/, join '', `$maker 1200 @{[members_of($bank)]}`;
@@ -58,8 +58,8 @@ sub states_of {
     return \@states;
 }
 
-# Puts two states of a bank into the folder, as `a` and `b`; answers how many edits lie between them. The bank has members
-# of each kind, as the script of edits wants.
+# Writes two states of a bank as `a` and `b`, and returns the number of edits between them. The bank has presets,
+# instruments and samples, as scripts/make_edits needs.
 sub put_states {
     my ($maker, $bank, $seed) = @_;
     my $states = $states{$bank} //= states_of($maker, $bank);
@@ -71,8 +71,8 @@ sub put_states {
     return $states->[$second][0] - $states->[$first][0];
 }
 
-# What is wrong with the difference of a pair, which has to make B of A and to be taken back; `canonical` is the canonical
-# file of B, and A is its own.
+# Returns what is wrong with the difference of a pair, which must make B from A and be undone; or undef. `canonical` is
+# the canonical file of B, and A is canonical.
 sub wrong_of_pair {
     my ($kind, $from, $to, $canonical, $edits) = @_;
     $count{$kind}++;
@@ -90,8 +90,8 @@ sub wrong_of_versions {
     return $run->{status} == 4 && $run->{line} eq "sfbank: refused 51 OtherVersion\n" && !-e 'difference' ? undef : $run->{line};
 }
 
-# The kind of the pair of a seed, its two files, the canonical file of the second, and how many edits lie between them, if
-# any do.
+# Returns the kind of the pair of a seed, its two files, the canonical file of the second, and the number of edits
+# between them, if they are related by edits.
 sub pair_of_seed {
     my ($maker, $seed) = @_;
     my $bank = $banks[$seed % @banks];
@@ -114,7 +114,7 @@ sub try_seed {
     tell_text("the text of pair $seed", remade($to, $canonical)) if $seed % 4 == 0;
 }
 
-# Tries so many seeds from one on, with the folder of the makers and the banks that they make pairs of.
+# Tests `count` seeds from one on, with the folder of the generators and the banks of the pairs.
 sub try_pairs {
     my ($scripts, $first, $count, @from) = @_;
     for my $number (0 .. $#from) {
@@ -134,7 +134,7 @@ sub try_pairs {
     }
 }
 
-# That there were so many of each kind that it says something.
+# Tests that there were enough pairs of each kind.
 sub try_counts {
     for my $kind (sort keys %floors) {
         my $there = $count{$kind} // 0;

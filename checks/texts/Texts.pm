@@ -1,5 +1,5 @@
-# Banks as texts: what `script` writes of a bank is as the files of `printed` have it, to the byte; and on the bank that
-# `new` makes of its version, `apply` makes the bank of it again.
+# Tests banks as scripts: `script` writes the files of `printed`, byte for byte, and `apply` of the script to the empty
+# bank of the same version makes the bank again.
 package Texts;
 use strict;
 use warnings;
@@ -12,7 +12,7 @@ our @EXPORT = qw(try_new make_banks try_texts try_streams try_faults remade run_
 
 my $without = ' without points: to read and compare alone';
 
-# What is wrong with the empty bank of a minor version.
+# Returns what is wrong with the empty bank of a minor version, or undef.
 sub wrong_of_new {
     my ($minor, @words) = @_;
     my $wrong = done(new_bank('out', @words));
@@ -28,7 +28,7 @@ sub try_new {
     tell_text('an empty bank has 308 bytes', length $made == 308 ? undef : length($made) . ' bytes');
 }
 
-# Puts the banks into the folder: those that scripts make, those of the examples, and one of 200 presets.
+# Writes the banks into the folder: those made by scripts, those of the examples, and one of 200 presets.
 sub make_banks {
     my ($here) = @_;
     my @many = ('add-inst 0 "i"', map { "add-preset $_ \"p$_\" $_ 0 0 0 0 { 0 }" } 0 .. 199);
@@ -46,8 +46,8 @@ sub make_bank {
     return $wrong;
 }
 
-# What is wrong with a bank that is made again of its text on the bank that the first line names: the file has to be
-# this one, and its text the same.
+# Returns what is wrong with the bank made by its script from the bank that the first line names, or undef: the file
+# must be the canonical one, and its script the same.
 sub remade {
     my ($bank, $canonical) = @_;
     my $wrong = done(script($bank, 'text'));
@@ -58,7 +58,7 @@ sub remade {
     return $wrong // done(script('out', 'text.again')) // (same('text', 'text.again') ? undef : 'the bank of its text has another text');
 }
 
-# What a text is without the points of the samples.
+# Returns a script without the points of samples.
 sub without_points {
     my ($text) = @_;
     $text =~ s/\n/$without\n/;
@@ -84,7 +84,7 @@ sub try_text {
     tell_text("script of $bank over it", $over // (same('over', 'text') ? undef : 'another text'));
 }
 
-# A run that puts its output over an input.
+# Runs a command whose output replaces an input.
 sub run_over {
     my (@words) = @_;
     my $run = run(\@words);
@@ -92,7 +92,7 @@ sub run_over {
     return $run;
 }
 
-# Output to a stream.
+# Tests output to a stream.
 sub try_streams {
     for (['new'], ['script', 'organ'], ['diff', 'tone', 'wide']) {
         my $run = run([@$_, '/dev/stdout']);
@@ -102,7 +102,7 @@ sub try_streams {
     }
 }
 
-# Tries the texts of all banks, and that each printed one is of a bank.
+# Tests the scripts of all banks, and that each file of `printed` is of a bank.
 sub try_texts {
     my ($here, @banks) = @_;
     try_text($here, $_) for @banks;

@@ -1,4 +1,4 @@
-# What was tried, counted, and what went wrong with it, shown.
+# Counts cases, and runs of `new`, `script` and `diff`.
 package Told;
 use strict;
 use warnings;
@@ -9,7 +9,7 @@ our @EXPORT = qw(tell_text totals_of_texts done new_bank script diff one_line li
 
 my ($passed, $failed) = (0, 0);
 
-# Counts what was tried, and shows what went wrong with it: the first twenty.
+# Counts a case, and prints what is wrong with it, for the first twenty.
 sub tell_text {
     my ($name, $wrong) = @_;
     if (!defined $wrong) { $passed++; return; }
@@ -18,15 +18,15 @@ sub tell_text {
 
 sub totals_of_texts { return ($passed, $failed); }
 
-# What is wrong with a run that has to be done.
+# Returns what is wrong with a run that must be done, or undef.
 sub done { my ($run) = @_; return $run->{wrong} // ($run->{status} ? $run->{line} : undef); }
 
-# The three commands, each a run as `canon` is.
+# Runs of the three commands, as `canon` of Runs.pm.
 sub new_bank { my ($out, @version) = @_; return run_command(['new', $out, @version], $out); }
 sub script { my ($in, $out, @flags) = @_; return run_command(['script', @flags, $in, $out], $out); }
 sub diff { my ($from, $to, $out) = @_; return run_command(['diff', $from, $to, $out], $out); }
 
-# Text as one line, for telling; a long one is cut.
+# Returns a text as one line for a message; a long one is truncated.
 sub one_line { my ($text) = @_; return length $text > 300 ? substr($text, 0, 300) =~ s/\n/\\n/gr . '..' : $text =~ s/\n/\\n/gr; }
 
 sub lines_of { my ($text) = @_; return scalar(() = $text =~ /\n/g); }
