@@ -1,8 +1,8 @@
-# sfbank: `make demo` builds the program and runs its main job; `make test` proves and tests all.
+# sfbank: `make demo` builds the program and runs it on the examples; `make test` proves and tests everything.
 
 .PHONY: build demo test bench clean install uninstall
 
-# Where `make install` puts the program, its manual page and its completions; a DESTDIR may stand before it.
+# `make install` copies the program, its manual page and its completions below DESTDIR and PREFIX.
 PREFIX = /usr/local
 PROGRAM = build/sfbank
 BIN = $(DESTDIR)$(PREFIX)/bin

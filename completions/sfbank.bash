@@ -1,6 +1,6 @@
 # Completions of sfbank for bash.
 
-# The options of a command, or of the program where none is given.
+# The options of a command, or of the program if there is none.
 _sfbank_options() {
   case $1 in
     apply) echo --force --neutral --help ;;
@@ -13,7 +13,7 @@ _sfbank_options() {
   esac
 }
 
-# The endings of the files that a command takes, in their order; - is a word that is no file, preset/inst one of these.
+# The extensions of the files of a command, in order; - is an argument that is no file, preset/inst one of these words.
 _sfbank_endings() {
   case $1 in
     apply) echo sf2 txt sf2 txt ;;
@@ -30,7 +30,7 @@ _sfbank_endings() {
   esac
 }
 
-# Gives the command's name, and behind it the files before the cursor, without options and what belongs to them.
+# Prints the command and then the files before the cursor, without options and their values.
 _sfbank_given() {
   local i
   for ((i = 1; i < COMP_CWORD; i++)); do
@@ -45,7 +45,7 @@ _sfbank_given() {
   done
 }
 
-# Completes a folder or a file with an ending, or where there is none any file; or what else is due.
+# Completes a folder or a file with an extension, or any file if there is no such file; or another argument.
 _sfbank_files() {
   local ending=$1 word=$2
   if [[ $ending == - ]]; then

@@ -1,6 +1,6 @@
 # Completions of sfbank for fish.
 
-# Gives the command's name, and behind it the files before the cursor, without options and what belongs to them.
+# Prints the command and then the files before the cursor, without options and their values.
 function __sfbank_given
     set -l is_value no
     for word in (commandline -opc)[2..]
@@ -14,18 +14,18 @@ function __sfbank_given
     end
 end
 
-# Whether the command is one of some.
+# Whether the command is one of the arguments.
 function __sfbank_is
     set -l given (__sfbank_given)
     set -q given[1]; and contains -- $given[1] $argv
 end
 
-# Whether no command is given yet.
+# Whether there is no command yet.
 function __sfbank_is_bare
     test -z "$(__sfbank_given)"
 end
 
-# The files at the cursor, those with the ending that is due there first, or what else is due.
+# The files at the cursor, those with the expected extension first, or another argument.
 function __sfbank_files
     set -l given (__sfbank_given)
     set -l endings

@@ -1,11 +1,10 @@
 /*
- * The work of `sfbank canon` without the bank, for scripts/bench to measure it beside: reads a file
- * whole into memory, and writes it in one call.
+ * Reads and writes a file as `sfbank canon` does but without a bank, for comparison in scripts/bench: reads the whole
+ * file into memory, and writes it in one call.
  *
  *   read_write IN OUT
- *   read_write IN          its reading half
- *   read_write -z IN       its reading half, in pieces that are filled with zeros before they are
- *                          read into, as sfbank has to
+ *   read_write IN          only reads
+ *   read_write -z IN       only reads, in pieces that are filled with zeros before, as sfbank must
  */
 #include <fcntl.h>
 #include <stdio.h>
@@ -14,7 +13,7 @@
 #include <sys/stat.h>
 #include <unistd.h>
 
-/* The bytes that sfbank reads at once. */
+/* The number of bytes that sfbank reads in one call. */
 #define PIECE 262144
 
 static void fail(const char *what)
@@ -23,7 +22,7 @@ static void fail(const char *what)
     exit(1);
 }
 
-/* Reads a file whole, and gives its length. */
+/* Reads a whole file, and returns its length. */
 static size_t read_file(const char *path, int zeros, char **bytes)
 {
     struct stat about;
@@ -31,7 +30,7 @@ static size_t read_file(const char *path, int zeros, char **bytes)
     if (in < 0 || fstat(in, &about) < 0)
         fail(path);
 
-    /* One byte more is asked for than the file has, so that its end is seen. */
+    /* Requests one byte more than the file has, so that its end is noticed. */
     size_t room = (size_t)about.st_size + 1, at = 0;
     *bytes = malloc(room);
     if (*bytes == NULL)

@@ -1,11 +1,10 @@
 /*
- * The work of the crate `voices` in plain C, for scripts/bench to measure it beside: voices by the formulas of
- * docs/SOUND.md, one frame at a time. A voice keeps its place, which the step is added to, and its
- * level, whose line goes up by a whole part and a rest, so that no frame divides by a number that
- * isn't known beforehand.
+ * The crate `voices` in plain C, for comparison in scripts/bench: voices by the formulas of docs/SOUND.md, one frame at
+ * a time. A voice has a position, to which the phase increment is added, and a level, which rises by a whole part and a
+ * remainder, so that no frame divides by a variable.
  *
- *   voice_frames ROUNDS    plays each voice of crates/voice_frames so many times, and prints its name, the sum of
- *                          what it played, its frames, and the nanoseconds that they took
+ *   voice_frames ROUNDS    plays each voice of crates/voice_frames ROUNDS times, and prints its name, a checksum, the
+ *                          number of frames, and the nanoseconds
  */
 #include <stdint.h>
 #include <stdio.h>
@@ -19,7 +18,7 @@
 
 enum phase { ATTACK, DECAY, SUSTAIN, RELEASE };
 
-/* The whole part of `amount * j / over`, for each j in turn. */
+/* The whole part of `amount * j / over`, for j = 0, 1, 2, .. */
 struct line {
     uint32_t whole, rest, whole_step, rest_step, over;
 };
@@ -30,7 +29,7 @@ struct voice {
     int looped;
     enum phase phase;
     struct line line;
-    uint32_t attenuation, level, held; /* of the line now, as loud as that is, and as the release began */
+    uint32_t attenuation, level, held; /* the current attenuation, its gain, and the attenuation when the release began */
     int32_t loudness, left, right;
     uint64_t place;
 };
@@ -67,7 +66,7 @@ static void go_on(struct line *line)
     }
 }
 
-/* The gain of the line, computed once for equal attenuations in a row. */
+/* The gain of the attenuation, computed once for equal attenuations in a row. */
 static uint32_t falling(struct voice *v)
 {
     if (v->line.whole != v->attenuation) {
@@ -112,7 +111,7 @@ static int32_t next_point(struct voice *v)
     return p + (int32_t)((q - p) * part >> 16);
 }
 
-/* So many thousandths, rounded down also below zero. */
+/* A number of thousandths, rounded down also below zero. */
 static int32_t side(int32_t z, int32_t part)
 {
     return (int32_t)((uint32_t)(z * part + 32768000) / 1000) - 32768;
@@ -130,7 +129,7 @@ static void add_frames(struct voice *v, int32_t *sums)
     }
 }
 
-/* The voice of crates/voice_frames in its first frame, which begins elsewhere in each of 64 rounds. */
+/* The voice of crates/voice_frames before its first frame. It starts at another point in each of 64 rounds. */
 static struct voice voice_of(const int16_t *points, int looped, enum phase phase, unsigned round)
 {
     struct voice v;
@@ -159,7 +158,7 @@ static uint64_t now(void)
     return (uint64_t)at.tv_sec * 1000000000 + (uint64_t)at.tv_nsec;
 }
 
-/* Plays a voice in blocks that are added up, and gives a sum over them. */
+/* Plays a voice in blocks, adds them up, and returns a checksum of the sums. */
 static uint64_t play(const int16_t *points, int looped, enum phase phase, unsigned round)
 {
     int32_t sums[2 * BLOCK] = { 0 };

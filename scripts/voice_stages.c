@@ -1,10 +1,10 @@
 /*
- * What a frame of a voice takes at best where the compiler does several frames at once: the stages of `voices` and
- * `voice_levels` in plain C, each a loop over 1,024 frames, and nothing between them. No frame is the last of a
- * loop, a centibel or a note, no buffer is cleared and no call is made for fewer frames.
+ * The least time of a frame of a voice with vectorized loops: the stages of `voices` and `voice_levels` in plain C,
+ * each a loop over 1,024 frames, and nothing between them. No frame is the last of a loop, a centibel or a note, no
+ * buffer is cleared and no call is made for fewer frames.
  *
  *   clang -O3 -march=x86-64-v2 -o voice_stages scripts/voice_stages.c
- *   voice_stages           prints the nanoseconds of each stage for a frame, the least of 400 rounds
+ *   voice_stages           prints the nanoseconds of each stage per frame, the least of 400 rounds
  */
 #include <stdint.h>
 #include <stdio.h>
@@ -68,7 +68,7 @@ static void softening(void)
         run[k] = softer(softer(run[k], levels[k]), others[k]);
 }
 
-/* Half of each frame to the sums of either side, which stand in turn. */
+/* Adds half of each frame to the left and the right sum, which alternate. */
 static void adding(void)
 {
     for (size_t k = 0; k < FRAMES; k++) {
@@ -78,7 +78,7 @@ static void adding(void)
     }
 }
 
-/* Half of each frame to sums of voices in the middle alone, which both sides would get once a block. */
+/* Adds half of each frame to the sums of voices in the middle, to be added to both sides once a block. */
 static void adding_once(void)
 {
     for (size_t k = 0; k < FRAMES; k++)
