@@ -8,7 +8,7 @@ ghost use Rattle.sf_base.specs.declared.limits.TheConstants.{POINTS};
 ghost use Rattle.wave_file.specs.Wave.{FORMAT, DATA};
 ghost use Rattle.wave_file.specs.SampleWave.{SAMPLER, numbers, mono_format, frame_time, loop_count, sampler_head, loop_bytes, held_pitch, sampler, sample_wave};
 
-use crate::pitch::{pitch_fraction, unity_note};
+use crate::sampler_pitch::{pitch_fraction, unity_note};
 use bank_parts::Sample;
 use outputs::Output;
 use riff_chunks::ChunkWriter;

@@ -8,9 +8,9 @@ ghost use Rattle.wave_file.specs.ReadSteps.{has_loops, loop_steps, chunk_steps, 
 use crate::fault::WaveFault;
 use crate::frames::SamplerLoop;
 use crate::recording::{Pitch, Sampler};
+use crate::sampler_pitch::{pitch_fraction, unity_note};
 use hydra_records::Table;
 use sf_base::{part_of, u32_at};
-use wave_file::{pitch_fraction, unity_note};
 
 /// The size of the header before the loops, in bytes.
 const HEAD_SIZE: usize = 36;
