@@ -60,7 +60,7 @@ fn read_content<'a>(alloc: Global, chunks: &FirstChunks<'a>) -> Result<Recording
 }
 
 // The body of the `fmt ` chunk. A missing chunk is empty.
-#[tactic(auto, unfolding(wave_file::specs::Wave::FORMAT))]
+#[tactic(auto, unfolding(crate::specs::Wave::FORMAT))]
 fn format_of<'a>(chunks: &FirstChunks<'a>) -> &'a [u8]
     ensures { result.now ≡ body_in FORMAT chunks.now }
 {

@@ -146,7 +146,7 @@ fn data_in(chunk: &[u8]) -> &[u8]
 }
 
 // Whether the chunk is what sfbank writes for a sample of this pitch.
-#[tactic(auto, unfolding(wave_file::specs::SampleWave::held_pitch))]
+#[tactic(auto, unfolding(crate::specs::SampleWave::held_pitch))]
 fn is_held(chunk: &[u8], pitch: Pitch) -> bool
     requires { 36 ≤ length chunk.now }
     ensures { result ≡ is_held chunk.now pitch }
