@@ -25,7 +25,7 @@ sub make_inputs {
         'add-preset 0 "p" 0 0 0 0 0' . ' { 0 }' x 1_000,
     );
     my $run = apply_text('empty', join("\n", @lines), 'voices', 'undo');
-    tell('a bank of a million voices', $run->{wrong} // ($run->{status} ? $run->{line} : undef));
+    report('a bank of a million voices', $run->{wrong} // ($run->{status} ? $run->{line} : undef));
 }
 
 # Writes the empty bank's file after an unknown chunk, without the last pad byte.
@@ -81,7 +81,7 @@ sub try_shell {
     $wrong //= "told '$errors'" if $errors ne $due;
     $wrong //= 'printed' if -s 'printed';
     $wrong //= 'left a file' if -e 'out' || -e 'undo';
-    tell($line, $wrong);
+    report($line, $wrong);
 }
 
 sub try_lengths {

@@ -64,13 +64,13 @@ sub is_full {
 sub try_bank {
     my ($limit, $lines, $refused, $taken) = @_;
     my $name = "the most $limit, of " . substr($lines->[-1], 0, 12);
-    tell($name, is_undone('empty', join("\n", @$lines)));
+    report($name, is_undone('empty', join("\n", @$lines)));
     rename 'out', 'full' or return;
     my $more = apply_text('empty', join("\n", @$lines, $refused->[0]), 'out', 'undo');
     my $line = 'sfbank: line ' . (1 + @$lines) . ": refused 37 Full $limit\n";
-    tell("$name, and more", $more->{wrong} // ($more->{line} eq $line ? undef : $more->{line}));
-    tell("$name: $_", is_full('full', $_, $limit)) for @$refused;
-    tell("$name: $_", is_undone('full', $_)) for @$taken;
+    report("$name, and more", $more->{wrong} // ($more->{line} eq $line ? undef : $more->{line}));
+    report("$name: $_", is_full('full', $_, $limit)) for @$refused;
+    report("$name: $_", is_undone('full', $_)) for @$taken;
 }
 
 # Returns a file of samples that all have the same 49,954 points; the first begins at a given point.
@@ -97,21 +97,21 @@ sub try_points {
     write_bytes('more', of_many_points(10_001, 0));
     write_bytes('trim', "trim 0 1 0\n");
     my $run = canon('more', 'out');
-    tell('a sample more than the most points', $run->{line} eq "sfbank: read fault 18 TooMany\n" ? $run->{wrong} : $run->{line});
-    tell("the most points: $_", is_full('most', $_, 'points')) for 'add-sample 0 "n" 0 0 0 mono noloop x', 'extend 0 x0000 x', 'extend 9999 x x0000';
+    report('a sample more than the most points', $run->{line} eq "sfbank: read fault 18 TooMany\n" ? $run->{wrong} : $run->{line});
+    report("the most points: $_", is_full('most', $_, 'points')) for 'add-sample 0 "n" 0 0 0 mono noloop x', 'extend 0 x0000 x', 'extend 9999 x x0000';
     $run = run(['apply', 'most', 'trim', '/dev/null', 'undo']);
-    tell('the most points are edited', is_right($run, 1_000_000_000) // ($run->{status} ? $run->{line} : undef));
+    report('the most points are edited', is_right($run, 1_000_000_000) // ($run->{status} ? $run->{line} : undef));
     my $length = `$program canon most /dev/stdout | wc -c`;
-    tell('the file of the most points', $length == 1_000_460_308 ? undef : "has $length bytes");
+    report('the file of the most points', $length == 1_000_460_308 ? undef : "has $length bytes");
     my $edited = write_the_same("$program canon trimmed /dev/stdout", "$program apply most trim /dev/stdout undo");
     my $back = $edited && write_the_same("$program canon most /dev/stdout", "$program apply trimmed undo /dev/stdout again");
-    tell('the most points are edited and undone', $back && read_bytes('again') eq "trim 0 1 0\n" ? undef : $edited ? 'not undone' : 'not edited');
+    report('the most points are edited and undone', $back && read_bytes('again') eq "trim 0 1 0\n" ? undef : $edited ? 'not undone' : 'not edited');
 }
 
 sub try_limits {
     for my $bank (full_banks()) {
         try_bank(@$bank);
-        tell('the file of the most samples', -s 'full' == 9_044_138 ? undef : 'has ' . (-s 'full') . ' bytes') if $bank->[0] eq 'samples';
+        report('the file of the most samples', -s 'full' == 9_044_138 ? undef : 'has ' . (-s 'full') . ' bytes') if $bank->[0] eq 'samples';
     }
     try_points();
 }

@@ -43,8 +43,8 @@ sub try_neutral_seeds {
     for my $bank (@banks) {
         my $wrong = take_apart($bank);
         system("$scripts/make_notes 24 listing > notes") and $wrong = 'scripts/make_notes failed';
-        tell("$bank taken apart and played", $wrong // play($bank, 'wave'));
-        tell("neutral seed $_ on $bank", wrong_of_script("$scripts/make_neutral", $bank, $_)) for 1 .. $seeds;
+        report("$bank taken apart and played", $wrong // play($bank, 'wave'));
+        report("neutral seed $_ on $bank", wrong_of_script("$scripts/make_neutral", $bank, $_)) for 1 .. $seeds;
     }
 }
 

@@ -54,7 +54,7 @@ sub try_file {
     write_bytes('in', changed(read_bytes($bank), $changes));
     my ($as) = $answer =~ /^as (\w+)$/;
     my $wrong = $as ? reads_as(changed(read_bytes($as), $then // ''), $counts // '') : ends_by(canon('in', 'out'), "read fault $answer\n");
-    tell("$bank with $changes", $wrong);
+    report("$bank with $changes", $wrong);
 }
 
 # Tests each proper prefix of a file: NotRiff for less than four bytes, else Truncated.
@@ -63,7 +63,7 @@ sub try_fronts {
         my $whole = read_bytes($bank);
         for my $length (0 .. length($whole) - 1) {
             write_bytes('in', substr $whole, 0, $length);
-            tell("$length bytes of $bank", ends_by(canon('in', 'out'), 'read fault ' . ($length < 4 ? "1 NotRiff\n" : "3 Truncated\n")));
+            report("$length bytes of $bank", ends_by(canon('in', 'out'), 'read fault ' . ($length < 4 ? "1 NotRiff\n" : "3 Truncated\n")));
         }
     }
 }
@@ -80,7 +80,7 @@ sub try_script {
         my $line = $answer =~ /^line/ ? $answer : "line 1: $answer";
         $wrong = ends_by($run, ": $line\n");
     }
-    tell("$script on $bank", $wrong);
+    report("$script on $bank", $wrong);
 }
 
 sub play {
@@ -105,15 +105,15 @@ sub try_notes {
     } else {
         $wrong = ends_by($run, ": line 1: $answer\n");
     }
-    tell("$notes on $bank", $wrong);
+    report("$notes on $bank", $wrong);
 }
 
 # Tests what is too long for a table.
 sub try_long {
-    tell('65,535 notes', is_done(play('tone', "0 1 0 1 60 1\n" x 65_535, 'out')));
-    tell('65,535 notes that sound at one frame', is_done(play('tone', "0 1 0 0 60 127\n" x 65_535, 'out')));
-    tell('65,536 notes', ends_by(play('tone', "0 1 0 1 60 1\n" x 65_536, 'out'), ": line 65536: fault 46 TooManyNotes\n"));
-    tell('the latest notes', is_done(play('empty', "99999999 1 0 0 60 127\n100000000 0 0 0 60 127\n", '/dev/null')));
+    report('65,535 notes', is_done(play('tone', "0 1 0 1 60 1\n" x 65_535, 'out')));
+    report('65,535 notes that sound at one frame', is_done(play('tone', "0 1 0 0 60 127\n" x 65_535, 'out')));
+    report('65,536 notes', ends_by(play('tone', "0 1 0 1 60 1\n" x 65_536, 'out'), ": line 65536: fault 46 TooManyNotes\n"));
+    report('the latest notes', is_done(play('empty', "99999999 1 0 0 60 127\n100000000 0 0 0 60 127\n", '/dev/null')));
     my @lines = (
         ['100,000 braces', '{ ' x 100_000, 'fault 41 Syntax'],
         ['a zone of 100,000 braces', 'add-zone inst 0 0 ' . '{ ' x 100_000, 'fault 42 Number'],
@@ -134,7 +134,7 @@ sub try_long {
     );
     for (@done) {
         my ($name, $script, $undo) = @$_;
-        tell($name, is_undone($script, $undo));
+        report($name, is_undone($script, $undo));
     }
 }
 
@@ -149,9 +149,9 @@ sub try_groups {
     my ($here) = @_;
     try_script(@$_) for rows_of("$here/groups");
     my $name = '{ rename-sample 0 "t" }';
-    tell('a group of 100,000 edits', is_undone("group" . " $name" x 100_000, "group" . " $name" x 100_000 . "\n"));
+    report('a group of 100,000 edits', is_undone("group" . " $name" x 100_000, "group" . " $name" x 100_000 . "\n"));
     try_long_line('a group of 100,000 braces', 'group' . ' {' x 100_000, 'fault 41 Syntax');
-    tell('48 is met by a row', $met{48} ? undef : 'it is not');
+    report('48 is met by a row', $met{48} ? undef : 'it is not');
 }
 
 # Tests neutral edits, whose inverses must be neutral too.
@@ -159,13 +159,13 @@ sub try_neutral {
     my ($here) = @_;
     local @Runs::flags = ('--neutral');
     try_script(@$_) for rows_of("$here/neutral");
-    tell('50 is met by a row', $met{50} ? undef : 'it is not');
+    report('50 is met by a row', $met{50} ? undef : 'it is not');
 }
 
 sub try_long_line {
     my ($name, $script, $answer) = @_;
     my $line = $answer =~ /^line/ ? $answer : "line 1: $answer";
-    tell($name, ends_by(apply_text('tone', $script, 'out', 'undo'), ": $line\n"));
+    report($name, ends_by(apply_text('tone', $script, 'out', 'undo'), ": $line\n"));
 }
 
 # Tests an import of the WAVE file of a sample, with changes.
@@ -173,20 +173,20 @@ sub try_recording {
     my ($changes, $answer) = @_;
     write_bytes('in.wav', changed(read_bytes('tone.wav'), $changes));
     my $run = run_command(['import', 'tone', 'in.wav', 'out', 'undo'], 'out', 'undo');
-    tell("a recording with $changes", $answer eq 'done' ? is_done($run) // undone('tone') : ends_by($run, "wave fault $answer\n"));
+    report("a recording with $changes", $answer eq 'done' ? is_done($run) // undone('tone') : ends_by($run, "wave fault $answer\n"));
 }
 
 sub try_recordings {
     my ($here) = @_;
     my $wrong = is_done(run_command(['wave', 'tone', '0', 'tone.wav'], 'tone.wav'));
-    return tell('the WAVE file of a sample', $wrong) if defined $wrong;
+    return report('the WAVE file of a sample', $wrong) if defined $wrong;
     try_recording(@$_) for rows_of("$here/recordings");
 }
 
 # Tests that each fault, refusal and count was in some row.
 sub try_met {
     for (sort(keys %Runs::FAULTS, grep { /^\d+$/ } keys %Runs::REFUSALS), qw(texts sm24 zones gens ranges loops links)) {
-        tell("$_ is met by a row", $met{$_} ? undef : 'it is not');
+        report("$_ is met by a row", $met{$_} ? undef : 'it is not');
     }
 }
 

@@ -7,7 +7,7 @@ use Banks;
 use Cwd 'abs_path';
 use Starter;
 use Exporter 'import';
-our @EXPORT = qw(program_that_was_built run_in program_of_runs run run_command is_right tell totals canon apply apply_text knows_groups same undone);
+our @EXPORT = qw(program_that_was_built run_in program_of_runs run run_command is_right report totals canon apply apply_text knows_groups same undone);
 
 # The names of faults and refusals, by number.
 our %FAULTS = (
@@ -55,7 +55,7 @@ sub run_in {
 sub program_of_runs { return $program; }
 
 # Counts a case, and prints what is wrong with it, for the first twenty.
-sub tell {
+sub report {
     my ($name, $wrong) = @_;
     if (!defined $wrong) { $passed++; return; }
     print "$prefix: $name: $wrong\n" if ++$failed <= 20;

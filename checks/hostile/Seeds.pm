@@ -68,15 +68,15 @@ sub wrong_of_seed {
 sub try_seeds {
     my ($maker, $first, $count, @from) = @_;
     for my $number (0 .. $#from) {
-        tell("canon $from[$number]", canon($from[$number], "bank$number")->{wrong});
+        report("canon $from[$number]", canon($from[$number], "bank$number")->{wrong});
         push @banks, "bank$number";
     }
     local $ENV{HOSTILE_GROUPS} = knows_groups() ? 1 : 0;
     while ($count > 0) {
         my $some = $count < 200 ? $count : 200;
         mkdir 'seeds';
-        system($maker, 'seeds', $first, $some, @banks) and return tell('scripts/make_hostile', 'failed');
-        tell("seed $_", wrong_of_seed($_)) for $first .. $first + $some - 1;
+        system($maker, 'seeds', $first, $some, @banks) and return report('scripts/make_hostile', 'failed');
+        report("seed $_", wrong_of_seed($_)) for $first .. $first + $some - 1;
         unlink glob 'seeds/*';
         ($first, $count) = ($first + $some, $count - $some);
     }
@@ -86,7 +86,7 @@ sub try_seeds {
 sub try_accepted {
     for my $kind (sort keys %floors) {
         my $count = $done{$kind} // 0;
-        tell("3000 seeds, $kind accepted", $count >= $floors{$kind} ? undef : "$count, not $floors{$kind}");
+        report("3000 seeds, $kind accepted", $count >= $floors{$kind} ? undef : "$count, not $floors{$kind}");
     }
 }
 

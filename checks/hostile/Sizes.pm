@@ -22,7 +22,7 @@ sub try_versions {
     for my $minor (0 .. 16, 255, 256, 65_535) {
         my $run = run_command(['new', '--minor', $minor, 'version'], 'version');
         my $wrong = $run->{wrong} // ($run->{status} ? $run->{line} : is_done('version', $sample));
-        tell("a bank of the minor version $minor", $wrong);
+        report("a bank of the minor version $minor", $wrong);
         unlink 'version';
     }
 }
@@ -35,7 +35,7 @@ sub try_counts {
         my $made = apply_text('empty', join("\n", @lines), 'many', 'undo');
         $wrong //= $made->{wrong} // is_done('many', 'rename-sample 0 "t"');
         my $shown = run(['show', '--zones', '--uses', 'many']);
-        tell("$count members and zones", $wrong // ($shown->{status} ? $shown->{line} : undef));
+        report("$count members and zones", $wrong // ($shown->{status} ? $shown->{line} : undef));
         unlink 'many';
     }
 }
@@ -52,7 +52,7 @@ sub try_voices {
             my $played = run_command(['play', $name, 'notes', "$name.wav"], "$name.wav");
             $wrong //= $run->{wrong} // $played->{wrong} // ($run->{status} || $played->{status} ? $run->{line} . $played->{line} : undef);
         }
-        tell("a note of $count voices", $wrong // (same('one.wav', 'many.wav') ? undef : 'sounds otherwise'));
+        report("a note of $count voices", $wrong // (same('one.wav', 'many.wav') ? undef : 'sounds otherwise'));
         unlink qw(one many one.wav many.wav);
     }
 }
@@ -60,9 +60,9 @@ sub try_voices {
 # Tests scripts and texts of several megabytes.
 sub try_scripts {
     my @names = map { sprintf 'rename-sample 0 "name %07d"', $_ } 1 .. 60_000;
-    tell('a script of 1.6 MB', is_done('empty', $sample, @names));
+    report('a script of 1.6 MB', is_done('empty', $sample, @names));
     my $points = 'x' . '0080ff7f' x 600_000;
-    tell('a line of 4.8 MB', is_done('empty', "add-sample 0 \"s\" 44100 60 0 mono noloop $points"));
+    report('a line of 4.8 MB', is_done('empty', "add-sample 0 \"s\" 44100 60 0 mono noloop $points"));
 }
 
 sub try_sizes {

@@ -45,13 +45,13 @@ my @lies = (0, 1, 2, 3, 7, 24, 36, 43, 44, 67, 68, 69, 127, 128, 255, 0x7fff_fff
 sub try_changes {
     my ($whole) = @_;
     for my $length (0 .. length($whole) - 1) {
-        tell("$length bytes of a WAVE file", wrong_of_import(substr $whole, 0, $length));
+        report("$length bytes of a WAVE file", wrong_of_import(substr $whole, 0, $length));
         for my $byte (0, 1, 2, 3, 127, 128, 255) {
-            tell("byte $length of a WAVE file is $byte", wrong_of_import(substr($whole, 0, $length) . chr($byte) . substr($whole, $length + 1)));
+            report("byte $length of a WAVE file is $byte", wrong_of_import(substr($whole, 0, $length) . chr($byte) . substr($whole, $length + 1)));
         }
         next if $length % 4 || $length + 4 > length $whole;
         for my $lie (@lies) {
-            tell("number $length of a WAVE file is $lie", wrong_of_import(substr($whole, 0, $length) . pack('V', $lie) . substr($whole, $length + 4)));
+            report("number $length of a WAVE file is $lie", wrong_of_import(substr($whole, 0, $length) . pack('V', $lie) . substr($whole, $length + 4)));
         }
     }
 }
@@ -63,7 +63,7 @@ sub try_wave_seeds {
         srand $seed;
         my $file = $whole;
         substr($file, int(rand length $file), 1) = chr int rand 256 for 0 .. rand 4;
-        tell("seed $seed of a WAVE file", wrong_of_import($file));
+        report("seed $seed of a WAVE file", wrong_of_import($file));
     }
 }
 
@@ -72,13 +72,13 @@ sub knows_waves { return !run(['wave', '--help'])->{status}; }
 
 sub try_waves {
     return if !knows_waves();
-    for my $bank (qw(saw tone)) { tell("sample 0 of $bank", wrong_of_sample($bank)); }
+    for my $bank (qw(saw tone)) { report("sample 0 of $bank", wrong_of_sample($bank)); }
     my $run = wave('tone', 0, 'tone.wav');
     my $whole = read_bytes('tone.wav');
-    return tell('the WAVE file of a sample', $run->{wrong} // 'is none') if !defined $whole;
+    return report('the WAVE file of a sample', $run->{wrong} // 'is none') if !defined $whole;
     try_changes($whole);
     try_wave_seeds($whole, 3000);
-    tell('WAVE files imported', $imported >= $floor ? undef : "$imported, not $floor");
+    report('WAVE files imported', $imported >= $floor ? undef : "$imported, not $floor");
 }
 
 1;

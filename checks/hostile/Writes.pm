@@ -33,10 +33,10 @@ sub make_inputs {
     write_bytes('remove', "remove-inst 1\n");
     write_bytes('note', "0 8 0 0 67 127\n");
     my $wave = run(['wave', 'tone', '0', 'take']);
-    tell('a recording', $wave->{status} ? $wave->{line} : undef);
+    report('a recording', $wave->{status} ? $wave->{line} : undef);
     my $points = '0123456789abcdef' x 5_000;
     my $run = apply_text('layered', "extend 0 x$points x", 'long', 'undo');
-    tell('a longer bank', $run->{wrong});
+    report('a longer bank', $run->{wrong});
 }
 
 # Returns the file of an output; a run without a fault writes all of it there.
@@ -79,9 +79,9 @@ sub try_each_write {
         my $run = run_under($shim, { $way => $number, $most ? (SHORT_WRITES => $most) : () }, $words, @outputs);
         if (!-e 'mark') {
             my ($other) = grep { read_bytes(file_of($_)) ne $whole{$_} } @outputs;
-            return tell("$name, $number calls", $run->{status} || $number == 1 ? 'is not done' : $other);
+            return report("$name, $number calls", $run->{status} || $number == 1 ? 'is not done' : $other);
         }
-        tell("$name, call $number", is_front($run, \%whole, @outputs));
+        report("$name, call $number", is_front($run, \%whole, @outputs));
     }
 }
 
@@ -113,7 +113,7 @@ sub try_shell {
     my $want = $path ? "sfbank: write fault $path after 0 bytes\n" : '';
     my $told = read_bytes('errors');
     my $wrong = $ended != $status ? "status $ended" : $told ne $want ? "told '$told'" : system('bash', '-c', $test) ? 'left other files' : undef;
-    tell($line, $wrong);
+    report($line, $wrong);
 }
 
 sub try_writes {
@@ -121,7 +121,7 @@ sub try_writes {
     make_inputs();
     mkdir 'folder';
     try_shell(@$_) for @shells;
-    return tell('the shim', 'it is not compiled') if system('cc', '-O2', '-shared', '-fPIC', '-o', 'fail.so', "$here/fail_writes.c");
+    return report('the shim', 'it is not compiled') if system('cc', '-O2', '-shared', '-fPIC', '-o', 'fail.so', "$here/fail_writes.c");
     for my $way (@ways) {
         for my $run (@runs) { try_each_write('./fail.so', @$way, @$run) unless $way->[1] == 1 && $run->[0][1] eq 'long'; }
     }

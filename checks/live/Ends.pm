@@ -74,8 +74,8 @@ sub wrong_of_noise {
     my $run = live('tone', $lines);
     my $wrong = is_done($run);
     my $count = grep { /^[ \t\r]*[^ \t\r#]/ } split /\n/, $lines;
-    my @told = told($run);
-    return $wrong // (@told == $count + 1 ? undef : @told - 1 . " answers to $count lines: " . one_line($lines));
+    my @answers = answer_lines($run);
+    return $wrong // (@answers == $count + 1 ? undef : @answers - 1 . " answers to $count lines: " . one_line($lines));
 }
 
 # Returns what is wrong with the limit of 100,000,000 frames, or undef.
@@ -87,20 +87,20 @@ sub wrong_of_limit {
 
 # Returns what is wrong with the lines of the help, or undef: each must be a valid line.
 sub wrong_of_help {
-    my @told = told(live('tone', "help\n"));
-    splice @told, -2;
-    return 'it has no lines' unless @told > 8;
-    my $run = live('tone', join "\n", grep { !/^(?:save|show|quit)/ } @told);
+    my @answers = answer_lines(live('tone', "help\n"));
+    splice @answers, -2;
+    return 'it has no lines' unless @answers > 8;
+    my $run = live('tone', join "\n", grep { !/^(?:save|show|quit)/ } @answers);
     return is_done($run) // ($run->{answers} =~ /^fault/m ? one_line($run->{answers}) : undef);
 }
 
 sub try_inputs {
-    for my $number (0 .. $#inputs) { tell("input $number, " . substr(one_line($inputs[$number][0]), 0, 40), wrong_of_input(@{ $inputs[$number] })); }
-    tell("session $_, in bytes", wrong_of_bytes($_)) for 1 .. 100;
+    for my $number (0 .. $#inputs) { report("input $number, " . substr(one_line($inputs[$number][0]), 0, 40), wrong_of_input(@{ $inputs[$number] })); }
+    report("session $_, in bytes", wrong_of_bytes($_)) for 1 .. 100;
     srand 1;
-    tell("noise $_", wrong_of_noise()) for 1 .. 300;
-    tell('100,000,000 frames', wrong_of_limit());
-    tell('the help', wrong_of_help());
+    report("noise $_", wrong_of_noise()) for 1 .. 300;
+    report('100,000,000 frames', wrong_of_limit());
+    report('the help', wrong_of_help());
     unlink glob('saved.*'), glob('undo.*');
 }
 
@@ -132,10 +132,10 @@ my @saves = (
 );
 
 sub wrong_of_shell {
-    my ($line, $status, $told, $test) = @_;
+    my ($line, $status, $message, $test) = @_;
     my $ended = shell($line, $lines);
     return "status $ended" if $ended != $status;
-    return 'told ' . one_line(read_bytes('errors')) if read_bytes('errors') !~ $told;
+    return 'told ' . one_line(read_bytes('errors')) if read_bytes('errors') !~ $message;
     return system('bash', '-c', $test) ? 'left something else' : undef;
 }
 
@@ -153,26 +153,26 @@ sub try_each_write {
     for my $number (1 .. 10_000) {
         my $run = live_under({ LD_PRELOAD => './fail.so', FAILED_MARK => 'mark', $way => $number, $most ? (SHORT_WRITES => $most) : () }, 'tone', $lines);
         my $name = "$way $number, $most bytes a call";
-        return tell($name, is_done($run) // ($run->{frames} eq read_bytes('whole.pcm') ? undef : 'other frames')) if !-e 'mark';
+        return report($name, is_done($run) // ($run->{frames} eq read_bytes('whole.pcm') ? undef : 'other frames')) if !-e 'mark';
         my ($written) = $run->{line} =~ /^sfbank: write fault pcm after (\d+) bytes\n\z/;
         my $right = $run->{status} == 5 && defined $written && $run->{frames} eq substr(read_bytes('whole.pcm'), 0, $written)
             && $run->{answers} eq substr(read_bytes('whole.answers'), 0, length $run->{answers});
-        tell($name, $right ? undef : "status $run->{status} with '$run->{line}', " . length($run->{frames}) . ' bytes');
+        report($name, $right ? undef : "status $run->{status} with '$run->{line}', " . length($run->{frames}) . ' bytes');
     }
 }
 
 sub try_outputs {
     my ($hostile) = @_;
     my $whole = live('tone', $lines);
-    tell('a session', is_done($whole));
+    report('a session', is_done($whole));
     write_bytes('whole.pcm', $whole->{frames});
     write_bytes('whole.answers', $whole->{answers});
     mkdir 'a folder';
-    tell($_->[0], wrong_of_shell(@$_)) for @shells;
-    tell($_->[0], wrong_of_save(@$_)) for @saves;
-    return tell('the shim', 'it is not compiled') if system('cc', '-O2', '-shared', '-fPIC', '-o', 'fail.so', "$hostile/fail_writes.c");
+    report($_->[0], wrong_of_shell(@$_)) for @shells;
+    report($_->[0], wrong_of_save(@$_)) for @saves;
+    return report('the shim', 'it is not compiled') if system('cc', '-O2', '-shared', '-fPIC', '-o', 'fail.so', "$hostile/fail_writes.c");
     my $run = live_under({ LD_PRELOAD => './fail.so', SHORT_WRITES => 1, FAILED_OUTPUT => 1 }, 'tone', $lines);
-    tell('a byte a call', is_done($run) // ($run->{frames} eq $whole->{frames} && $run->{answers} eq $whole->{answers} ? undef : 'gives something else'));
+    report('a byte a call', is_done($run) // ($run->{frames} eq $whole->{frames} && $run->{answers} eq $whole->{answers} ? undef : 'gives something else'));
     for my $way (qw(FAILED_WRITE EMPTY_WRITE)) { try_each_write($way, $_) for 0, 1000; }
     unlink glob('saved.*'), glob('undo.*');
 }

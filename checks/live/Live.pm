@@ -6,7 +6,7 @@ use Banks;
 use Runs;
 use Starter;
 use Exporter 'import';
-our @EXPORT = qw(make_banks @BANKS live live_under told is_done one_line);
+our @EXPORT = qw(make_banks @BANKS live live_under answer_lines is_done one_line);
 
 # The banks of the sessions. None has an exclusive class, so notes of several banks do not silence each other.
 our @BANKS = qw(tone layered struck);
@@ -30,7 +30,7 @@ sub make_banks {
     write_bytes('empty', bytes_of($EMPTY));
     for my $bank (@BANKS) {
         my $run = apply_text('empty', $scripts{$bank}, $bank, 'undo');
-        tell("the bank $bank", $run->{wrong} // ($run->{status} ? $run->{line} : undef));
+        report("the bank $bank", $run->{wrong} // ($run->{status} ? $run->{line} : undef));
     }
 }
 
@@ -50,7 +50,7 @@ sub live_under {
 sub live { return live_under({}, @_); }
 
 # Returns the lines of the answers of a session.
-sub told { my ($run) = @_; return split /\n/, $run->{answers}, -1; }
+sub answer_lines { my ($run) = @_; return split /\n/, $run->{answers}, -1; }
 
 # Returns what is wrong with a session that must be done, or undef.
 sub is_done {

@@ -58,7 +58,7 @@ sub step {
 }
 
 # Returns a random neutral edit, if its members exist.
-sub unheard_step {
+sub neutral_step {
     my @forms = (
         sub { 'rename-sample ' . below(2) . ' "s' . below(100) . '"' },
         sub { 'rename-inst ' . below(3) . ' "i' . below(100) . '"' },
@@ -79,7 +79,7 @@ sub note { return 'note ' . one_of(0, 1, 50 + below(400), 3000) . ' 0 ' . one_of
 my $saves;
 sub line {
     my @lines = (
-        (\&edit) x 8, sub { 'neutral ' . (below(3) ? unheard_step() : edit()) }, ('undo') x 3, ('redo') x 3, (\&note) x 5,
+        (\&edit) x 8, sub { 'neutral ' . (below(3) ? neutral_step() : edit()) }, ('undo') x 3, ('redo') x 3, (\&note) x 5,
         (sub { 'frames ' . one_of(0, 1, below(300), below(3000), 1024) }) x 5,
         (sub { $saves++; "save saved.$saves " . (below(2) ? "undo.$saves" : "\"undo.$saves\"") }) x 2,
         'show', sub { one_of('', ' # nothing', 'undo 1', 'rename-sample 0', 'note 1 2', 'frames -1', 'save "a', 'trim 0 x1', 'help me') },
@@ -97,17 +97,17 @@ sub script_of { my ($s) = @_; return join '', map { "$_\n" } @{ $s->{edits} }[0 
 # session returns to the same bank often.
 sub made_by {
     my ($s, $script) = @_;
-    return $s->{made}{$script} //= made_anew($s->{bank}, $script);
+    return $s->{made}{$script} //= apply_to($s->{bank}, $script);
 }
 
-sub made_anew {
+sub apply_to {
     my ($bank, $script) = @_;
     my $run = apply_text($bank, $script, 'out', 'undo');
     return { %$run, out => read_bytes('out'), undo => read_bytes('undo') };
 }
 
 # Returns `ok` if `apply` accepts these lines on the current bank, else its line without the line number.
-sub judged {
+sub result_of_apply {
     my ($s, $line, @flags) = @_;
     my $run;
     if (@flags) {
@@ -124,16 +124,16 @@ sub judged {
 }
 
 sub answered {
-    my ($kind, $told, $want) = @_;
-    $count{ "$kind " . ($told =~ /^(ok|refused|fault)/ ? $1 : '') }++;
-    $count{fault}++ if $told =~ /^fault/;
-    return $told eq $want ? undef : "answered '$told', not '$want'";
+    my ($kind, $answer, $want) = @_;
+    $count{ "$kind " . ($answer =~ /^(ok|refused|fault)/ ? $1 : '') }++;
+    $count{fault}++ if $answer =~ /^fault/;
+    return $answer eq $want ? undef : "answered '$answer', not '$want'";
 }
 
 sub is_edited {
-    my ($s, $told, $line, @flags) = @_;
-    my $wrong = answered(@flags ? 'neutral' : 'edit', $told, judged($s, $line, @flags));
-    return $wrong if $wrong || $told ne 'ok';
+    my ($s, $answer, $line, @flags) = @_;
+    my $wrong = answered(@flags ? 'neutral' : 'edit', $answer, result_of_apply($s, $line, @flags));
+    return $wrong if $wrong || $answer ne 'ok';
     splice @{ $s->{edits} }, $s->{at};
     push @{ $s->{edits} }, $line;
     $s->{at}++;
@@ -141,22 +141,22 @@ sub is_edited {
 }
 
 sub is_undone {
-    my ($s, $told) = @_;
-    return answered('undo', $told, 'refused 39 NothingToUndo') unless $s->{at};
+    my ($s, $answer) = @_;
+    return answered('undo', $answer, 'refused 39 NothingToUndo') unless $s->{at};
     $s->{at}--;
-    return answered('undo', $told, 'ok');
+    return answered('undo', $answer, 'ok');
 }
 
 sub is_redone {
-    my ($s, $told) = @_;
-    return answered('redo', $told, 'refused 40 NothingToRedo') if $s->{at} == @{ $s->{edits} };
+    my ($s, $answer) = @_;
+    return answered('redo', $answer, 'refused 40 NothingToRedo') if $s->{at} == @{ $s->{edits} };
     $s->{at}++;
-    return answered('redo', $told, 'ok');
+    return answered('redo', $answer, 'ok');
 }
 
 sub is_saved {
-    my ($s, $told, $out, $undo) = @_;
-    my $wrong = answered('save', $told, 'ok');
+    my ($s, $answer, $out, $undo) = @_;
+    my $wrong = answered('save', $answer, 'ok');
     my $run = made_by($s, script_of($s));
     $wrong //= $run->{wrong} // ($run->{status} ? $run->{line} : undef);
     return $wrong // (read_bytes($out) ne $run->{out} ? "$out is another bank" : read_bytes($undo) eq $run->{undo} ? undef : "$undo is another way back");
@@ -164,12 +164,12 @@ sub is_saved {
 
 # Returns what is wrong with the listing of the current bank, or undef: its lines, then `ok`.
 sub is_shown {
-    my ($s, @told) = @_;
+    my ($s, @answers) = @_;
     write_bytes('out', made_by($s, script_of($s))->{out});
     run(['show', 'out'], 'listing');
     $count{'show ok'}++;
     my $want = read_bytes('listing') =~ s/^counts.*\n//mr;
-    my $listed = join('', map { "$_\n" } @told) =~ s/^counts.*\n//mr;
+    my $listed = join('', map { "$_\n" } @answers) =~ s/^counts.*\n//mr;
     return $listed eq "${want}ok\n" ? undef : 'another listing: ' . one_line($listed);
 }
 
@@ -177,36 +177,36 @@ sub is_shown {
 sub take_answer {
     my ($line, $left) = @_;
     return shift @$left unless $line eq 'show' || $line eq 'help';
-    my @told;
+    my @answers;
     while (@$left) {
-        push @told, shift @$left;
-        last if $told[-1] eq 'ok';
+        push @answers, shift @$left;
+        last if $answer[-1] eq 'ok';
     }
-    return @told;
+    return @answers;
 }
 
 # Returns what is wrong with the answer to a line, or undef, and updates the session.
 sub wrong_of_line {
-    my ($s, $line, @told) = @_;
-    my $told = $told[0] // return 'no answer';
-    return $told eq 'ok' ? undef : "answered '$told'" if $line eq 'quit';
-    return is_undone($s, $told) if $line eq 'undo';
-    return is_redone($s, $told) if $line eq 'redo';
-    return is_shown($s, @told) if $line eq 'show';
-    return is_edited($s, $told, $1, '--neutral') if $line =~ /^neutral (.*)/;
+    my ($s, $line, @answers) = @_;
+    my $answer = $answer[0] // return 'no answer';
+    return $answer eq 'ok' ? undef : "answered '$answer'" if $line eq 'quit';
+    return is_undone($s, $answer) if $line eq 'undo';
+    return is_redone($s, $answer) if $line eq 'redo';
+    return is_shown($s, @answers) if $line eq 'show';
+    return is_edited($s, $answer, $1, '--neutral') if $line =~ /^neutral (.*)/;
     if ($line =~ /^note (\d+) (\d+) (\d+) (\d+) (\d+)$/) {
         push @{ $s->{notes}{ script_of($s) } }, "$s->{frame} $1 $2 $3 $4 $5";
         $count{'note ok'}++;
-        return $told =~ /^ok \d+$/ ? undef : "answered '$told'";
+        return $answer =~ /^ok \d+$/ ? undef : "answered '$answer'";
     }
     if ($line =~ /^frames (\d+)$/) {
         $s->{frame} += $1;
-        return answered('frames', $told, 'ok');
+        return answered('frames', $answer, 'ok');
     }
-    return is_saved($s, $told, $1, $2) if $line =~ /^save (saved\.\d+) "?(undo\.\d+)/;
-    return answered('other', $told, $line =~ /^note/ ? 'fault 45 BadNote' : $line =~ /^frames/ ? 'fault 42 Number' : $line =~ /^save/ ? 'fault 43 Literal'
-        : $line =~ /^(?:undo|help) / ? 'fault 41 Syntax' : judged($s, $line)) if $line =~ /^(?:undo |note |frames |save |help )/;
-    return is_edited($s, $told, $line);
+    return is_saved($s, $answer, $1, $2) if $line =~ /^save (saved\.\d+) "?(undo\.\d+)/;
+    return answered('other', $answer, $line =~ /^note/ ? 'fault 45 BadNote' : $line =~ /^frames/ ? 'fault 42 Number' : $line =~ /^save/ ? 'fault 43 Literal'
+        : $line =~ /^(?:undo|help) / ? 'fault 41 Syntax' : result_of_apply($s, $line)) if $line =~ /^(?:undo |note |frames |save |help )/;
+    return is_edited($s, $answer, $line);
 }
 
 # Returns the frames that a session must write: the sum over its banks of what `play` renders.
@@ -237,7 +237,7 @@ sub wrong_of_run {
     my $wrong = $stopped ? undef : is_done($run);
     return $wrong if $wrong;
     my $session = { bank => $bank, edits => [], at => 0, frame => 0, notes => {}, made => {} };
-    my @left = told($run);
+    my @left = answer_lines($run);
     pop @left;
     for my $line (grep { /^[^#]*\w/ && !/^ #/ } @lines) {
         last if $stopped && !@left;
@@ -271,7 +271,7 @@ sub wrong_of_session {
 sub try_sessions {
     my ($first, $count) = @_;
     for my $seed ($first .. $first + $count - 1) {
-        tell("session $seed", wrong_of_session($seed));
+        report("session $seed", wrong_of_session($seed));
         unlink glob('saved.*'), glob('undo.*');
     }
 }
@@ -280,7 +280,7 @@ sub try_sessions {
 sub try_kinds {
     for my $kind (sort keys %floors) {
         my $there = $count{$kind} // 0;
-        tell("3000 sessions, $kind", $there >= $floors{$kind} ? undef : "$there, not $floors{$kind}");
+        report("3000 sessions, $kind", $there >= $floors{$kind} ? undef : "$there, not $floors{$kind}");
     }
 }
 

@@ -7,7 +7,7 @@ use Rows;
 use Runs;
 use Scripts;
 use Tables;
-use Worked;
+use BankFiles;
 use Exporter 'import';
 our @EXPORT = qw(try_bank_texts);
 
@@ -15,7 +15,7 @@ our @EXPORT = qw(try_bank_texts);
 sub wrong_of_done {
     my ($words, $kind, $due) = @_;
     my $wrong = Rows::is_done(run_command([split ' ', $words], 'out'));
-    return $wrong // (read_bytes('out') eq ($kind eq 'makes' ? bank_bytes($due) : lines(spelled($due))) ? undef : 'another output');
+    return $wrong // (read_bytes('out') eq ($kind eq 'makes' ? bank_bytes($due) : lines(unescaped($due))) ? undef : 'another output');
 }
 
 # Returns what is wrong with a run that must end with this status and line and write nothing, or undef.
@@ -37,15 +37,15 @@ sub wrong_of_text {
 # Returns what is wrong with the difference of a bank and the bank after a script, which must be the script; or undef.
 sub wrong_of_difference {
     my ($bank, $script) = @_;
-    my $wrong = Rows::is_done(apply_text($bank, lines(spelled($script)), 'other', 'undo'));
+    my $wrong = Rows::is_done(apply_text($bank, lines(unescaped($script)), 'other', 'undo'));
     $wrong //= Rows::is_done(run_command(['diff', $bank, 'other', 'difference'], 'difference'));
-    return $wrong // (read_bytes('difference') eq lines(spelled($script)) ? undef : 'another difference: ' . read_bytes('difference'));
+    return $wrong // (read_bytes('difference') eq lines(unescaped($script)) ? undef : 'another difference: ' . read_bytes('difference'));
 }
 
 sub try_bank_texts {
     my ($here) = @_;
-    tell("bank_texts, $_->[0]", wrong_of_text(@$_)) for rows_of("$here/bank_texts");
-    tell("differences, $_->[0]: $_->[1]", wrong_of_difference(@$_)) for rows_of("$here/differences");
+    report("bank_texts, $_->[0]", wrong_of_text(@$_)) for rows_of("$here/bank_texts");
+    report("differences, $_->[0]: $_->[1]", wrong_of_difference(@$_)) for rows_of("$here/differences");
 }
 
 1;

@@ -5,7 +5,7 @@ use warnings;
 use Banks;
 use Runs;
 use Tables;
-use Worked;
+use BankFiles;
 use Writes;
 use Exporter 'import';
 our @EXPORT = qw(try_failed_writes);
@@ -14,7 +14,7 @@ my %ways = (error => 'FAILED_WRITE', nothing => 'EMPTY_WRITE');
 
 sub put_file {
     my ($name, $what) = @_;
-    write_bytes($name, $what =~ /^text (.*)/ ? spelled($1) : bank_bytes($what));
+    write_bytes($name, $what =~ /^text (.*)/ ? unescaped($1) : bank_bytes($what));
 }
 
 # Returns what is wrong with the number of writes of a whole output, or undef.
@@ -38,11 +38,11 @@ sub try_each_write {
         if (!-e 'mark') {
             my ($other) = grep { (read_bytes(Writes::file_of($_)) // '') ne $whole{$_} } @outputs;
             my $wrong = $run->{status} || $call == 1 ? 'is not done' : defined $other ? "another $other" : is_count($call - 1, $sign, $number);
-            return tell("$words, $how", $wrong);
+            return report("$words, $how", $wrong);
         }
-        tell("$words, $how, call $call", Writes::is_front($run, \%whole, @outputs));
+        report("$words, $how, call $call", Writes::is_front($run, \%whole, @outputs));
     }
-    tell("$words, $how", 'goes on');
+    report("$words, $how", 'goes on');
 }
 
 sub try_row {
@@ -54,7 +54,7 @@ sub try_row {
 sub try_failed_writes {
     my ($here) = @_;
     my $shim = "$here/../hostile/fail_writes.c";
-    return tell('the shim', 'it is not compiled') if system('cc', '-O2', '-shared', '-fPIC', '-o', 'fail.so', $shim);
+    return report('the shim', 'it is not compiled') if system('cc', '-O2', '-shared', '-fPIC', '-o', 'fail.so', $shim);
     try_row(@$_) for rows_of("$here/writes");
 }
 

@@ -6,7 +6,7 @@ use Banks;
 use Rows;
 use Runs;
 use Tables;
-use Worked;
+use BankFiles;
 use Exporter 'import';
 our @EXPORT = qw(try_files);
 
@@ -71,7 +71,7 @@ sub try_file {
     my $wrong = $answer =~ /^as (.*)/ ? reads_as(file_bytes($1), $rest[0] // '')
         : $answer =~ /^lists *(.*)/ ? is_listed($1, @rest)
         : is_refused($answer);
-    tell($file, $wrong);
+    report($file, $wrong);
 }
 
 # Returns the bank `tone` with these generators, target included, in the zone of its instrument or of its preset.
@@ -87,7 +87,7 @@ sub tone_with {
 sub try_generators {
     my ($level, $generators, $kept, $counts) = @_;
     write_bytes('in', tone_with($level, $generators));
-    tell("$level with $generators", reads_as(tone_with($level, $kept), $counts // ''));
+    report("$level with $generators", reads_as(tone_with($level, $kept), $counts // ''));
 }
 
 # Tests each proper prefix of a file: NotRiff for less than four bytes, else Truncated.
@@ -96,14 +96,14 @@ sub try_fronts {
         my $whole = bank_bytes($bank);
         for my $length (0 .. length($whole) - 1) {
             write_bytes('in', substr $whole, 0, $length);
-            tell("$length bytes of $bank", is_refused($length < 4 ? '1 NotRiff' : '3 Truncated'));
+            report("$length bytes of $bank", is_refused($length < 4 ? '1 NotRiff' : '3 Truncated'));
         }
     }
 }
 
 sub try_files {
     my ($here) = @_;
-    tell('the empty bank', length bank_bytes('empty') == 308 ? undef : 'has not 308 bytes');
+    report('the empty bank', length bank_bytes('empty') == 308 ? undef : 'has not 308 bytes');
     try_file(@$_) for rows_of("$here/files");
     try_generators(@$_) for rows_of("$here/generators");
     try_fronts();

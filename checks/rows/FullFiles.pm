@@ -6,7 +6,7 @@ use Banks;
 use Files;
 use Runs;
 use Tables;
-use Worked;
+use BankFiles;
 use Exporter 'import';
 our @EXPORT = qw(try_full_files);
 
@@ -22,7 +22,7 @@ sub try_full_files {
     my ($here) = @_;
     for my $row (rows_of("$here/full_files")) {
         my ($file, @answer) = @$row;
-        if ("@answer" eq 'read') { tell($file, wrong_of_whole($file)); }
+        if ("@answer" eq 'read') { report($file, wrong_of_whole($file)); }
         else { Files::try_file($file, @answer); }
     }
 }

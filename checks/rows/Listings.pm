@@ -22,7 +22,7 @@ sub try_listing {
     my ($bank, $flags, @lines) = @_;
     my $run = run(['show', split(' ', $flags), $bank]);
     my $wrong = is_right($run, -s $bank) // ($run->{status} ? $run->{line} : undef);
-    tell("show $flags $bank", $wrong // other_line(read_bytes('printed'), join '', map { "$_\n" } @lines));
+    report("show $flags $bank", $wrong // other_line(read_bytes('printed'), join '', map { "$_\n" } @lines));
 }
 
 sub try_listings {

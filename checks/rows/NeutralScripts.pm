@@ -21,7 +21,7 @@ sub apply_neutral {
 }
 
 # Returns what is wrong with the note on a bank: its frames must be those of the bank `tone`, or differ from them.
-sub is_heard {
+sub wrong_of_note {
     my ($bank, $others) = @_;
     my $wrong = Rows::is_done(play_notes($bank, $note, 'wave'));
     return $wrong if defined $wrong;
@@ -34,7 +34,7 @@ sub is_applied {
     my ($script, $others) = @_;
     my $wrong = Rows::is_done(apply_text('tone', $script, 'out', 'undo'));
     $wrong //= same('out', 'tone') ? 'makes no other bank' : undef;
-    return $wrong // is_heard('out', $others);
+    return $wrong // wrong_of_note('out', $others);
 }
 
 # Returns what is wrong with a neutral script, which must do what `apply` does, byte for byte, and have a neutral undo
@@ -54,21 +54,21 @@ sub is_refused {
 }
 
 sub try_row {
-    my ($spelled, $answer) = @_;
-    my $script = spelled($spelled);
+    my ($unescaped, $answer) = @_;
+    my $script = unescaped($unescaped);
     my $wrong = $answer eq 'is not heard' ? is_neutral($script)
         : $answer eq 'is heard' ? is_applied($script, 1) // is_refused($script, 'line 1: refused 50 NotNeutral')
         : is_refused($script, $answer);
-    tell("neutral $spelled", $wrong);
+    report("neutral $unescaped", $wrong);
 }
 
 sub try_neutral {
     my ($here) = @_;
-    tell('the note on tone', is_heard('tone', 0));
+    report('the note on tone', wrong_of_note('tone', 0));
     try_row(@$_) for rows_of("$here/neutral");
     write_bytes('in', 'RIFF');
     my $run = apply_neutral('in', 'set-tune 0 44100 60 0', 'out', 'undo');
-    tell('a neutral script on what is no bank', $run->{line} eq "sfbank: read fault 3 Truncated\n" ? $run->{wrong} : $run->{line});
+    report('a neutral script on what is no bank', $run->{line} eq "sfbank: read fault 3 Truncated\n" ? $run->{wrong} : $run->{line});
 }
 
 1;

@@ -11,8 +11,8 @@ our @EXPORT = qw(try_notes wave_of play_notes);
 
 # Returns the WAVE file of frames, given as in the table.
 sub wave_of {
-    my ($spelled) = @_;
-    return Rows::wave(join '', map { frame_of($_) } split ' ', $spelled);
+    my ($unescaped) = @_;
+    return Rows::wave(join '', map { frame_of($_) } split ' ', $unescaped);
 }
 
 sub frame_of {
@@ -30,22 +30,22 @@ sub play_notes {
 
 sub make_bank {
     my ($name, $script) = @_;
-    my $run = apply_text('empty', spelled($script), "$name.sf2", 'undo');
-    tell("the bank $name", Rows::is_done($run));
+    my $run = apply_text('empty', unescaped($script), "$name.sf2", 'undo');
+    report("the bank $name", Rows::is_done($run));
 }
 
 sub try_row {
     my ($bank, $notes, $answer) = @_;
     return make_bank($bank, $notes) if !defined $answer;
     write_bytes('in', $bank =~ /^words\b(.*)/ ? bytes_of($1) : read_bytes("$bank.sf2") // read_bytes($bank) // die "there is no bank $bank\n");
-    my $run = play_notes('in', spelled($notes), 'wave');
+    my $run = play_notes('in', unescaped($notes), 'wave');
     my $wrong = $run->{wrong};
     if ($answer =~ /^frames(.*)/) {
         $wrong //= $run->{status} ? $run->{line} : read_bytes('wave') eq wave_of($1) ? undef : 'another WAVE file';
     } else {
         $wrong //= $run->{line} eq "sfbank: $answer\n" ? undef : "'$run->{line}' instead of $answer";
     }
-    tell('the notes ' . substr($notes, 0, 60) . " on $bank", $wrong);
+    report('the notes ' . substr($notes, 0, 60) . " on $bank", $wrong);
 }
 
 sub try_notes {

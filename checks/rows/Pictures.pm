@@ -18,8 +18,8 @@ sub map_run { my ($bank, $member, $out) = @_; return run_command(['map', $bank, 
 
 sub make_bank {
     my ($script) = @_;
-    my $run = apply_text('empty', spelled($script), 'drawn', 'undo');
-    tell('the bank that is drawn', Rows::is_done($run));
+    my $run = apply_text('empty', unescaped($script), 'drawn', 'undo');
+    report('the bank that is drawn', Rows::is_done($run));
 }
 
 sub try_picture {
@@ -28,14 +28,14 @@ sub try_picture {
     my $want = join '', map { "$_\n" } @{ $common{front} }, $owner, @{ $common{keyboard} }, @lines;
     my $run = map_run('drawn', $member, 'picture');
     my $wrong = Rows::is_done($run);
-    tell("the picture of $member", $wrong // other_line(read_bytes('picture'), $want));
+    report("the picture of $member", $wrong // other_line(read_bytes('picture'), $want));
 }
 
 sub try_refused {
     my ($bank, $member, $line) = @_;
     write_bytes('in', $bank =~ /^words\b(.*)/ ? bytes_of($1) : read_bytes($bank));
     my $run = map_run('in', $member, 'picture');
-    tell("no picture of $member of $bank", $run->{wrong} // ($run->{line} eq "$line\n" ? undef : $run->{line}));
+    report("no picture of $member of $bank", $run->{wrong} // ($run->{line} eq "$line\n" ? undef : $run->{line}));
 }
 
 sub try_row {

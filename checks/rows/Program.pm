@@ -6,7 +6,7 @@ use Banks;
 use File::Path 'remove_tree';
 use Runs;
 use Tables;
-use Worked;
+use BankFiles;
 use Exporter 'import';
 our @EXPORT = qw(try_program);
 
@@ -17,7 +17,7 @@ my @always;
 sub put {
     my ($said) = @_;
     my ($path, $what) = $said =~ /^(\S+) (.*)$/;
-    if ($what =~ /^is text ?(.*)/) { write_bytes($path, spelled($1)); }
+    if ($what =~ /^is text ?(.*)/) { write_bytes($path, unescaped($1)); }
     elsif ($what =~ /^is (.*)/) { write_bytes($path, bank_bytes($1)); }
     elsif ($what =~ /^has mode (\d+)$/) { chmod oct $1, $path or die "$path: $!\n"; }
     elsif ($what =~ /^links to (\S+)$/) { symlink $1, $path or die "$path: $!\n"; }
@@ -31,7 +31,7 @@ sub is_so {
     my ($path, $what) = $said =~ /^(\S+) (.*)$/;
     return sprintf('%o', (stat $path)[2] & 0777) eq $1 if $what =~ /^has mode (\d+)$/;
     return (readlink $path // '') eq $1 if $what =~ /^links to (\S+)$/;
-    my $want = $what =~ /^is text ?(.*)/ ? spelled($1) : $what =~ /^is (.*)/ ? bank_bytes($1) : die "'$said' says nothing\n";
+    my $want = $what =~ /^is text ?(.*)/ ? unescaped($1) : $what =~ /^is (.*)/ ? bank_bytes($1) : die "'$said' says nothing\n";
     return (read_bytes($path) // return 0) eq $want;
 }
 
@@ -58,7 +58,7 @@ sub try_output {
     my ($status, $line) = $ends =~ /^(\d) ?(.*)$/ or die "'$ends' is no end\n";
     my $wrong = ends(run([split ' ', $words]), $status, $line eq '' ? '' : "$line\n");
     my ($other) = grep { !is_so($_) } @said, @always;
-    tell($words, $wrong // (defined $other ? "it isn't so that $other" : undef));
+    report($words, $wrong // (defined $other ? "it isn't so that $other" : undef));
 }
 
 # Tests arguments that are no command; the program's name is the first word.
@@ -67,7 +67,7 @@ sub try_words {
     my (undef, @words) = split ' ', $words;
     my $run = run(\@words);
     my $wrong = ends($run, 1, defined $line ? "$line\n" : $run->{line});
-    tell($words, $wrong // ($run->{line} eq '' ? 'tells nothing' : undef));
+    report($words, $wrong // ($run->{line} eq '' ? 'tells nothing' : undef));
 }
 
 # Runs the program with a file size limit of seven bytes, and returns its status. Pipes have no limit.
@@ -94,7 +94,7 @@ sub wrong_of_printed {
 
 sub try_printed {
     my ($words, @texts) = @_;
-    tell("$words in much room and little", wrong_of_printed(join('', map { spelled($_) } @texts), split ' ', $words));
+    report("$words in much room and little", wrong_of_printed(join('', map { unescaped($_) } @texts), split ' ', $words));
 }
 
 # Tests frames for which there is not enough memory.
@@ -103,7 +103,7 @@ sub try_memory {
     unlink 'out', 'errors';
     my $status = system('bash', '-c', 'ulimit -v 100000; exec "$0" play empty late out 2> errors', program_of_runs()) >> 8;
     my $told = read_bytes('errors');
-    tell('out of memory', $status == 6 && $told eq "sfbank: out of memory\n" && !-e 'out' ? undef : "status $status with '$told'");
+    report('out of memory', $status == 6 && $told eq "sfbank: out of memory\n" && !-e 'out' ? undef : "status $status with '$told'");
 }
 
 # Tests that on a terminal the reason why an input can't be read follows the line of the fault.
@@ -112,7 +112,7 @@ sub try_terminal {
     my $told = qx{script -qec '"\$PROGRAM" show missing' /dev/null < /dev/null};
     my $status = $? >> 8;
     my $wanted = "sfbank: file fault missing\r\n  No such file or directory\r\n";
-    tell('a terminal', $status == 5 && $told eq $wanted ? undef : "status $status with '$told'");
+    report('a terminal', $status == 5 && $told eq $wanted ? undef : "status $status with '$told'");
 }
 
 sub try_program {

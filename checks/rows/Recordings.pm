@@ -27,31 +27,31 @@ sub import_run { my ($name) = @_; return run_command(['import', 'tone', $name, '
 
 sub try_wave {
     my ($script, $changes) = @_;
-    my $wrong = Rows::is_done(apply_text('tone', spelled($script), 'tuned', 'undo')) // Rows::is_done(wave_run('tuned', 0));
-    tell("the WAVE file of tone behind $script", $wrong // (read_bytes('out.wav') eq wave_bytes($changes) ? undef : 'is another'));
+    my $wrong = Rows::is_done(apply_text('tone', unescaped($script), 'tuned', 'undo')) // Rows::is_done(wave_run('tuned', 0));
+    report("the WAVE file of tone behind $script", $wrong // (read_bytes('out.wav') eq wave_bytes($changes) ? undef : 'is another'));
 }
 
 # Tests an import that must do what the script does and have this undo script.
 sub try_import {
     my ($name, $wave, $script, $undo) = @_;
     write_bytes($name, wave_bytes($wave));
-    my $wrong = Rows::is_done(apply_text('tone', spelled($script), 'edited', 'undo.edited')) // Rows::is_done(import_run($name));
+    my $wrong = Rows::is_done(apply_text('tone', unescaped($script), 'edited', 'undo.edited')) // Rows::is_done(import_run($name));
     $wrong //= same('out', 'edited') ? undef : 'another bank';
-    $wrong //= read_bytes('undo') eq spelled($undo) ? undone('tone') : 'another undo text: ' . read_bytes('undo');
-    tell("the import of $name", $wrong);
+    $wrong //= read_bytes('undo') eq unescaped($undo) ? undone('tone') : 'another undo text: ' . read_bytes('undo');
+    report("the import of $name", $wrong);
 }
 
 sub try_fault {
     my ($wave, $line) = @_;
     write_bytes('in.wav', wave_bytes($wave));
-    tell("the import of $wave", tells(import_run('in.wav'), $line));
+    report("the import of $wave", tells(import_run('in.wav'), $line));
 }
 
 sub try_row {
     my ($what, @parts) = @_;
     return $file = bytes_of($parts[0]) if $what eq 'file';
     return try_wave(@parts) if $what eq 'wave';
-    return tell($what, tells(wave_run('tone', $1), $parts[0])) if $what =~ /^wave (\d+)$/;
+    return report($what, tells(wave_run('tone', $1), $parts[0])) if $what =~ /^wave (\d+)$/;
     return @parts > 2 ? try_import(@parts) : try_fault(@parts);
 }
 

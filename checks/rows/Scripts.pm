@@ -7,11 +7,11 @@ use Banks;
 use Rows;
 use Runs;
 use Tables;
-use Worked;
+use BankFiles;
 use Exporter 'import';
 our @EXPORT = qw(try_scripts wrong_of_line lines);
 
-my @tables = qw(spellings syntax members zones settings splits samples points texts groups limits);
+my @tables = qw(canonical_forms syntax members zones settings splits samples points texts groups limits);
 
 # Returns the text with a line feed at its end.
 sub lines { my ($text) = @_; return $text eq '' ? '' : "$text\n"; }
@@ -34,17 +34,17 @@ sub wrong_of_out {
     return if !defined $due->{lists};
     my $run = run(['show', 'out']);
     my $last = read_bytes('printed') =~ /([^\n]*)\n\z/ ? $1 : '';
-    return is_right($run, -s 'out') // ($last eq spelled($due->{lists}) ? undef : "lists '$last'");
+    return is_right($run, -s 'out') // ($last eq unescaped($due->{lists}) ? undef : "lists '$last'");
 }
 
 # Returns what is wrong with the undo script, or with undoing and redoing; or undef.
 sub wrong_of_undo {
     my ($bank, $script, $due) = @_;
     my $undo = $due->{undo};
-    return 'another undo text: ' . short(read_bytes('undo')) if defined $undo && read_bytes('undo') ne lines(spelled($undo));
+    return 'another undo text: ' . short(read_bytes('undo')) if defined $undo && read_bytes('undo') ne lines(unescaped($undo));
     my $wrong = undone($bank);
     return $wrong if defined $wrong || !defined $undo;
-    my $printed = defined $due->{printed} ? spelled($due->{printed}) : $script;
+    my $printed = defined $due->{printed} ? unescaped($due->{printed}) : $script;
     return read_bytes('again') eq lines($printed) ? undef : 'is printed otherwise: ' . short(read_bytes('again'));
 }
 
@@ -66,7 +66,7 @@ sub wrong_of_refused {
 # Returns what is wrong with a row, or undef. Its results are one line, or parts that begin with a keyword each.
 sub wrong_of_row {
     my ($bank, $script, @answers) = @_;
-    my ($file, $text) = (bank_file($bank), spelled($script));
+    my ($file, $text) = (bank_file($bank), unescaped($script));
     return 'has no answer' if !@answers;
     return wrong_of_refused($file, $text, @answers) if @answers == 1 && $answers[0] =~ /^(?:line \d+: |read )?(?:fault|refused) /;
     my %due = map { /^(undo|printed|makes|bytes|lists)\b ?(.*)/s ? ($1 => $2) : return "has the answer '$_'" } @answers;
@@ -76,7 +76,7 @@ sub wrong_of_row {
 sub try_scripts {
     my ($here) = @_;
     for my $table (@tables) {
-        tell("$table, $_->[0]: " . short($_->[1]), wrong_of_row(@$_)) for rows_of("$here/$table");
+        report("$table, $_->[0]: " . short($_->[1]), wrong_of_row(@$_)) for rows_of("$here/$table");
     }
 }
 

@@ -4,7 +4,7 @@ use strict;
 use warnings;
 use Banks;
 use Exporter 'import';
-our @EXPORT = qw(rows_of spelled);
+our @EXPORT = qw(rows_of unescaped);
 
 # The rows of a table: the parts between `|`, without the blanks around them. A line that begins with a blank goes on
 # with the row above it, and one that begins with `#` is for the reader alone.
@@ -20,7 +20,7 @@ my %bytes = (n => "\n", t => "\t", r => "\r", '\\' => '\\');
 
 # The bytes that a part spells: `\n`, `\t`, `\r`, `\\` and, in hex digits, `\x7f` are one byte each, and `(..)^3` is
 # three times what stands between the parentheses.
-sub spelled {
+sub unescaped {
     my ($part) = @_;
     $part =~ s/\(([^()]*)\)\^(\d+)/$1 x $2/ge;
     return $part =~ s/\\(x[0-9a-f]{2}|.?)/$bytes{$1} \/\/ (length $1 == 3 ? chr hex substr $1, 1 : die "'$part' has \\$1\n")/ger;

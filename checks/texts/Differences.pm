@@ -7,7 +7,7 @@ use Banks;
 use Rows;
 use Runs;
 use Texts;
-use Told;
+use Cases;
 use Exporter 'import';
 our @EXPORT = qw(try_differences);
 
@@ -54,10 +54,10 @@ sub try_differences {
     my ($here) = @_;
     for (Rows::rows_of("$here/differences")) {
         my ($from, $edits, $expected) = @$_;
-        tell_text("diff $from, " . ($edits || 'nothing'), wrong_of_row($from, $edits, $expected));
+        report_case("diff $from, " . ($edits || 'nothing'), wrong_of_row($from, $edits, $expected));
     }
     my $over = done(canon('wide', 'over')) // done(run_over('diff', '--force', 'tone', 'over', 'over')) // done(diff('tone', 'wide', 'difference'));
-    tell_text('a difference over a bank', $over // (same('over', 'difference') ? undef : 'another text'));
+    report_case('a difference over a bank', $over // (same('over', 'difference') ? undef : 'another text'));
 }
 
 1;

@@ -4,7 +4,7 @@ use strict;
 use warnings;
 use Banks;
 use Runs;
-use Told;
+use Cases;
 use Writes;
 use Exporter 'import';
 our @EXPORT = qw(try_failures);
@@ -29,18 +29,18 @@ sub try_each_write {
         my $run = Writes::run_under('./fail.so', { $way => $number, $most ? (SHORT_WRITES => $most) : () }, $words, 'out');
         if (!-e 'mark') {
             my $right = !$run->{status} && $number > 1 && read_bytes('out') eq $whole{out};
-            return tell_text("$name, $number calls", $right ? undef : 'is not done');
+            return report_case("$name, $number calls", $right ? undef : 'is not done');
         }
-        tell_text("$name, call $number", Writes::is_front($run, \%whole, 'out'));
+        report_case("$name, call $number", Writes::is_front($run, \%whole, 'out'));
     }
 }
 
 sub try_failures {
     my ($hostile) = @_;
     my $points = '0123456789abcdef' x 5_000;
-    tell_text('a longer bank', done(apply_text('layered', "extend 0 x$points x", 'long', 'undo')));
-    tell_text('another name', done(apply_text('tone', 'rename-sample 0 "ABCDEFGHIJKLMNOPQRST"', 'renamed', 'undo')));
-    return tell_text('the shim', 'it is not compiled') if system('cc', '-O2', '-shared', '-fPIC', '-o', 'fail.so', "$hostile/fail_writes.c");
+    report_case('a longer bank', done(apply_text('layered', "extend 0 x$points x", 'long', 'undo')));
+    report_case('another name', done(apply_text('tone', 'rename-sample 0 "ABCDEFGHIJKLMNOPQRST"', 'renamed', 'undo')));
+    return report_case('the shim', 'it is not compiled') if system('cc', '-O2', '-shared', '-fPIC', '-o', 'fail.so', "$hostile/fail_writes.c");
     for my $way (qw(FAILED_WRITE EMPTY_WRITE)) {
         for my $run (@runs) { try_each_write($way, $_, $run) for 0, 100; }
     }

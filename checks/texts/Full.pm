@@ -7,7 +7,7 @@ use Differences;
 use Limits;
 use Runs;
 use Texts;
-use Told;
+use Cases;
 use Exporter 'import';
 our @EXPORT = qw(try_full);
 
@@ -26,19 +26,19 @@ sub differs {
 # stay within a limit.
 sub try_bank {
     my ($name, @edits) = @_;
-    tell_text("the text of $name", remade('full', 'full'));
-    tell_text("$name: nothing differs", differs('', 0));
-    tell_text("$name: $_", differs($_, /\n/ ? undef : 1)) for @edits;
+    report_case("the text of $name", remade('full', 'full'));
+    report_case("$name: nothing differs", differs('', 0));
+    report_case("$name: $_", differs($_, /\n/ ? undef : 1)) for @edits;
 }
 
 sub try_full {
     my ($scripts) = @_;
     for (Limits::full_banks()) {
         my ($limit, $lines, undef, $taken) = @$_;
-        tell_text("the most $limit", done(apply_text('empty', join("\n", @$lines), 'full', 'undo')));
+        report_case("the most $limit", done(apply_text('empty', join("\n", @$lines), 'full', 'undo')));
         try_bank("the most $limit, of " . substr($lines->[-1], 0, 12), $taken->[0]);
     }
-    system("$scripts/make_bank wide 65535 > full") and return tell_text('scripts/make_bank', 'failed');
+    system("$scripts/make_bank wide 65535 > full") and return report_case('scripts/make_bank', 'failed');
     my @edits = ('rename-sample 7 "n"', 'move-preset 65534 0', 'remove-preset 32767', 'set-target inst 40000 0 7', 'set-kind 65534 left 0');
     try_bank('the most members', @edits);
 }

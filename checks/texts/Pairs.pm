@@ -8,7 +8,7 @@ use Banks;
 use Differences;
 use Runs;
 use Texts;
-use Told;
+use Cases;
 use Exporter 'import';
 our @EXPORT = qw(try_pairs try_counts);
 
@@ -29,7 +29,7 @@ sub put_edited {
     while (1) {
         my $run = apply_text($bank, join("\n", @lines), 'b', 'undo');
         return scalar @lines unless $run->{status};
-        my ($line) = $run->{line} =~ /^sfbank: line (\d+): / or return tell_text("$path on $bank", $run->{line});
+        my ($line) = $run->{line} =~ /^sfbank: line (\d+): / or return report_case("$path on $bank", $run->{line});
         splice @lines, $line - 1, 1;
     }
 }
@@ -52,7 +52,7 @@ sub states_of {
         my @edits = splice @lines, 0, 1 + $done * 7 % 11;
         write_bytes('state', $bytes);
         my $wrong = done(apply_text('state', join("\n", @edits), 'out', 'undo'));
-        if ($wrong) { tell_text("scripts/make_edits on $bank", $wrong); last; }
+        if ($wrong) { report_case("scripts/make_edits on $bank", $wrong); last; }
         push @states, [$done + @edits, read_bytes('out')];
     }
     return \@states;
@@ -110,15 +110,15 @@ sub pair_of_seed {
 sub try_seed {
     my ($maker, $seed) = @_;
     my ($kind, $from, $to, $canonical, $edits) = pair_of_seed($maker, $seed);
-    tell_text("pair $seed, $kind", wrong_of_pair($kind, $from, $to, $canonical, $edits));
-    tell_text("the text of pair $seed", remade($to, $canonical)) if $seed % 4 == 0;
+    report_case("pair $seed, $kind", wrong_of_pair($kind, $from, $to, $canonical, $edits));
+    report_case("the text of pair $seed", remade($to, $canonical)) if $seed % 4 == 0;
 }
 
 # Tests `count` seeds from one on, with the folder of the generators and the banks of the pairs.
 sub try_pairs {
     my ($scripts, $first, $count, @from) = @_;
     for my $number (0 .. $#from) {
-        tell_text("canon $from[$number]", done(canon($from[$number], "bank$number")));
+        report_case("canon $from[$number]", done(canon($from[$number], "bank$number")));
         push @banks, "bank$number";
         push @edited, "bank$number" unless grep { $_ == 0 } members_of("bank$number");
     }
@@ -127,7 +127,7 @@ sub try_pairs {
     while ($count > 0) {
         my $some = $count < 200 ? $count : 200;
         mkdir 'seeds';
-        system("$scripts/make_hostile", 'seeds', $first, $some, @banks) and return tell_text('scripts/make_hostile', 'failed');
+        system("$scripts/make_hostile", 'seeds', $first, $some, @banks) and return report_case('scripts/make_hostile', 'failed');
         try_seed("$scripts/make_edits", $_) for $first .. $first + $some - 1;
         unlink glob 'seeds/*';
         ($first, $count) = ($first + $some, $count - $some);
@@ -138,7 +138,7 @@ sub try_pairs {
 sub try_counts {
     for my $kind (sort keys %floors) {
         my $there = $count{$kind} // 0;
-        tell_text("3000 pairs, $kind", $there >= $floors{$kind} ? undef : "$there, not $floors{$kind}");
+        report_case("3000 pairs, $kind", $there >= $floors{$kind} ? undef : "$there, not $floors{$kind}");
     }
 }
 

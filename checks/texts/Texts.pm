@@ -6,7 +6,7 @@ use warnings;
 use Banks;
 use Rows;
 use Runs;
-use Told;
+use Cases;
 use Exporter 'import';
 our @EXPORT = qw(try_new make_banks try_texts try_streams try_faults remade run_over);
 
@@ -21,11 +21,11 @@ sub wrong_of_new {
 }
 
 sub try_new {
-    tell_text('new', wrong_of_new(4));
-    tell_text("new, of minor version $_", wrong_of_new($_, '--minor', $_)) for 0, 1, 4, 9, 255, 256, 65_535;
+    report_case('new', wrong_of_new(4));
+    report_case("new, of minor version $_", wrong_of_new($_, '--minor', $_)) for 0, 1, 4, 9, 255, 256, 65_535;
     done(new_bank('empty'));
     my $made = read_bytes('empty') // '';
-    tell_text('an empty bank has 308 bytes', length $made == 308 ? undef : length($made) . ' bytes');
+    report_case('an empty bank has 308 bytes', length $made == 308 ? undef : length($made) . ' bytes');
 }
 
 # Writes the banks into the folder: those made by scripts, those of the examples, and one of 200 presets.
@@ -34,7 +34,7 @@ sub make_banks {
     my @many = ('add-inst 0 "i"', map { "add-preset $_ \"p$_\" $_ 0 0 0 0 { 0 }" } 0 .. 199);
     my %banks = (many => [4, join "\n", @many], map { ($_ => [4, join "\n", @{ $SCRIPTS{$_} }[1 .. $#{ $SCRIPTS{$_} }]]) } keys %SCRIPTS);
     for (Rows::rows_of("$here/banks")) { $banks{ $_->[0] } = [$_->[1], $_->[2] =~ s/\\n/\n/gr]; }
-    tell_text("the bank $_", make_bank($_, @{ $banks{$_} })) for sort keys %banks;
+    report_case("the bank $_", make_bank($_, @{ $banks{$_} })) for sort keys %banks;
     write_bytes($_, read_bytes("$here/../../examples/$_.sf2")) for qw(organ untidy);
     return ('empty', sort(keys %banks), 'organ', 'untidy');
 }
@@ -75,13 +75,13 @@ sub try_text {
     my ($here, $bank) = @_;
     my $text = read_bytes("$here/printed/$bank.txt");
     if (defined $text) {
-        tell_text("script $bank", is_printed($bank, $text));
-        tell_text("script --no-points $bank", is_printed($bank, without_points($text), '--no-points'));
+        report_case("script $bank", is_printed($bank, $text));
+        report_case("script --no-points $bank", is_printed($bank, without_points($text), '--no-points'));
     }
-    tell_text("canon $bank", done(canon($bank, 'canonical')));
-    tell_text("$bank is made of its text", remade($bank, 'canonical') // undone('from'));
+    report_case("canon $bank", done(canon($bank, 'canonical')));
+    report_case("$bank is made of its text", remade($bank, 'canonical') // undone('from'));
     my $over = done(canon($bank, 'over')) // done(run_over('script', '--force', 'over', 'over')) // done(script($bank, 'text'));
-    tell_text("script of $bank over it", $over // (same('over', 'text') ? undef : 'another text'));
+    report_case("script of $bank over it", $over // (same('over', 'text') ? undef : 'another text'));
 }
 
 # Runs a command whose output replaces an input.
@@ -98,7 +98,7 @@ sub try_streams {
         my $run = run([@$_, '/dev/stdout']);
         rename 'printed', 'streamed';
         my $wrong = is_right({ %$run, printed => 0 }, 10_000_000) // done(run_command([@$_, 'out'], 'out'));
-        tell_text("@$_ to a stream", $wrong // (same('streamed', 'out') ? undef : 'another text'));
+        report_case("@$_ to a stream", $wrong // (same('streamed', 'out') ? undef : 'another text'));
     }
 }
 
@@ -107,7 +107,7 @@ sub try_texts {
     my ($here, @banks) = @_;
     try_text($here, $_) for @banks;
     my %known = map { $_ => 1 } @banks;
-    for (glob "$here/printed/*") { tell_text("$_ is a bank's", m{/(\w+)\.txt$} && $known{$1} ? undef : 'it is not'); }
+    for (glob "$here/printed/*") { report_case("$_ is a bank's", m{/(\w+)\.txt$} && $known{$1} ? undef : 'it is not'); }
 }
 
 # ---- faults
@@ -126,9 +126,9 @@ sub wrong_of_fault {
 sub try_faults {
     my ($here) = @_;
     write_bytes('cut', substr read_bytes('tone'), 0, 300);
-    tell_text('another version', done(new_bank('other', '--minor', 3)));
+    report_case('another version', done(new_bank('other', '--minor', 3)));
     unlink qw(out undo);
-    tell_text($_->[0], wrong_of_fault(@$_)) for Rows::rows_of("$here/faults");
+    report_case($_->[0], wrong_of_fault(@$_)) for Rows::rows_of("$here/faults");
 }
 
 1;

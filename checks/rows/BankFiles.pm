@@ -1,5 +1,5 @@
 # Writes the banks of the table `banks` as files into the folder of the runs.
-package Worked;
+package BankFiles;
 use strict;
 use warnings;
 use Banks;
@@ -37,7 +37,7 @@ sub put_banks {
     for (rows_of("$here/banks")) {
         my ($name, $length, $way) = @$_;
         my $wrong = made($way) // (-s 'out' == $length ? undef : 'has ' . (-s 'out') . " bytes, not $length");
-        tell("the bank $name", $wrong);
+        report("the bank $name", $wrong);
         rename 'out', $name;
     }
 }

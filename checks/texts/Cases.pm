@@ -1,22 +1,22 @@
 # Counts cases, and runs of `new`, `script` and `diff`.
-package Told;
+package Cases;
 use strict;
 use warnings;
 use Banks;
 use Runs;
 use Exporter 'import';
-our @EXPORT = qw(tell_text totals_of_texts done new_bank script diff one_line lines_of);
+our @EXPORT = qw(report_case totals_of_cases done new_bank script diff one_line lines_of);
 
 my ($passed, $failed) = (0, 0);
 
 # Counts a case, and prints what is wrong with it, for the first twenty.
-sub tell_text {
+sub report_case {
     my ($name, $wrong) = @_;
     if (!defined $wrong) { $passed++; return; }
     print "texts: $name: $wrong\n" if ++$failed <= 20;
 }
 
-sub totals_of_texts { return ($passed, $failed); }
+sub totals_of_cases { return ($passed, $failed); }
 
 # Returns what is wrong with a run that must be done, or undef.
 sub done { my ($run) = @_; return $run->{wrong} // ($run->{status} ? $run->{line} : undef); }

@@ -1,6 +1,6 @@
 # Makes each allocation of a session fail in turn: the line being handled is answered `out of memory` and changes
 # nothing, and the session goes on as without it; or the session ends because it is out of memory.
-package Growths;
+package FailedAllocations;
 use strict;
 use warnings;
 use Banks;
@@ -8,7 +8,7 @@ use Live;
 use Runs;
 use Sessions;
 use Exporter 'import';
-our @EXPORT = qw(try_growths);
+our @EXPORT = qw(try_failed_allocations);
 
 my @lines = (
     'rename-sample 0 "u"', 'note 4000 0 0 60 20', 'frames 100', 'group { set-gen inst 0 0 17 -300 } { set-loop 0 loop 0 2 }', 'note 4000 0 0 72 20',
@@ -16,19 +16,19 @@ my @lines = (
     'split-zone inst 0 0 key 64', 'save saved.2 "undo.2"', 'show', 'remove-sample 0', 'trim 0 x0', 'frames 50', 'quit',
 );
 
-sub try_growths {
-    my ($growths) = @_;
-    return tell('the shim', 'it is not compiled') if system('cc', '-O2', '-shared', '-fPIC', '-o', 'refuse.so', "$growths/refuse.c");
+sub try_failed_allocations {
+    my ($shims) = @_;
+    return report('the shim', 'it is not compiled') if system('cc', '-O2', '-shared', '-fPIC', '-o', 'fail_allocation.so', "$shims/fail_allocation.c");
     my ($number, $answered) = (0, 0);
     while (1) {
         $number++;
         unlink glob('saved.*'), glob('undo.*');
-        my $run = live_under({ LD_PRELOAD => './refuse.so', REFUSED_GROWTH => $number, REFUSED_MARK => 'mark' }, 'tone', join("\n", @lines) . "\n");
+        my $run = live_under({ LD_PRELOAD => './fail_allocation.so', FAILED_ALLOCATION => $number, FAILED_MARK => 'mark' }, 'tone', join("\n", @lines) . "\n");
         last if !-e 'mark';
         $answered++ if $run->{answers} =~ /^out of memory$/m;
-        tell("growth $number refused", wrong_of_run('tone', $run, 1, @lines));
+        report("growth $number refused", wrong_of_run('tone', $run, 1, @lines));
     }
-    tell("growths, $number", $number > 20 && $answered > 10 ? undef : "only $answered were answered");
+    report("growths, $number", $number > 20 && $answered > 10 ? undef : "only $answered were answered");
     print "live: ", $number - 1, " growths refused in turn, $answered of them in a line that is answered so\n";
 }
 

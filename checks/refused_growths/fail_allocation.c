@@ -19,13 +19,13 @@ void *__libc_memalign(size_t align, size_t size);
 /* More bytes than any machine has. */
 static const size_t boundary = (size_t)1 << 62;
 
-static unsigned long refused;
+static unsigned long failing;
 static unsigned long counted;
-static int is_in_stretch;
+static int is_in_section;
 
 __attribute__((constructor)) static void begin(void) {
-    const char *number = getenv("REFUSED_GROWTH");
-    refused = number ? strtoul(number, NULL, 10) : 0;
+    const char *number = getenv("FAILED_ALLOCATION");
+    failing = number ? strtoul(number, NULL, 10) : 0;
     counted = 0;
 }
 
@@ -36,13 +36,13 @@ static void create(const char *variable) {
         close(open(file, O_WRONLY | O_CREAT, 0644));
 }
 
-static int is_refused(size_t size) {
+static int must_fail(size_t size) {
     if (size >= boundary) {
-        if (is_in_stretch)
-            create("REFUSED_STRETCH");
-        is_in_stretch = !is_in_stretch && getenv("REFUSED_STRETCH");
-    } else if (is_in_stretch || (refused != 0 && ++counted == refused)) {
-        create("REFUSED_MARK");
+        if (is_in_section)
+            create("FAILED_SECTION");
+        is_in_section = !is_in_section && getenv("FAILED_SECTION");
+    } else if (is_in_section || (failing != 0 && ++counted == failing)) {
+        create("FAILED_MARK");
     } else {
         return 0;
     }
@@ -50,13 +50,13 @@ static int is_refused(size_t size) {
     return 1;
 }
 
-void *malloc(size_t size) { return is_refused(size) ? NULL : __libc_malloc(size); }
+void *malloc(size_t size) { return must_fail(size) ? NULL : __libc_malloc(size); }
 
-void *calloc(size_t count, size_t size) { return is_refused(size) ? NULL : __libc_calloc(count, size); }
+void *calloc(size_t count, size_t size) { return must_fail(size) ? NULL : __libc_calloc(count, size); }
 
-void *realloc(void *old, size_t size) { return is_refused(size) ? NULL : __libc_realloc(old, size); }
+void *realloc(void *old, size_t size) { return must_fail(size) ? NULL : __libc_realloc(old, size); }
 
-void *memalign(size_t align, size_t size) { return is_refused(size) ? NULL : __libc_memalign(align, size); }
+void *memalign(size_t align, size_t size) { return must_fail(size) ? NULL : __libc_memalign(align, size); }
 
 void *aligned_alloc(size_t align, size_t size) { return memalign(align, size); }
 
