@@ -1,5 +1,4 @@
-# The table of pictures: what `map` draws of presets and instruments, to the byte, and what it tells of those that are
-# not there.
+# Tests the table `pictures`: what `map` draws of presets and instruments, byte for byte, and its line for missing ones.
 package Pictures;
 use strict;
 use warnings;
@@ -11,7 +10,7 @@ use Tables;
 use Exporter 'import';
 our @EXPORT = qw(try_pictures);
 
-# The lines that all pictures have, before the name of what is drawn and behind it.
+# The lines of all pictures, before and after the name of what is drawn.
 my %common;
 
 sub map_run { my ($bank, $member, $out) = @_; return run_command(['map', $bank, split(' ', $member), $out], $out); }

@@ -1,5 +1,5 @@
-# The tables of scripts, row by row: a script on a bank, and what `apply` answers. The last line of a script may end by
-# a line feed or not: each is tried both ways.
+# Tests the tables of scripts, row by row: a script on a bank, and the result of `apply`. Each script is tested with and
+# without a line feed after its last line.
 package Scripts;
 use strict;
 use warnings;

@@ -18,8 +18,8 @@ sub rows_of {
 
 my %bytes = (n => "\n", t => "\t", r => "\r", '\\' => '\\');
 
-# The bytes that a part spells: `\n`, `\t`, `\r`, `\\` and, in hex digits, `\x7f` are one byte each, and `(..)^3` is
-# three times what stands between the parentheses.
+# Returns the bytes of a part: `\n`, `\t`, `\r`, `\\` and `\x7f` (hexadecimal) are one byte each, and `(..)^3` is the
+# text between the parentheses three times.
 sub unescaped {
     my ($part) = @_;
     $part =~ s/\(([^()]*)\)\^(\d+)/$1 x $2/ge;

@@ -162,7 +162,7 @@ fn go_back(alloc: Global, one: &mut Session<'_>, other: &mut Session<'_>, undos:
     alike
 }
 
-// Whether two sessions stand at the same bank, with the same undo list.
+// Whether two sessions have the same bank and the same undo list.
 fn stand_alike(one: &Session<'_>, other: &Session<'_>) -> bool {
     file_of(one.bank()).has(file_of(other.bank()).text()) && back_of(one).has(back_of(other).text())
 }
