@@ -72,16 +72,16 @@ my @shells = (
 );
 
 sub try_shell {
-    my ($line, $status, $told) = @_;
+    my ($command, $status, $line) = @_;
     unlink qw(out undo back errors printed);
-    my $ended = system('bash', '-c', "exec 2> errors > printed; $line", program_of_runs(), $long_path) >> 8;
+    my $ended = system('bash', '-c', "exec 2> errors > printed; $command", program_of_runs(), $long_path) >> 8;
     my $errors = read_bytes('errors');
-    my $due = defined $told ? "sfbank: $told\n" : '';
+    my $due = defined $line ? "sfbank: $line\n" : '';
     my $wrong = $ended == $status ? undef : "status $ended";
     $wrong //= "told '$errors'" if $errors ne $due;
     $wrong //= 'printed' if -s 'printed';
     $wrong //= 'left a file' if -e 'out' || -e 'undo';
-    report($line, $wrong);
+    report($command, $wrong);
 }
 
 sub try_lengths {

@@ -111,8 +111,8 @@ sub try_shell {
     unlink qw(out undo status errors);
     my $ended = system('bash', '-c', "exec 2> errors; $line", program_of_runs()) >> 8;
     my $want = $path ? "sfbank: write fault $path after 0 bytes\n" : '';
-    my $told = read_bytes('errors');
-    my $wrong = $ended != $status ? "status $ended" : $told ne $want ? "told '$told'" : system('bash', '-c', $test) ? 'left other files' : undef;
+    my $errors = read_bytes('errors');
+    my $wrong = $ended != $status ? "status $ended" : $errors ne $want ? "told '$errors'" : system('bash', '-c', $test) ? 'left other files' : undef;
     report($line, $wrong);
 }
 

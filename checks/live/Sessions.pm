@@ -180,7 +180,7 @@ sub take_answer {
     my @answers;
     while (@$left) {
         push @answers, shift @$left;
-        last if $answer[-1] eq 'ok';
+        last if $answers[-1] eq 'ok';
     }
     return @answers;
 }
@@ -188,7 +188,7 @@ sub take_answer {
 # Returns what is wrong with the answer to a line, or undef, and updates the session.
 sub wrong_of_line {
     my ($s, $line, @answers) = @_;
-    my $answer = $answer[0] // return 'no answer';
+    my $answer = $answers[0] // return 'no answer';
     return $answer eq 'ok' ? undef : "answered '$answer'" if $line eq 'quit';
     return is_undone($s, $answer) if $line eq 'undo';
     return is_redone($s, $answer) if $line eq 'redo';

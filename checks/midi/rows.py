@@ -13,7 +13,7 @@ class Row:
     name: str
     tracks: list
     notes: list
-    told: list = field(default_factory=list)
+    messages: list = field(default_factory=list)
     division: int = 480
     words: tuple = ()
 

@@ -15,31 +15,31 @@ my @always;
 
 # Makes a fact about a file true.
 sub put {
-    my ($said) = @_;
-    my ($path, $what) = $said =~ /^(\S+) (.*)$/;
+    my ($fact) = @_;
+    my ($path, $what) = $fact =~ /^(\S+) (.*)$/;
     if ($what =~ /^is text ?(.*)/) { write_bytes($path, unescaped($1)); }
     elsif ($what =~ /^is (.*)/) { write_bytes($path, bank_bytes($1)); }
     elsif ($what =~ /^has mode (\d+)$/) { chmod oct $1, $path or die "$path: $!\n"; }
     elsif ($what =~ /^links to (\S+)$/) { symlink $1, $path or die "$path: $!\n"; }
-    else { die "nothing can be made of '$said'\n"; }
+    else { die "nothing can be made of '$fact'\n"; }
 }
 
 # Returns whether a fact about a file holds.
 sub is_so {
-    my ($said) = @_;
-    return !-e $1 && !-l $1 if $said =~ /^no (\S+)$/;
-    my ($path, $what) = $said =~ /^(\S+) (.*)$/;
+    my ($fact) = @_;
+    return !-e $1 && !-l $1 if $fact =~ /^no (\S+)$/;
+    my ($path, $what) = $fact =~ /^(\S+) (.*)$/;
     return sprintf('%o', (stat $path)[2] & 0777) eq $1 if $what =~ /^has mode (\d+)$/;
     return (readlink $path // '') eq $1 if $what =~ /^links to (\S+)$/;
-    my $want = $what =~ /^is text ?(.*)/ ? unescaped($1) : $what =~ /^is (.*)/ ? bank_bytes($1) : die "'$said' says nothing\n";
+    my $want = $what =~ /^is text ?(.*)/ ? unescaped($1) : $what =~ /^is (.*)/ ? bank_bytes($1) : die "'$fact' says nothing\n";
     return (read_bytes($path) // return 0) eq $want;
 }
 
 sub begin {
-    my ($folder, @said) = @_;
+    my ($folder, @facts) = @_;
     remove_tree($folder);
     mkdir $folder or die "$folder: $!\n";
-    put($_) for @said;
+    put($_) for @facts;
     @always = ();
 }
 
@@ -52,12 +52,12 @@ sub ends {
 }
 
 sub try_output {
-    my ($words, $ends, @said) = @_;
-    return begin($1, $ends, @said) if $words =~ /^begin (\S+)$/;
-    return @always = ($ends, @said) if $words eq 'always';
+    my ($words, $ends, @facts) = @_;
+    return begin($1, $ends, @facts) if $words =~ /^begin (\S+)$/;
+    return @always = ($ends, @facts) if $words eq 'always';
     my ($status, $line) = $ends =~ /^(\d) ?(.*)$/ or die "'$ends' is no end\n";
     my $wrong = ends(run([split ' ', $words]), $status, $line eq '' ? '' : "$line\n");
-    my ($other) = grep { !is_so($_) } @said, @always;
+    my ($other) = grep { !is_so($_) } @facts, @always;
     report($words, $wrong // (defined $other ? "it isn't so that $other" : undef));
 }
 
@@ -84,8 +84,8 @@ sub wrong_of_printed {
     return 'prints another text' if substr(read_bytes('printed'), 0, length $text) ne $text;
     my $front = substr $text, 0, 7;
     my $status = run_in_little_room('2>&1 | cat > errors; exit ${PIPESTATUS[0]}', @words);
-    my $told = read_bytes('errors');
-    return "status $status with '$told' in little room" if $status != 5 || $told ne "sfbank: write fault - after 7 bytes\n";
+    my $line = read_bytes('errors');
+    return "status $status with '$line' in little room" if $status != 5 || $line ne "sfbank: write fault - after 7 bytes\n";
     return 'prints other bytes in little room' if read_bytes('printed') ne $front;
     $status = run_in_little_room('2> errors', @words);
     return "status $status where the line has little room" if $status != 5 || read_bytes('errors') ne 'sfbank:';
@@ -102,17 +102,17 @@ sub try_memory {
     write_bytes('late', "99999999 1 0 0 60 127\n");
     unlink 'out', 'errors';
     my $status = system('bash', '-c', 'ulimit -v 100000; exec "$0" play empty late out 2> errors', program_of_runs()) >> 8;
-    my $told = read_bytes('errors');
-    report('out of memory', $status == 6 && $told eq "sfbank: out of memory\n" && !-e 'out' ? undef : "status $status with '$told'");
+    my $line = read_bytes('errors');
+    report('out of memory', $status == 6 && $line eq "sfbank: out of memory\n" && !-e 'out' ? undef : "status $status with '$line'");
 }
 
 # Tests that on a terminal the reason why an input can't be read follows the line of the fault.
 sub try_terminal {
     local $ENV{PROGRAM} = program_of_runs();
-    my $told = qx{script -qec '"\$PROGRAM" show missing' /dev/null < /dev/null};
+    my $line = qx{script -qec '"\$PROGRAM" show missing' /dev/null < /dev/null};
     my $status = $? >> 8;
     my $wanted = "sfbank: file fault missing\r\n  No such file or directory\r\n";
-    report('a terminal', $status == 5 && $told eq $wanted ? undef : "status $status with '$told'");
+    report('a terminal', $status == 5 && $line eq $wanted ? undef : "status $status with '$line'");
 }
 
 sub try_program {
