@@ -26,10 +26,10 @@ sub try_failed_allocations {
         my $run = live_under({ LD_PRELOAD => './fail_allocation.so', FAILED_ALLOCATION => $number, FAILED_MARK => 'mark' }, 'tone', join("\n", @lines) . "\n");
         last if !-e 'mark';
         $answered++ if $run->{answers} =~ /^out of memory$/m;
-        report("growth $number refused", wrong_of_run('tone', $run, 1, @lines));
+        report("allocation $number failed", wrong_of_run('tone', $run, 1, @lines));
     }
-    report("growths, $number", $number > 20 && $answered > 10 ? undef : "only $answered were answered");
-    print "live: ", $number - 1, " growths refused in turn, $answered of them in a line that is answered so\n";
+    report("allocations, $number", $number > 20 && $answered > 10 ? undef : "only $answered were answered");
+    print "live: ", $number - 1, " allocations failed in turn, $answered of them in a line that is answered so\n";
 }
 
 1;

@@ -58,9 +58,9 @@ fn main(rt: HostRuntime) -> ExitCode {
         outcome = outcome.and(edit_and_return(alloc, script, back));
     }
     let (line, status) = match outcome {
-        Outcome::Done => ("no growth was refused, and each value is right", 0),
+        Outcome::Done => ("no allocation failed, and each value is right", 0),
         Outcome::Refused => (
-            "a growth was refused: nothing was changed, and all went on rightly",
+            "an allocation failed: nothing changed, and all later calls were right",
             6,
         ),
         Outcome::Wrong => ("a value is wrong", 1),
