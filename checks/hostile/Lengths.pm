@@ -78,7 +78,7 @@ sub try_shell {
     my $errors = read_bytes('errors');
     my $due = defined $line ? "sfbank: $line\n" : '';
     my $wrong = $ended == $status ? undef : "status $ended";
-    $wrong //= "told '$errors'" if $errors ne $due;
+    $wrong //= "reported '$errors'" if $errors ne $due;
     $wrong //= 'printed' if -s 'printed';
     $wrong //= 'left a file' if -e 'out' || -e 'undo';
     report($command, $wrong);

@@ -112,7 +112,7 @@ sub try_shell {
     my $ended = system('bash', '-c', "exec 2> errors; $line", program_of_runs()) >> 8;
     my $want = $path ? "sfbank: write fault $path after 0 bytes\n" : '';
     my $errors = read_bytes('errors');
-    my $wrong = $ended != $status ? "status $ended" : $errors ne $want ? "told '$errors'" : system('bash', '-c', $test) ? 'left other files' : undef;
+    my $wrong = $ended != $status ? "status $ended" : $errors ne $want ? "reported '$errors'" : system('bash', '-c', $test) ? 'left other files' : undef;
     report($line, $wrong);
 }
 

@@ -135,7 +135,7 @@ sub wrong_of_shell {
     my ($line, $status, $message, $test) = @_;
     my $ended = shell($line, $lines);
     return "status $ended" if $ended != $status;
-    return 'told ' . one_line(read_bytes('errors')) if read_bytes('errors') !~ $message;
+    return 'reported ' . one_line(read_bytes('errors')) if read_bytes('errors') !~ $message;
     return system('bash', '-c', $test) ? 'left something else' : undef;
 }
 

@@ -159,7 +159,7 @@ sub is_saved {
     my $wrong = answered('save', $answer, 'ok');
     my $run = made_by($s, script_of($s));
     $wrong //= $run->{wrong} // ($run->{status} ? $run->{line} : undef);
-    return $wrong // (read_bytes($out) ne $run->{out} ? "$out is another bank" : read_bytes($undo) eq $run->{undo} ? undef : "$undo is another way back");
+    return $wrong // (read_bytes($out) ne $run->{out} ? "$out is another bank" : read_bytes($undo) eq $run->{undo} ? undef : "$undo is another undo script");
 }
 
 # Returns what is wrong with the listing of the current bank, or undef: its lines, then `ok`.

@@ -61,7 +61,7 @@ TIMES = [
     Row("a note", [[on(480, 60), off(480, 60)]], ["22050 22050 0 0 60 100"]),
     Row("a note on without velocity is a note off", [[on(0, 60), on(480, 60, velocity=0)]], ["0 22050 0 0 60 100"]),
     Row(
-        "a chord stands in the file's order",
+        "a chord keeps the file's order",
         [[on(0, 67), on(0, 60), on(0, 64), off(480, 60), off(0, 64), off(480, 67)]],
         ["0 44100 0 0 67 100", "0 22050 0 0 60 100", "0 22050 0 0 64 100"],
     ),
@@ -147,7 +147,7 @@ PEDAL = [
         ["0 44100 0 0 60 100"],
     ),
     Row(
-        "a pedal behind the key's release",
+        "a pedal after the key's release",
         [[on(0, 60), off(480, 60), control(0, 64, 127), end(480)]],
         ["0 22050 0 0 60 100"],
     ),
@@ -253,7 +253,7 @@ ENDS = [
 
 REST = [
     Row(
-        "what no list says is told, the most frequent first",
+        "what no list can state is reported, the most frequent first",
         [
             [
                 Message("sysex", data=(126, 127, 9, 1)),

@@ -24,7 +24,7 @@ sub wrong_of_refused {
     unlink 'out';
     my $run = run([split ' ', $words]);
     return "status $run->{status} and signal $run->{signal}" if $run->{status} != $status || $run->{signal};
-    return "told '$run->{line}'" if $run->{line} ne "sfbank: $line\n";
+    return "reported '$run->{line}'" if $run->{line} ne "sfbank: $line\n";
     return -e 'out' || $run->{printed} ? 'made something' : undef;
 }
 

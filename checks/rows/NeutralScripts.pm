@@ -26,7 +26,7 @@ sub wrong_of_note {
     my $wrong = Rows::is_done(play_notes($bank, $note, 'wave'));
     return $wrong if defined $wrong;
     my $is_same = read_bytes('wave') eq wave_of($frames);
-    return !$is_same == !!$others ? undef : $others ? 'the note is heard alike' : 'the note is heard otherwise';
+    return !$is_same == !!$others ? undef : $others ? 'the note renders identically' : 'the note renders otherwise';
 }
 
 # Returns what is wrong with a script that `apply` must accept, and with the note on the new bank; or undef.
@@ -56,8 +56,8 @@ sub is_refused {
 sub try_row {
     my ($unescaped, $answer) = @_;
     my $script = unescaped($unescaped);
-    my $wrong = $answer eq 'is not heard' ? is_neutral($script)
-        : $answer eq 'is heard' ? is_applied($script, 1) // is_refused($script, 'line 1: refused 50 NotNeutral')
+    my $wrong = $answer eq 'changes no sound' ? is_neutral($script)
+        : $answer eq 'changes the sound' ? is_applied($script, 1) // is_refused($script, 'line 1: refused 50 NotNeutral')
         : is_refused($script, $answer);
     report("neutral $unescaped", $wrong);
 }

@@ -67,7 +67,7 @@ sub try_words {
     my (undef, @words) = split ' ', $words;
     my $run = run(\@words);
     my $wrong = ends($run, 1, defined $line ? "$line\n" : $run->{line});
-    report($words, $wrong // ($run->{line} eq '' ? 'tells nothing' : undef));
+    report($words, $wrong // ($run->{line} eq '' ? 'prints nothing' : undef));
 }
 
 # Runs the program with a file size limit of seven bytes, and returns its status. Pipes have no limit.

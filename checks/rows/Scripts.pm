@@ -23,7 +23,7 @@ sub short { my ($text) = @_; return length $text > 200 ? substr($text, 0, 200) .
 sub wrong_of_line {
     my ($run, $due) = @_;
     my $line = 'sfbank: ' . ($due =~ /^line \d|^read fault/ ? $due : "line 1: $due") . "\n";
-    return $run->{wrong} // ($run->{line} eq $line ? undef : "told '$run->{line}'");
+    return $run->{wrong} // ($run->{line} eq $line ? undef : "reported '$run->{line}'");
 }
 
 # Returns what is wrong with the written file, or undef.

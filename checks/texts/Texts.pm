@@ -118,7 +118,7 @@ sub wrong_of_fault {
     my $run = run([split ' ', $words]);
     return "ended by signal $run->{signal}" if $run->{signal};
     return "status $run->{status}" if $run->{status} != $status;
-    return "told '" . one_line($run->{line}) . "'" if defined $line && $run->{line} ne "$line\n";
+    return "reported '" . one_line($run->{line}) . "'" if defined $line && $run->{line} ne "$line\n";
     return 'printed' if $run->{printed};
     return "@there" eq join(' ', sort glob '*') ? undef : 'made a file';
 }

@@ -41,7 +41,7 @@ pub enum ScriptFault {
     #[error("line {0}: a number is wrong or out of range")]
     Number(u64),
     /// 43: a literal is malformed, or its bytes are not valid here.
-    #[error("line {0}: a literal is badly spelled, or its bytes do not serve")]
+    #[error("line {0}: a literal is malformed, or its bytes are not allowed there")]
     Literal(u64),
 }
 

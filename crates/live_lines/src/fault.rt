@@ -17,7 +17,7 @@ pub enum RequestFault {
     #[error("a number is wrong or out of range")]
     Number,
     /// 43: a malformed literal, or one whose bytes don't fit.
-    #[error("a literal is badly spelled, or its bytes do not serve")]
+    #[error("a literal is malformed, or its bytes are not allowed there")]
     Literal,
     /// 45: `note` is not followed by five numbers in their ranges.
     #[error("this is no note")]

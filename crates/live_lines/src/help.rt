@@ -4,12 +4,12 @@
 pub const HELP: &str = "\
 rename-sample 0 \"Piano C4\"       # an edit, as in a script\n\
 group { trim 0 9 0 } { trim 1 9 0 } # several edits, all of them or none\n\
-neutral rename-sample 0 \"C4\"     # an edit that is refused where it could be heard\n\
+neutral rename-sample 0 \"C4\"     # an edit of a form that never changes the sound\n\
 undo                             # back by one edit\n\
 redo                             # forth by one edit\n\
 note 44100 0 0 60 100            # starts now: frames, bank, preset, key, velocity\n\
 frames 44100                     # the next frames: 44100 are a second\n\
-save out.sf2 undo.txt            # the bank, and the script that takes it back\n\
+save out.sf2 undo.txt            # the bank, and its undo script\n\
 save \"my bank.sf2\" \"my undo.txt\" # paths with blanks, or that begin with x\n\
 show                             # the bank as lines of text\n\
 help                             # these lines\n\

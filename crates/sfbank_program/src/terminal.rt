@@ -7,7 +7,7 @@ use std::io::{Read, Write};
 use std::time::{Clock, Duration, Instant};
 
 /// Written before the first prompt.
-const GREETING: &[u8] = b"A live session: help tells its lines, quit ends it.\n";
+const GREETING: &[u8] = b"A live session: help lists its lines, quit ends it.\n";
 
 /// Written before each line is read.
 const PROMPT: &[u8] = b"> ";
