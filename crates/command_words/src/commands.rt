@@ -1,46 +1,48 @@
-//! The commands of the program, as clap is told of them.
+//! The program's commands, described for clap.
 
 use clap::{Arg, ArgAction, Command, value_parser};
 use std::alloc::{AllocError, Global};
 
-/// The program's name, by whatever path it was started.
+/// The program's name in help and in errors, whatever path it was started by.
 const NAME: &str = "sfbank";
 
-/// The minor version of an empty bank where none is given.
-const USUAL_MINOR: &str = "4";
+/// The default minor version of an empty bank.
+const DEFAULT_MINOR: &str = "4";
 
-/// What says whose ranges are drawn.
+/// The names of the two levels.
 static LEVELS: [&str; 2] = ["preset", "inst"];
 
-/// A command: its name, what it does, its words in their order, and a line that uses it.
+/// A command, with its operands in the order of its words.
 struct Entry {
     name: &'static str,
     about: &'static str,
-    words: &'static [Word],
+    operands: &'static [Operand],
     example: &'static str,
 }
 
-/// A word of a command: its name, and what help says of it.
+/// An operand of a command, with its name and its help text.
 #[derive(Clone, Copy)]
-enum Word {
-    /// A path, which has to be there.
+enum Operand {
+    /// A path, required.
     Path(&'static str, &'static str),
-    /// A number of 32 bits, which has to be there.
+    /// A 32-bit number, required.
     Number(&'static str, &'static str),
-    /// `preset` or `inst`, one of which has to be there.
+    /// `preset` or `inst`, required.
     Level(&'static str, &'static str),
-    /// Two hyphens and the name, or nothing.
+    /// `--NAME`, optional.
     Flag(&'static str, &'static str),
-    /// Two hyphens, the name and a minor version, or nothing.
+    /// `--NAME N` with a 16-bit number, optional.
     Minor(&'static str, &'static str),
 }
 
-/// The flag by which an output may replace a bank.
-const FORCE: Word = Word::Flag("force", "Writes OUT even if a bank is there");
+/// The flag that lets OUT replace a bank.
+const FORCE: Operand = Operand::Flag("force", "Writes OUT even if a bank is there");
 
-const UNDO_FORCE: Word = Word::Flag("force", "Writes UNDO even if a bank is there");
+/// The flag that lets UNDO replace a bank.
+const UNDO_FORCE: Operand = Operand::Flag("force", "Writes UNDO even if a bank is there");
 
-const LIVE_FORCE: Word = Word::Flag(
+/// The flag that lets the outputs of `live` replace banks.
+const LIVE_FORCE: Operand = Operand::Flag(
     "force",
     "Writes PCM, and UNDO of each save, even if a bank is there",
 );
@@ -49,57 +51,57 @@ static COMMANDS: [Entry; 12] = [
     Entry {
         name: "apply",
         about: "Runs a script of edits on a bank, and writes its undo script",
-        words: &[
+        operands: &[
             UNDO_FORCE,
-            Word::Flag(
+            Operand::Flag(
                 "neutral",
                 "Accepts only edits of the thirteen neutral forms, which never change the sound",
             ),
-            Word::Path("IN", "The bank to edit"),
-            Word::Path("SCRIPT", "The edits, one a line"),
-            Word::Path("OUT", "Where the edited bank is written; may be IN"),
-            Word::Path("UNDO", "Where the undo script is written"),
+            Operand::Path("IN", "The bank to edit"),
+            Operand::Path("SCRIPT", "The edits, one a line"),
+            Operand::Path("OUT", "Where the edited bank is written; may be IN"),
+            Operand::Path("UNDO", "Where the undo script is written"),
         ],
         example: "Example: sfbank apply organ.sf2 edits.txt edited.sf2 undo.txt",
     },
     Entry {
         name: "canon",
         about: "Writes a bank in its canonical form",
-        words: &[
-            Word::Path("IN", "The bank to read"),
-            Word::Path("OUT", "Where its canonical file is written; may be IN"),
+        operands: &[
+            Operand::Path("IN", "The bank to read"),
+            Operand::Path("OUT", "Where its canonical file is written; may be IN"),
         ],
         example: "Example: sfbank canon organ.sf2 tidy.sf2",
     },
     Entry {
         name: "diff",
         about: "Writes a script that turns bank A into bank B",
-        words: &[
+        operands: &[
             FORCE,
-            Word::Path("A", "The first bank"),
-            Word::Path("B", "The second bank, of the same minor version"),
-            Word::Path("OUT", "Where the script is written"),
+            Operand::Path("A", "The first bank"),
+            Operand::Path("B", "The second bank, of the same minor version"),
+            Operand::Path("OUT", "Where the script is written"),
         ],
         example: "Example: sfbank diff organ.sf2 edited.sf2 edits.txt",
     },
     Entry {
         name: "explain",
         about: "Explains a fault or a refusal, and what to do about it",
-        words: &[Word::Number("N", "Its number in the line of the fault")],
+        operands: &[Operand::Number("N", "Its number in the line of the fault")],
         example: "Example: sfbank explain 41",
     },
     Entry {
         name: "import",
         about: "Adds a recording to a bank as its last sample, or as two for left and right",
-        words: &[
+        operands: &[
             UNDO_FORCE,
-            Word::Path("IN", "The bank to add to"),
-            Word::Path(
+            Operand::Path("IN", "The bank to add to"),
+            Operand::Path(
                 "WAVE",
                 "The recording, a WAVE file of 16 bits; its name is the sample's",
             ),
-            Word::Path("OUT", "Where the larger bank is written; may be IN"),
-            Word::Path(
+            Operand::Path("OUT", "Where the larger bank is written; may be IN"),
+            Operand::Path(
                 "UNDO",
                 "Where the script that removes the samples is written",
             ),
@@ -109,10 +111,10 @@ static COMMANDS: [Entry; 12] = [
     Entry {
         name: "live",
         about: "Edits and plays a bank live, by the lines of the standard input",
-        words: &[
+        operands: &[
             LIVE_FORCE,
-            Word::Path("IN", "The bank to begin with"),
-            Word::Path(
+            Operand::Path("IN", "The bank to begin with"),
+            Operand::Path(
                 "PCM",
                 "Where the frames are written: 44,100 a second, two channels of 16 bits",
             ),
@@ -122,77 +124,77 @@ static COMMANDS: [Entry; 12] = [
     Entry {
         name: "map",
         about: "Draws the key and velocity ranges of a preset or an instrument as an SVG picture",
-        words: &[
+        operands: &[
             FORCE,
-            Word::Path("IN", "The bank to look at"),
-            Word::Level("LEVEL", "What to draw"),
-            Word::Number("N", "The number that `show` lists it by"),
-            Word::Path("OUT", "Where the picture is written"),
+            Operand::Path("IN", "The bank to look at"),
+            Operand::Level("LEVEL", "What to draw"),
+            Operand::Number("N", "The number that `show` lists it by"),
+            Operand::Path("OUT", "Where the picture is written"),
         ],
         example: "Example: sfbank map organ.sf2 preset 0 organ.svg",
     },
     Entry {
         name: "new",
         about: "Writes an empty bank",
-        words: &[
+        operands: &[
             FORCE,
-            Word::Minor("minor", "The minor version of the format, from 0 to 65,535"),
-            Word::Path("OUT", "Where the empty bank is written"),
+            Operand::Minor("minor", "The minor version of the format, from 0 to 65,535"),
+            Operand::Path("OUT", "Where the empty bank is written"),
         ],
         example: "Example: sfbank new empty.sf2",
     },
     Entry {
         name: "play",
         about: "Plays notes on a bank into a WAVE file",
-        words: &[
+        operands: &[
             FORCE,
-            Word::Path("IN", "The bank to play on"),
-            Word::Path("NOTES", "The notes, one a line"),
-            Word::Path("OUT", "Where the WAVE file is written"),
+            Operand::Path("IN", "The bank to play on"),
+            Operand::Path("NOTES", "The notes, one a line"),
+            Operand::Path("OUT", "Where the WAVE file is written"),
         ],
         example: "Example: sfbank play organ.sf2 notes.txt notes.wav",
     },
     Entry {
         name: "script",
         about: "Writes a script that makes the bank from the empty bank of its minor version",
-        words: &[
+        operands: &[
             FORCE,
-            Word::Flag(
+            Operand::Flag(
                 "no-points",
                 "Leaves out the points of samples: to read and compare; it can't be run if a sample has a loop",
             ),
-            Word::Path("IN", "The bank to read"),
-            Word::Path("OUT", "Where the script is written"),
+            Operand::Path("IN", "The bank to read"),
+            Operand::Path("OUT", "Where the script is written"),
         ],
         example: "Example: sfbank script organ.sf2 organ.txt",
     },
     Entry {
         name: "show",
         about: "Lists what a bank has, and what was dropped or repaired in reading it",
-        words: &[
-            Word::Flag("zones", "Lists the zones of each preset and instrument too"),
-            Word::Flag(
+        operands: &[
+            Operand::Flag("zones", "Lists the zones of each preset and instrument too"),
+            Operand::Flag(
                 "uses",
                 "Counts the zones that use each instrument and sample too",
             ),
-            Word::Path("IN", "The bank to show"),
+            Operand::Path("IN", "The bank to show"),
         ],
         example: "Example: sfbank show --zones organ.sf2",
     },
     Entry {
         name: "wave",
         about: "Writes a sample of a bank as a WAVE file",
-        words: &[
+        operands: &[
             FORCE,
-            Word::Path("IN", "The bank that has the sample"),
-            Word::Number("S", "The number that `show` lists it by"),
-            Word::Path("OUT", "Where the WAVE file is written"),
+            Operand::Path("IN", "The bank that has the sample"),
+            Operand::Number("S", "The number that `show` lists it by"),
+            Operand::Path("OUT", "Where the WAVE file is written"),
         ],
         example: "Example: sfbank wave organ.sf2 0 sample.wav",
     },
 ];
 
-/// The program with all its commands.
+/// Describes the program and all its commands.
 pub(crate) fn sfbank_command<'a>(alloc: Global) -> Result<Command<'a>, AllocError> {
     let command = Command::new(alloc, NAME)
         .bin_name(NAME)?
@@ -219,35 +221,35 @@ fn command_of<'a>(alloc: Global, entry: &Entry) -> Result<Command<'a>, AllocErro
     let mut command = Command::new(alloc, entry.name)
         .about(entry.about)
         .after_help(entry.example);
-    for word in entry.words {
-        command = command.arg(arg_of(alloc, *word))?;
+    for operand in entry.operands {
+        command = command.arg(arg_of(alloc, *operand))?;
     }
     Ok(command)
 }
 
-fn arg_of<'a>(alloc: Global, word: Word) -> Arg<'a> {
-    match word {
-        Word::Path(name, help) => given(alloc, name, help),
-        Word::Number(name, help) => given(alloc, name, help).value_parser(value_parser!(u32)),
-        Word::Level(name, help) => given(alloc, name, help).value_parser(LEVELS.as_slice()),
-        Word::Flag(name, help) => option(alloc, name, help).action(ArgAction::SetTrue),
-        Word::Minor(name, help) => option(alloc, name, help)
+fn arg_of<'a>(alloc: Global, operand: Operand) -> Arg<'a> {
+    match operand {
+        Operand::Path(name, help) => required(alloc, name, help),
+        Operand::Number(name, help) => required(alloc, name, help).value_parser(value_parser!(u32)),
+        Operand::Level(name, help) => required(alloc, name, help).value_parser(LEVELS.as_slice()),
+        Operand::Flag(name, help) => option(alloc, name, help).action(ArgAction::SetTrue),
+        Operand::Minor(name, help) => option(alloc, name, help)
             .value_name("N")
             .action(ArgAction::Set)
             .value_parser(value_parser!(u16))
-            .default_value(USUAL_MINOR),
+            .default_value(DEFAULT_MINOR),
     }
 }
 
-/// A word that has to be there.
-fn given<'a>(alloc: Global, name: &'static str, help: &'static str) -> Arg<'a> {
+/// A required operand.
+fn required<'a>(alloc: Global, name: &'static str, help: &'static str) -> Arg<'a> {
     Arg::new(alloc, name)
         .required(true)
         .action(ArgAction::Set)
         .help(help)
 }
 
-/// A word behind two hyphens.
+/// An optional operand, written with two hyphens.
 fn option<'a>(alloc: Global, name: &'static str, help: &'static str) -> Arg<'a> {
     Arg::new(alloc, name).long(name).help(help)
 }

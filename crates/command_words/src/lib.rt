@@ -1,5 +1,4 @@
-//! The words of the program: its commands, as clap is told of them, and what is asked for by the words that
-//! it was started with.
+//! The program's commands, and the request that its words make.
 #![tactic(auto)]
 
 mod commands;

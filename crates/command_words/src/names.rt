@@ -1,12 +1,12 @@
-//! What a recording is called.
+//! The name of an imported recording.
 ghost use Rattle.std.specs.Prelude.{◌≡◌, []};
 ghost use Rattle.std.specs.Option.{unwrap_or};
 ghost use Rattle.std.specs.Path.{path_file_stem};
 
 use std::path::Path;
 
-/// The name of a recording: its path without the folder and the ending. There is none where the path ends in
-/// `/`, `.` or `..`.
+/// Returns the name of a recording: the file name of its path, without the extension. It is empty where the path
+/// has no file name, as `/` and `..`.
 pub fn recording_name(path: &str) -> &str
     ensures { result.now ≡ unwrap_or (path_file_stem path.now) [] }
 {

@@ -1,52 +1,53 @@
-//! The words of the program.
-ghost use Rattle.std.specs.Prelude.{◌^◌, IfSome, IsSome};
-ghost use Rattle.clap.specs.Words.{found_of, subcommand_name_of};
-ghost use Rattle.command_words.specs.Words.{IsOfCommand, NamesPath, HasPath, NamesNumber, HasNumber, SaysFlag, NamesForms, NamesApplyPaths, HasApplyPaths, NamesCanonPaths, HasCanonPaths, NamesDiffPaths, HasDiffPaths, NamesImportPaths, HasImportPaths, NamesLivePaths, HasLivePaths, NamesOwner, HasOwner, NamesMapPaths, HasMapPaths, NamesNew, HasNew, NamesPlayPaths, HasPlayPaths, NamesScriptPaths, HasScriptPaths, NamesShowPaths, HasShowPaths, NamesWavePaths, HasWavePaths};
+//! Reads a request from the words that the program was started with.
+ghost use Rattle.std.specs.Prelude.{◌≡◌, IfOk, codes, map, option_map};
+ghost use Rattle.clap.specs.Words.{app_of, first_of, subcommand_rows_of};
+ghost use Rattle.command_words.specs.Words.{Number, Flag, is_neutral, owner_operands, operands_of};
+ghost use Rattle.command_words.specs.Words.{rows_in, AreGiven, AsksFor, FindsOne, IsGiven, IsParsedBy};
 
 use crate::commands::sfbank_command;
 use bank_changes::Owner;
 use clap::error::ErrorKind;
-use clap::{ArgMatches, Error};
+use clap::{ArgMatches, Command, Error};
 use std::alloc::Global;
 use std::convert::AsStr;
 
-/// What the words ask for.
+/// What the program was asked to do.
 pub enum Request<'a> {
     /// Run a script on a bank.
     Apply(ApplyPaths<'a>),
-    /// Write a bank in its one spelling.
+    /// Write a bank in its canonical form.
     Canon(CanonPaths<'a>),
-    /// Write a script that makes one bank of another.
+    /// Write a script that turns one bank into another.
     Diff(DiffPaths<'a>),
-    /// Tell what the fault or the refusal of this number means.
+    /// Explain the fault or refusal with this number.
     Explain(u32),
     /// Add a recording to a bank.
     Import(ImportPaths<'a>),
     /// Edit and play a bank live.
     Live(LivePaths<'a>),
-    /// Draw the ranges of a preset or an instrument.
+    /// Draw the key and velocity ranges of a preset or an instrument.
     Map(MapPaths<'a>),
     /// Write an empty bank.
     New(NewBank<'a>),
-    /// Play notes on a bank.
+    /// Play notes on a bank into a WAVE file.
     Play(PlayPaths<'a>),
-    /// Write the script that makes a bank of the empty one.
+    /// Write a script that makes a bank from an empty one.
     Script(ScriptPaths<'a>),
-    /// Tell what a bank has.
+    /// List what a bank has.
     Show(ShowPaths<'a>),
     /// Write a sample as a WAVE file.
     Wave(WavePaths<'a>),
 }
 
-/// The forms of edits that `apply` takes.
+/// The forms of edits that `apply` accepts.
 #[derive(Clone, Copy)]
 pub enum Forms {
     Every,
-    /// Those that change no sound.
+    /// Only those that never change a sound.
     Neutral,
 }
 
-/// The paths of `apply`, and the forms of edits that it takes.
+/// The operands of `apply`.
 #[derive(Clone, Copy)]
 pub struct ApplyPaths<'a> {
     pub input: &'a str,
@@ -54,224 +55,232 @@ pub struct ApplyPaths<'a> {
     pub out: &'a str,
     pub undo: &'a str,
     pub forms: Forms,
-    /// Whether a bank may be replaced by what is no bank.
+    /// Whether the undo script may replace a bank.
     pub force: bool,
 }
 
-/// The paths of `canon`.
+/// The operands of `canon`.
 #[derive(Clone, Copy)]
 pub struct CanonPaths<'a> {
     pub input: &'a str,
     pub out: &'a str,
 }
 
-/// The paths of `diff`.
+/// The operands of `diff`.
 #[derive(Clone, Copy)]
 pub struct DiffPaths<'a> {
     pub first: &'a str,
     pub second: &'a str,
     pub out: &'a str,
-    /// Whether a bank may be replaced by what is no bank.
+    /// Whether the script may replace a bank.
     pub force: bool,
 }
 
-/// The paths of `import`.
+/// The operands of `import`.
 #[derive(Clone, Copy)]
 pub struct ImportPaths<'a> {
     pub input: &'a str,
     pub wave: &'a str,
     pub out: &'a str,
     pub undo: &'a str,
-    /// Whether a bank may be replaced by what is no bank.
+    /// Whether the undo script may replace a bank.
     pub force: bool,
 }
 
-/// The paths of `live`.
+/// The operands of `live`.
 #[derive(Clone, Copy)]
 pub struct LivePaths<'a> {
     pub input: &'a str,
     pub pcm: &'a str,
-    /// Whether a bank may be replaced by what is no bank.
+    /// Whether the frames, and the undo script of each save, may replace a bank.
     pub force: bool,
 }
 
-/// The paths of `map`, and whose ranges it draws.
+/// The operands of `map`.
 #[derive(Clone, Copy)]
 pub struct MapPaths<'a> {
     pub input: &'a str,
+    /// The preset or instrument whose ranges are drawn.
     pub owner: Owner,
     pub out: &'a str,
-    /// Whether a bank may be replaced by what is no bank.
+    /// Whether the picture may replace a bank.
     pub force: bool,
 }
 
-/// The path of `new`, and the minor version of the bank.
+/// The operands of `new`.
 #[derive(Clone, Copy)]
 pub struct NewBank<'a> {
     pub out: &'a str,
+    /// The minor version of the format.
     pub minor: u16,
-    /// Whether a bank may be replaced.
+    /// Whether the empty bank may replace a bank.
     pub force: bool,
 }
 
-/// The paths of `play`.
+/// The operands of `play`.
 #[derive(Clone, Copy)]
 pub struct PlayPaths<'a> {
     pub input: &'a str,
     pub notes: &'a str,
     pub out: &'a str,
-    /// Whether a bank may be replaced by what is no bank.
+    /// Whether the WAVE file may replace a bank.
     pub force: bool,
 }
 
-/// The paths of `script`, and whether it leaves the points of samples out.
+/// The operands of `script`.
 #[derive(Clone, Copy)]
 pub struct ScriptPaths<'a> {
     pub input: &'a str,
     pub out: &'a str,
+    /// Whether the script leaves out the points of samples.
     pub no_points: bool,
-    /// Whether a bank may be replaced by what is no bank.
+    /// Whether the script may replace a bank.
     pub force: bool,
 }
 
-/// The path of `show`, and whether it tells the zones, and how many use each member.
+/// The operands of `show`.
 #[derive(Clone, Copy)]
 pub struct ShowPaths<'a> {
     pub input: &'a str,
+    /// Whether zones are listed too.
     pub zones: bool,
+    /// Whether the zones that use each instrument and sample are counted.
     pub uses: bool,
 }
 
-/// The paths of `wave`, and the number of the sample.
+/// The operands of `wave`.
 #[derive(Clone, Copy)]
 pub struct WavePaths<'a> {
     pub input: &'a str,
+    /// The sample's number.
     pub sample: u32,
     pub out: &'a str,
-    /// Whether a bank may be replaced by what is no bank.
+    /// Whether the WAVE file may replace a bank.
     pub force: bool,
 }
 
-/// What the words ask for. The first word is the program's name. Asking for help or the version is
-/// an error of clap's, which has their text.
+/// Returns what the words ask for. The first word is the program's name. For `--help` and `--version` it returns an
+/// error of clap's that has the text to print.
 pub fn request_of<'a, S: AsStr>(alloc: Global, words: &'a [S]) -> Result<Request<'a>, Error> {
     let mut command = sfbank_command(alloc)?;
+    parse_request(&mut command, words)
+}
+
+fn parse_request<'a, S: AsStr>(
+    command: &mut Command<'a>,
+    words: &'a [S],
+) -> Result<Request<'a>, Error>
+    ensures { IfOk result (λ request. IsParsedBy (app_of command.old) (map S.text words.entry.now) request) }
+{
     let matches = command.try_get_matches_from_mut(words)?;
-    match chosen(&matches) {
+    match request_in(&matches) {
         Some(request) => Ok(request),
         None => Err(command.error(ErrorKind::MissingSubcommand, "no command was given")?),
     }
 }
 
-fn chosen<'a>(matches: &ArgMatches<'a>) -> Option<Request<'a>>
-    ensures { IfSome result (IsOfCommand (subcommand_name_of matches.now)) }
+fn request_in<'a>(matches: &ArgMatches<'a>) -> Option<Request<'a>>
+    ensures { FindsOne result (AsksFor (subcommand_rows_of matches.now)) }
 {
     let (name, words) = matches.subcommand()?;
     Some(match name {
-        "apply" => Request::Apply(apply_paths(words)?),
-        "canon" => Request::Canon(canon_paths(words)?),
-        "diff" => Request::Diff(diff_paths(words)?),
-        "explain" => Request::Explain(number(words, "N")?),
-        "import" => Request::Import(import_paths(words)?),
-        "live" => Request::Live(live_paths(words)?),
-        "map" => Request::Map(map_paths(words)?),
-        "new" => Request::New(new_bank(words)?),
-        "play" => Request::Play(play_paths(words)?),
-        "script" => Request::Script(script_paths(words)?),
-        "show" => Request::Show(show_paths(words)?),
-        "wave" => Request::Wave(wave_paths(words)?),
+        "apply" => Request::Apply(read_apply(words)?),
+        "canon" => Request::Canon(read_canon(words)?),
+        "diff" => Request::Diff(read_diff(words)?),
+        "explain" => Request::Explain(read_number(words, "N")?),
+        "import" => Request::Import(read_import(words)?),
+        "live" => Request::Live(read_live(words)?),
+        "map" => Request::Map(read_map(words)?),
+        "new" => Request::New(read_new(words)?),
+        "play" => Request::Play(read_play(words)?),
+        "script" => Request::Script(read_script(words)?),
+        "show" => Request::Show(read_show(words)?),
+        "wave" => Request::Wave(read_wave(words)?),
         _ => return None,
     })
 }
 
-fn apply_paths<'a>(matches: &ArgMatches<'a>) -> Option<ApplyPaths<'a>>
-    ensures named { IfSome result (NamesApplyPaths (found_of matches.now)) }
-    ensures given { HasApplyPaths (found_of matches.now) → IsSome result }
+fn read_apply<'a>(matches: &ArgMatches<'a>) -> Option<ApplyPaths<'a>>
+    ensures { FindsOne result (λ paths. AreGiven (rows_in matches.now) (operands_of (Request.Apply paths))) }
 {
     Some(ApplyPaths {
-        input: path(matches, "IN")?,
-        script: path(matches, "SCRIPT")?,
-        out: path(matches, "OUT")?,
-        undo: path(matches, "UNDO")?,
-        forms: forms_taken(matches),
-        force: flag(matches, "force"),
+        input: read_word(matches, "IN")?,
+        script: read_word(matches, "SCRIPT")?,
+        out: read_word(matches, "OUT")?,
+        undo: read_word(matches, "UNDO")?,
+        forms: read_forms(matches),
+        force: read_flag(matches, "force"),
     })
 }
 
-fn forms_taken(matches: &ArgMatches<'_>) -> Forms
-    ensures { NamesForms (found_of matches.now) result }
+fn read_forms(matches: &ArgMatches<'_>) -> Forms
+    ensures { IsGiven (rows_in matches.now) (Flag (codes "neutral") (is_neutral result)) }
 {
-    if matches.get_flag("neutral") {
+    if read_flag(matches, "neutral") {
         Forms::Neutral
     } else {
         Forms::Every
     }
 }
 
-fn canon_paths<'a>(matches: &ArgMatches<'a>) -> Option<CanonPaths<'a>>
-    ensures named { IfSome result (NamesCanonPaths (found_of matches.now)) }
-    ensures given { HasCanonPaths (found_of matches.now) → IsSome result }
+fn read_canon<'a>(matches: &ArgMatches<'a>) -> Option<CanonPaths<'a>>
+    ensures { FindsOne result (λ paths. AreGiven (rows_in matches.now) (operands_of (Request.Canon paths))) }
 {
     Some(CanonPaths {
-        input: path(matches, "IN")?,
-        out: path(matches, "OUT")?,
+        input: read_word(matches, "IN")?,
+        out: read_word(matches, "OUT")?,
     })
 }
 
-fn diff_paths<'a>(matches: &ArgMatches<'a>) -> Option<DiffPaths<'a>>
-    ensures named { IfSome result (NamesDiffPaths (found_of matches.now)) }
-    ensures given { HasDiffPaths (found_of matches.now) → IsSome result }
+fn read_diff<'a>(matches: &ArgMatches<'a>) -> Option<DiffPaths<'a>>
+    ensures { FindsOne result (λ paths. AreGiven (rows_in matches.now) (operands_of (Request.Diff paths))) }
 {
     Some(DiffPaths {
-        first: path(matches, "A")?,
-        second: path(matches, "B")?,
-        out: path(matches, "OUT")?,
-        force: flag(matches, "force"),
+        first: read_word(matches, "A")?,
+        second: read_word(matches, "B")?,
+        out: read_word(matches, "OUT")?,
+        force: read_flag(matches, "force"),
     })
 }
 
-fn import_paths<'a>(matches: &ArgMatches<'a>) -> Option<ImportPaths<'a>>
-    ensures named { IfSome result (NamesImportPaths (found_of matches.now)) }
-    ensures given { HasImportPaths (found_of matches.now) → IsSome result }
+fn read_import<'a>(matches: &ArgMatches<'a>) -> Option<ImportPaths<'a>>
+    ensures { FindsOne result (λ paths. AreGiven (rows_in matches.now) (operands_of (Request.Import paths))) }
 {
     Some(ImportPaths {
-        input: path(matches, "IN")?,
-        wave: path(matches, "WAVE")?,
-        out: path(matches, "OUT")?,
-        undo: path(matches, "UNDO")?,
-        force: flag(matches, "force"),
+        input: read_word(matches, "IN")?,
+        wave: read_word(matches, "WAVE")?,
+        out: read_word(matches, "OUT")?,
+        undo: read_word(matches, "UNDO")?,
+        force: read_flag(matches, "force"),
     })
 }
 
-fn live_paths<'a>(matches: &ArgMatches<'a>) -> Option<LivePaths<'a>>
-    ensures named { IfSome result (NamesLivePaths (found_of matches.now)) }
-    ensures given { HasLivePaths (found_of matches.now) → IsSome result }
+fn read_live<'a>(matches: &ArgMatches<'a>) -> Option<LivePaths<'a>>
+    ensures { FindsOne result (λ paths. AreGiven (rows_in matches.now) (operands_of (Request.Live paths))) }
 {
     Some(LivePaths {
-        input: path(matches, "IN")?,
-        pcm: path(matches, "PCM")?,
-        force: flag(matches, "force"),
+        input: read_word(matches, "IN")?,
+        pcm: read_word(matches, "PCM")?,
+        force: read_flag(matches, "force"),
     })
 }
 
-fn map_paths<'a>(matches: &ArgMatches<'a>) -> Option<MapPaths<'a>>
-    ensures named { IfSome result (NamesMapPaths (found_of matches.now)) }
-    ensures given { HasMapPaths (found_of matches.now) → IsSome result }
+fn read_map<'a>(matches: &ArgMatches<'a>) -> Option<MapPaths<'a>>
+    ensures { FindsOne result (λ paths. AreGiven (rows_in matches.now) (operands_of (Request.Map paths))) }
 {
     Some(MapPaths {
-        input: path(matches, "IN")?,
-        owner: owner(matches)?,
-        out: path(matches, "OUT")?,
-        force: flag(matches, "force"),
+        input: read_word(matches, "IN")?,
+        owner: read_owner(matches)?,
+        out: read_word(matches, "OUT")?,
+        force: read_flag(matches, "force"),
     })
 }
 
-fn owner(matches: &ArgMatches<'_>) -> Option<Owner>
-    ensures named { IfSome result (NamesOwner (found_of matches.now)) }
-    ensures given { HasOwner (found_of matches.now) → IsSome result }
+fn read_owner(matches: &ArgMatches<'_>) -> Option<Owner>
+    ensures { FindsOne result (λ owner. AreGiven (rows_in matches.now) (owner_operands owner)) }
 {
-    let level = path(matches, "LEVEL")?;
-    let number = number(matches, "N")?;
+    let level = read_word(matches, "LEVEL")?;
+    let number = read_number(matches, "N")?;
     if level == "preset" {
         Some(Owner::Preset(number))
     } else if level == "inst" {
@@ -281,80 +290,79 @@ fn owner(matches: &ArgMatches<'_>) -> Option<Owner>
     }
 }
 
-fn new_bank<'a>(matches: &ArgMatches<'a>) -> Option<NewBank<'a>>
-    ensures named { IfSome result (NamesNew (found_of matches.now)) }
-    ensures given { HasNew (found_of matches.now) → IsSome result }
+fn read_new<'a>(matches: &ArgMatches<'a>) -> Option<NewBank<'a>>
+    ensures { FindsOne result (λ bank. AreGiven (rows_in matches.now) (operands_of (Request.New bank))) }
 {
     Some(NewBank {
-        out: path(matches, "OUT")?,
-        minor: matches.get_one::<u16>("minor")?,
-        force: flag(matches, "force"),
+        out: read_word(matches, "OUT")?,
+        minor: read_minor(matches)?,
+        force: read_flag(matches, "force"),
     })
 }
 
-fn play_paths<'a>(matches: &ArgMatches<'a>) -> Option<PlayPaths<'a>>
-    ensures named { IfSome result (NamesPlayPaths (found_of matches.now)) }
-    ensures given { HasPlayPaths (found_of matches.now) → IsSome result }
+fn read_minor(matches: &ArgMatches<'_>) -> Option<u16>
+    ensures { FindsOne result (λ n. IsGiven (rows_in matches.now) (Number (codes "minor") 16 n)) }
+{
+    matches.get_one::<u16>("minor")
+}
+
+fn read_play<'a>(matches: &ArgMatches<'a>) -> Option<PlayPaths<'a>>
+    ensures { FindsOne result (λ paths. AreGiven (rows_in matches.now) (operands_of (Request.Play paths))) }
 {
     Some(PlayPaths {
-        input: path(matches, "IN")?,
-        notes: path(matches, "NOTES")?,
-        out: path(matches, "OUT")?,
-        force: flag(matches, "force"),
+        input: read_word(matches, "IN")?,
+        notes: read_word(matches, "NOTES")?,
+        out: read_word(matches, "OUT")?,
+        force: read_flag(matches, "force"),
     })
 }
 
-fn script_paths<'a>(matches: &ArgMatches<'a>) -> Option<ScriptPaths<'a>>
-    ensures named { IfSome result (NamesScriptPaths (found_of matches.now)) }
-    ensures given { HasScriptPaths (found_of matches.now) → IsSome result }
+fn read_script<'a>(matches: &ArgMatches<'a>) -> Option<ScriptPaths<'a>>
+    ensures { FindsOne result (λ paths. AreGiven (rows_in matches.now) (operands_of (Request.Script paths))) }
 {
     Some(ScriptPaths {
-        input: path(matches, "IN")?,
-        out: path(matches, "OUT")?,
-        no_points: flag(matches, "no-points"),
-        force: flag(matches, "force"),
+        input: read_word(matches, "IN")?,
+        out: read_word(matches, "OUT")?,
+        no_points: read_flag(matches, "no-points"),
+        force: read_flag(matches, "force"),
     })
 }
 
-fn show_paths<'a>(matches: &ArgMatches<'a>) -> Option<ShowPaths<'a>>
-    ensures named { IfSome result (NamesShowPaths (found_of matches.now)) }
-    ensures given { HasShowPaths (found_of matches.now) → IsSome result }
+fn read_show<'a>(matches: &ArgMatches<'a>) -> Option<ShowPaths<'a>>
+    ensures { FindsOne result (λ paths. AreGiven (rows_in matches.now) (operands_of (Request.Show paths))) }
 {
     Some(ShowPaths {
-        input: path(matches, "IN")?,
-        zones: flag(matches, "zones"),
-        uses: flag(matches, "uses"),
+        input: read_word(matches, "IN")?,
+        zones: read_flag(matches, "zones"),
+        uses: read_flag(matches, "uses"),
     })
 }
 
-fn wave_paths<'a>(matches: &ArgMatches<'a>) -> Option<WavePaths<'a>>
-    ensures named { IfSome result (NamesWavePaths (found_of matches.now)) }
-    ensures given { HasWavePaths (found_of matches.now) → IsSome result }
+fn read_wave<'a>(matches: &ArgMatches<'a>) -> Option<WavePaths<'a>>
+    ensures { FindsOne result (λ paths. AreGiven (rows_in matches.now) (operands_of (Request.Wave paths))) }
 {
     Some(WavePaths {
-        input: path(matches, "IN")?,
-        sample: number(matches, "S")?,
-        out: path(matches, "OUT")?,
-        force: flag(matches, "force"),
+        input: read_word(matches, "IN")?,
+        sample: read_number(matches, "S")?,
+        out: read_word(matches, "OUT")?,
+        force: read_flag(matches, "force"),
     })
 }
 
-fn path<'a>(matches: &ArgMatches<'a>, name: &str) -> Option<&'a str>
-    ensures named { IfSome result (λ path. NamesPath (found_of matches.now) name.now path.now) }
-    ensures given { HasPath (found_of matches.now) name.now → IsSome result }
+fn read_word<'a>(matches: &ArgMatches<'a>, name: &str) -> Option<&'a str>
+    ensures { option_map (λ word. word.now) result ≡ first_of name.now (rows_in matches.now) }
 {
     matches.get_str(name)
 }
 
-fn number(matches: &ArgMatches<'_>, name: &str) -> Option<u32>
-    ensures named { IfSome result (NamesNumber (found_of matches.now) name.now) }
-    ensures given { HasNumber (found_of matches.now) name.now (2 ^ 32) → IsSome result }
+fn read_number(matches: &ArgMatches<'_>, name: &str) -> Option<u32>
+    ensures { FindsOne result (λ n. IsGiven (rows_in matches.now) (Number name.now 32 n)) }
 {
     matches.get_one::<u32>(name)
 }
 
-fn flag(matches: &ArgMatches<'_>, name: &str) -> bool
-    ensures { SaysFlag (found_of matches.now) name.now result }
+fn read_flag(matches: &ArgMatches<'_>, name: &str) -> bool
+    ensures { IsGiven (rows_in matches.now) (Flag name.now result) }
 {
     matches.get_flag(name)
 }

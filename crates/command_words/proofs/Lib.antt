@@ -1,0 +1,2 @@
+mod GetterLaws
+mod RequestLaws
