@@ -1,4 +1,4 @@
--- Each fault and each refusal has its explanation.
+-- Each fault and refusal is in the list that explanations are looked up in.
 use Rattle.std.proofs.Common.{◌≡◌, ℕ, ◌==◌, IsSome, find, subst, refl}
 use Rattle.bank_format.specs.declared.fault.ReadFault.{ReadFault}
 use Rattle.bank_format.specs.declared.fault.ReadFault.TheVariants as read
@@ -21,7 +21,7 @@ use Rattle.fault_explanations.specs.declared.explanations.FaultCode.TheVariants.
 use Rattle.fault_explanations.specs.declared.explanations.TheConstants.{ALL}
 use Rattle.fault_explanations.specs.Explanations.{number_of}
 
--- one of this number is found
+-- a fault or refusal with this number is found
 abbrev pub Found : ℕ → Type 0
 Found n = IsSome (find (λ code. number_of code == n) ALL)
 
@@ -109,6 +109,6 @@ of_code NotNeutral = refl
 of_code OtherVersion = refl
 of_code TooManyFrames = refl
 
--- each is found by its number
+-- each fault and refusal is found by its number
 pub all_found : (code : FaultCode) (n : ℕ) → number_of code ≡ n → Found n
 all_found code n e = subst Found e (of_code code)

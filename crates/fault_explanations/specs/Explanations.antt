@@ -1,4 +1,4 @@
--- What has a number and a name, and the lines that explain it.
+-- The number and name of each fault and refusal, and the text that explains one.
 use Rattle.std.specs.Prelude.{◌≡◌, ℕ, List, ◌++◌, codes, decimal}
 use Rattle.bank_format.specs.FaultNames as reading
 use Rattle.line_tokens.specs.Faults as scripts
@@ -12,7 +12,7 @@ use Rattle.fault_explanations.specs.declared.explanations.FaultCode.TheVariants.
 use Rattle.fault_explanations.specs.declared.explanations.FaultCode.TheVariants.{TooManyFrames}
 use Rattle.fault_explanations.specs.declared.explanations.Explanation.{Explanation}
 
--- the number of each fault and each refusal, by the crate that it is of
+-- the number of each fault and refusal, as its own crate defines it
 abbrev pub number_of : FaultCode → ℕ
 number_of (Reading fault) = reading.number_of fault
 number_of (Script fault) = scripts.number_of fault
@@ -24,6 +24,7 @@ number_of NotNeutral = 50
 number_of OtherVersion = 51
 number_of TooManyFrames = 52
 
+-- the name of each fault and refusal, as its own crate defines it
 abbrev pub name_of : FaultCode → List ℕ
 name_of (Reading fault) = reading.name_of fault
 name_of (Script fault) = scripts.name_of fault
@@ -35,15 +36,15 @@ name_of NotNeutral = codes "NotNeutral"
 name_of OtherVersion = codes "OtherVersion"
 name_of TooManyFrames = codes "TooManyFrames"
 
--- one has the number that is asked for, and this number and name are those of it
+-- some fault or refusal has the number that is asked for, and this number and name are its own
 abbrev pub IsOfNumber : ℕ → ℕ → List ℕ → Type 0
 IsOfNumber asked number name = (code : FaultCode) × (number_of code ≡ asked) × (number ≡ asked) × (name ≡ name_of code)
 
--- a text, and a line feed
+-- a text and a line feed
 abbrev pub line_of : List ℕ → List ℕ
 line_of text = text ++ codes "\n"
 
--- the number and the name, the meaning, and what to do, a line each
+-- an explanation in three lines: the number and name, the meaning, and what to do
 abbrev pub explanation_text : Explanation → List ℕ
 explanation_text e =
     decimal e.number ++ (codes " " ++ (line_of e.name.now ++ (line_of e.meaning.now ++ line_of e.what_to_do.now)))

@@ -1,4 +1,4 @@
-//! What each fault and each refusal means, and what to do about it.
+//! The explanation of each fault and refusal.
 ghost use Rattle.std.specs.Prelude.{◌≡◌, ◌==◌, ℕ, IfSome, IsSome, find};
 ghost use Rattle.outputs.specs.Output.{Puts};
 ghost use Rattle.outputs.specs.Writing.{Delivers};
@@ -15,43 +15,43 @@ use outputs::{Output, OutputFault, WriteFault};
 use wave_file::WaveFault;
 use std::io::Write;
 
-/// A fault or a refusal that has a number and a name.
+/// A fault or refusal, which has a number and a name.
 #[derive(Clone, Copy)]
 pub enum FaultCode {
-    /// A fault of a bank's file.
+    /// A fault of a bank file.
     Reading(ReadFault),
     /// A fault of a script.
     Script(ScriptFault),
-    /// A fault of a list of notes.
+    /// A fault of a note list.
     Notes(NoteFault),
     /// A fault of a WAVE file.
     Recording(WaveFault),
     /// A rejected output.
     Output(OutputFault),
-    /// An edit that is refused, or an undo or a redo.
+    /// A refused edit, undo or redo.
     Refused(Refusal),
-    /// An edit of none of the neutral forms, where only these are accepted.
+    /// An edit that is not neutral, where only neutral edits are accepted.
     NotNeutral,
     /// Two banks of different minor versions.
     OtherVersion,
-    /// More frames than a live session writes.
+    /// More frames than a live session can write.
     TooManyFrames,
 }
 
-/// What a fault or a refusal means.
+/// The explanation of a fault or refusal.
 #[derive(Clone, Copy)]
 pub struct Explanation {
-    /// Its number.
+    /// The number of the fault or refusal.
     pub number: u8,
-    /// Its name.
+    /// The name of the fault or refusal.
     pub name: &'static str,
-    /// What it means, in a sentence.
+    /// What it means, in one sentence.
     pub meaning: &'static str,
     /// What to do about it.
     pub what_to_do: &'static str,
 }
 
-/// One of each number, with any data.
+/// One fault or refusal for each number. The fields of a variant have any value.
 static ALL: [FaultCode; 61] = [
     FaultCode::Reading(ReadFault::NotRiff),
     FaultCode::Reading(ReadFault::NotSfbk),
@@ -117,7 +117,7 @@ static ALL: [FaultCode; 61] = [
 ];
 
 impl FaultCode {
-    /// Its number.
+    /// Returns its number.
     fn number(self) -> u8
         ensures { result ≡ number_of self }
     {
@@ -134,7 +134,7 @@ impl FaultCode {
         }
     }
 
-    /// Its name.
+    /// Returns its name.
     fn name(self) -> &'static str
         ensures { result.now ≡ name_of self }
     {
@@ -151,7 +151,7 @@ impl FaultCode {
         }
     }
 
-    /// What it means, and what to do about it.
+    /// Returns what it means, and what to do about it.
     fn texts(self) -> (&'static str, &'static str) {
         match self {
             FaultCode::Reading(fault) => of_reading(fault),
@@ -176,8 +176,7 @@ impl FaultCode {
     }
 }
 
-/// What the fault or the refusal of a number means: there is an answer exactly where one has the number, and it
-/// has the name of that one.
+/// Returns the explanation of the fault or refusal with this number, or `None` where no fault or refusal has it.
 #[tactic(auto, using(crate::proofs::AllExplained::all_found))]
 pub fn explain(number: u32) -> Option<Explanation>
     ensures known { IfSome result (λ e. IsOfNumber number e.number e.name.now) }
@@ -202,7 +201,7 @@ fn of_number(all: &[FaultCode], number: u32) -> Option<FaultCode>
         .find(|code| code.number() as u32 == number)
 }
 
-/// Writes an explanation, in three lines: the number and the name, the meaning, and what to do.
+/// Writes an explanation in three lines: the number and name, the meaning, and what to do.
 pub fn write_explanation<W: Write>(
     explanation: &Explanation,
     out: &mut W,
@@ -214,7 +213,7 @@ pub fn write_explanation<W: Write>(
     output.deliver()
 }
 
-// Three lines, the first of which has the number before the name.
+/// Puts the three lines of an explanation into `output`.
 fn put_explanation<W: Write>(explanation: &Explanation, output: &mut Output<'_, W>)
     ensures { Puts W.contents output.old output.new (explanation_text explanation.now) }
 {
@@ -226,7 +225,7 @@ fn put_explanation<W: Write>(explanation: &Explanation, output: &mut Output<'_, 
     put_line(explanation.what_to_do, output);
 }
 
-// A text, and a line feed.
+/// Puts a text and a line feed into `output`.
 #[tactic(auto, using(outputs::proofs::OutputLaws::puts_then))]
 fn put_line<W: Write>(text: &str, output: &mut Output<'_, W>)
     ensures { Puts W.contents output.old output.new (line_of text.now) }

@@ -1,4 +1,4 @@
-//! What each fault and each refusal means, by its number, and what to do about it.
+//! Explains faults and refusals by their numbers: what each means, and what to do about it.
 #![tactic(auto)]
 
 mod explanations;
