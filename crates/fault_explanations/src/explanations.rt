@@ -397,7 +397,7 @@ fn of_output(fault: OutputFault) -> (&'static str, &'static str) {
             "Give each output its own path; only OUT may be IN.",
         ),
         OutputFault::HoldsBank => (
-            "The path holds a bank, and the new output is not a bank.",
+            "The path holds a bank, which the output would replace.",
             "Give another path, or add --force to replace the bank.",
         ),
     }
