@@ -13,9 +13,12 @@ pub record IsTaken (b : Parts) (e : Edit) : Type 0 where
   pub fits : FitsEdit e
   pub accepted : refusal b e ≡ None
 
--- the changed bank accepts the inverse edit, which restores the bank
+-- The changed bank is sound and accepts the inverse edit, which restores the bank, and whose own inverse is the edit
+-- (the fields of `IsUndoneBy`).
 abbrev pub IsUndone : Parts → Edit → Type 0
 IsUndone b e = IsUndoneBy raw inverse IsTaken b e
 
+-- The theorem of undo for one edit, the contract of `undo_restores` (src/laws.rt). That for lists of edits is in
+-- `Runs`, that of files in `Outcome` of the crate `sfbank`.
 abbrev pub UndoRestores : Type 0
 UndoRestores = (b : Parts) (e : Edit) → IsSound b → IsTaken b e → IsUndone b e

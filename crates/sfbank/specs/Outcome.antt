@@ -124,7 +124,8 @@ unfoldable pub play_outcome : List ℕ → List ℕ → Result (List ℕ) RunFau
 play_outcome file notes = after_reading (fault_of file) (after_notes (bank_in file) (notes_of notes))
 
 -- If a run succeeds, its undo text, run on the written file, succeeds too: it writes the canonical file of the first
--- bank, and its own undo text is the script's edits in canonical form.
+-- bank, and its own undo text is the script's edits in canonical form. This is the theorem of undo for files, the
+-- clause `restores` of `edit_run` (src/edit.rt).
 abbrev pub IsUndone : List ℕ → List ℕ → Type 0
 IsUndone file script =
     (done : Done) (lines : List Line) → outcome file script ≡ Ok done → script_of script ≡ Ok lines
