@@ -1,5 +1,5 @@
 /*
- * The least time of a frame of a voice with vectorized loops: the stages of `voices` and `voice_levels` in plain C,
+ * The least time of a frame of a voice with vectorized loops: the stages of `voices` and `sound_envelopes` in plain C,
  * each a loop over 1,024 frames, and nothing between them. No frame is the last of a loop, a centibel or a note, no
  * buffer is cleared and no call is made for fewer frames.
  *

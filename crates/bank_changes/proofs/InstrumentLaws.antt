@@ -4,15 +4,15 @@ use Rattle.std.proofs.Common.{sym, ◌∙◌, ap, arith}
 use Rattle.std.specs.List.{AllByRecursion}
 use Rattle.std.proofs.lemmas.List.Edits.{length-insert, length-remove}
 use Rattle.sf_base.specs.Names.{IsName}
-use Rattle.numbered_lists.specs.declared.renumbering.Renumbering.{Renumbering}
-use Rattle.numbered_lists.specs.declared.renumbering.Renumbering.TheVariants.{Insertion, Removal, Move}
-use Rattle.numbered_lists.specs.Renumbered.{renumbered}
-use Rattle.numbered_lists.specs.Moved.{moved}
-use Rattle.numbered_lists.proofs.Lists.{slice_get-found, length-changed, length-moved, moved-back, insert-remove}
-use Rattle.numbered_lists.proofs.Lists.{remove-insert}
-use Rattle.numbered_lists.proofs.Numbers.{insertion_returned, removal_returned_by_test, insertion_below}
-use Rattle.numbered_lists.proofs.Numbers.{removal_below_by_test, insertion_keeps, insertion_misses_by_test}
-use Rattle.numbered_lists.proofs.Numbers.{move_below, move_returned}
+use Rattle.base_numbered_lists.specs.declared.renumbering.Renumbering.{Renumbering}
+use Rattle.base_numbered_lists.specs.declared.renumbering.Renumbering.TheVariants.{Insertion, Removal, Move}
+use Rattle.base_numbered_lists.specs.Renumbered.{renumbered}
+use Rattle.base_numbered_lists.specs.Moved.{moved}
+use Rattle.base_numbered_lists.proofs.Lists.{slice_get-found, length-changed, length-moved, moved-back, insert-remove}
+use Rattle.base_numbered_lists.proofs.Lists.{remove-insert}
+use Rattle.base_numbered_lists.proofs.Numbers.{insertion_returned, removal_returned_by_test, insertion_below}
+use Rattle.base_numbered_lists.proofs.Numbers.{removal_below_by_test, insertion_keeps, insertion_misses_by_test}
+use Rattle.base_numbered_lists.proofs.Numbers.{move_below, move_returned}
 use Rattle.generators.specs.declared.level.Level.TheVariants as level
 use Rattle.bank_validity.specs.declared.totals.Totals.{Totals}
 use Rattle.bank_parts.specs.declared.parts.Head.{Head}

@@ -2,8 +2,8 @@
 use Rattle.std.proofs.Common.{◌≡◌, ◌<◌, ℕ, List, length, map, remove, sym, ◌∙◌, ap, arith}
 use Rattle.std.specs.Prelude.{sum_by}
 use Rattle.std.proofs.lemmas.List.Sums.{sum_by-insert}
-use Rattle.numbered_lists.specs.Moved.{moved}
-use Rattle.numbered_lists.proofs.Lists.{slice_get-found, length-moved, map-moved, moved-back}
+use Rattle.base_numbered_lists.specs.Moved.{moved}
+use Rattle.base_numbered_lists.proofs.Lists.{slice_get-found, length-moved, map-moved, moved-back}
 pub use Rattle.bank_parts.proofs.ListLaws.{everywhere-moved as all_moved}
 use Rattle.bank_changes.proofs.Changes.{sum-removed}
 

@@ -2,9 +2,9 @@
 use Rattle.std.proofs.Common.{◌≡◌, ◌<◌, ◌+◌, ◌^◌, ◌==◌, ℕ, false, List, map, ap, arith}
 use Rattle.std.specs.List.{AllByRecursion, list_any}
 use Rattle.std.proofs.lemmas.Bool.Decides.{nat_tests}
-use Rattle.numbered_lists.specs.declared.renumbering.Renumbering.{Renumbering}
-use Rattle.numbered_lists.specs.declared.renumbering.Renumbering.TheVariants.{Removal}
-use Rattle.numbered_lists.specs.Renumbered.{renumbered}
+use Rattle.base_numbered_lists.specs.declared.renumbering.Renumbering.{Renumbering}
+use Rattle.base_numbered_lists.specs.declared.renumbering.Renumbering.TheVariants.{Removal}
+use Rattle.base_numbered_lists.specs.Renumbered.{renumbered}
 use Rattle.generators.specs.declared.level.Level.{Level}
 use Rattle.bank_parts.specs.declared.parts.Zone.{Zone}
 use Rattle.bank_parts.specs.declared.parts.WithZones.{WithZones}

@@ -5,8 +5,8 @@ use Rattle.std.specs.Prelude.{slice_get, sum_by, if◌then◌else◌, ◌==◌}
 use Rattle.std.specs.Option.{is_some, option_map, option_map_or}
 use Rattle.std.specs.FinMap.{len, len-empty}
 use Rattle.std.proofs.lemmas.Bool.Decides.{nat_tests}
-use Rattle.numbered_lists.specs.Moved.{changed}
-use Rattle.numbered_lists.proofs.Lists.{slice_get-within, changed-found, length-changed}
+use Rattle.base_numbered_lists.specs.Moved.{changed}
+use Rattle.base_numbered_lists.proofs.Lists.{slice_get-within, changed-found, length-changed}
 use Rattle.generators.specs.Gens.{no_gens, operator_cmp}
 use Rattle.generators.specs.declared.level.Level.{Level}
 use Rattle.bank_parts.specs.declared.counting.Records.{Records}

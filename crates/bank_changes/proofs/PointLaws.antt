@@ -12,9 +12,9 @@ use Rattle.std.proofs.lemmas.List.Sums.{sum_by-cons}
 use Rattle.std.proofs.lemmas.List.Elements.{All-append, All-take, All-drop, All-from_recursion, recursion_from_All}
 use Rattle.sf_base.specs.declared.limits.TheConstants.{POINTS, ZERO_POINTS}
 use Rattle.sample_view.specs.Words.{AreWords}
-use Rattle.numbered_lists.specs.Moved.{changed}
-use Rattle.numbered_lists.proofs.Lists.{slice_get-found, slice_get-changed, slice_set_same, length-slice_set}
-use Rattle.numbered_lists.proofs.Lists.{changed-found}
+use Rattle.base_numbered_lists.specs.Moved.{changed}
+use Rattle.base_numbered_lists.proofs.Lists.{slice_get-found, slice_get-changed, slice_set_same, length-slice_set}
+use Rattle.base_numbered_lists.proofs.Lists.{changed-found}
 use Rattle.bank_parts.specs.declared.parts.Sample.{Sample}
 use Rattle.bank_parts.specs.declared.parts.Parts.{Parts}
 use Rattle.bank_parts.specs.Counts.{counted}

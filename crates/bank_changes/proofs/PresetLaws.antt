@@ -4,9 +4,9 @@ use Rattle.std.proofs.Common.{refl, sym, ◌∙◌, ap}
 use Rattle.std.specs.List.{AllByRecursion}
 use Rattle.std.specs.Option.{option_map}
 use Rattle.sf_base.specs.Names.{IsName}
-use Rattle.numbered_lists.specs.Moved.{changed}
-use Rattle.numbered_lists.proofs.Lists.{slice_get-found, length-changed, changed-found, changed-back}
-use Rattle.numbered_lists.proofs.Lists.{slice_get-changed, length-moved, moved-back, insert-remove, remove-insert}
+use Rattle.base_numbered_lists.specs.Moved.{changed}
+use Rattle.base_numbered_lists.proofs.Lists.{slice_get-found, length-changed, changed-found, changed-back}
+use Rattle.base_numbered_lists.proofs.Lists.{slice_get-changed, length-moved, moved-back, insert-remove, remove-insert}
 use Rattle.generators.specs.declared.level.Level.TheVariants as level
 use Rattle.bank_parts.specs.declared.parts.Head.{Head}
 use Rattle.bank_parts.specs.declared.parts.WithZones.{WithZones}

@@ -1,8 +1,8 @@
 -- The references of a bank after a renumbering and after its inverse.
 use Rattle.std.proofs.Common.{◌≡◌, ◌<◌, ◌^◌, ◌==◌, ℕ, Bool, false, List, length, map, remove, refl, ap}
 use Rattle.std.specs.List.{AllByRecursion, list_any}
-use Rattle.numbered_lists.specs.declared.renumbering.Renumbering.{Renumbering}
-use Rattle.numbered_lists.specs.Renumbered.{renumbered}
+use Rattle.base_numbered_lists.specs.declared.renumbering.Renumbering.{Renumbering}
+use Rattle.base_numbered_lists.specs.Renumbered.{renumbered}
 use Rattle.sf_base.specs.Names.{IsName}
 use Rattle.generators.specs.declared.level.Level.TheVariants as level
 use Rattle.bank_parts.specs.declared.parts.Kind.{Kind}

@@ -8,15 +8,15 @@ use Rattle.std.specs.Prelude.{All}
 use Rattle.std.specs.List.{AllByRecursion}
 use Rattle.std.proofs.lemmas.List.Elements.{All-from_recursion}
 use Rattle.sf_base.specs.Names.{IsName}
-use Rattle.numbered_lists.specs.declared.renumbering.Renumbering.{Renumbering}
-use Rattle.numbered_lists.specs.declared.renumbering.Renumbering.TheVariants.{Insertion, Removal, Move}
-use Rattle.numbered_lists.specs.Renumbered.{renumbered}
-use Rattle.numbered_lists.specs.Moved.{moved}
-use Rattle.numbered_lists.proofs.Lists.{slice_get-found, slice_get-within, length-changed, length-moved}
-use Rattle.numbered_lists.proofs.Lists.{insert-remove, remove-insert}
-use Rattle.numbered_lists.proofs.Numbers.{insertion_returned, removal_returned_by_test, insertion_below}
-use Rattle.numbered_lists.proofs.Numbers.{removal_below_by_test, insertion_keeps, insertion_misses_by_test}
-use Rattle.numbered_lists.proofs.Numbers.{removal_no_more, move_below, move_returned}
+use Rattle.base_numbered_lists.specs.declared.renumbering.Renumbering.{Renumbering}
+use Rattle.base_numbered_lists.specs.declared.renumbering.Renumbering.TheVariants.{Insertion, Removal, Move}
+use Rattle.base_numbered_lists.specs.Renumbered.{renumbered}
+use Rattle.base_numbered_lists.specs.Moved.{moved}
+use Rattle.base_numbered_lists.proofs.Lists.{slice_get-found, slice_get-within, length-changed, length-moved}
+use Rattle.base_numbered_lists.proofs.Lists.{insert-remove, remove-insert}
+use Rattle.base_numbered_lists.proofs.Numbers.{insertion_returned, removal_returned_by_test, insertion_below}
+use Rattle.base_numbered_lists.proofs.Numbers.{removal_below_by_test, insertion_keeps, insertion_misses_by_test}
+use Rattle.base_numbered_lists.proofs.Numbers.{removal_no_more, move_below, move_returned}
 use Rattle.bank_parts.specs.declared.parts.Sample.{Sample}
 use Rattle.bank_parts.specs.Fits.{Fits, FitsSample}
 use Rattle.bank_parts.specs.declared.parts.Parts.{Parts}

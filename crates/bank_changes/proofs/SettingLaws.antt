@@ -10,7 +10,7 @@ use Rattle.std.specs.FinMap as map
 use Rattle.std.proofs.lemmas.Bool.Decides.{nat_tests}
 use Rattle.std.proofs.lemmas.List.{length-append, take-append-drop}
 use Rattle.std.proofs.lemmas.List.Edits.{length-remove}
-use Rattle.numbered_lists.proofs.Lists.{length-slice_set}
+use Rattle.base_numbered_lists.proofs.Lists.{length-slice_set}
 use Rattle.generators.specs.Gens.{FitsEntry}
 use Rattle.generators.specs.declared.level.Level.{Level}
 use Rattle.generators.proofs.EntryLaws as entries

@@ -5,7 +5,7 @@ use Rattle.std.specs.Prelude.{sum_by, slice_set, IsSomeAnd}
 use Rattle.std.specs.Option.{option_map_or}
 use Rattle.std.specs.FinMap.{len}
 use Rattle.std.proofs.lemmas.List.Sums.{sum_by-insert}
-use Rattle.numbered_lists.proofs.Lists.{slice_get-within}
+use Rattle.base_numbered_lists.proofs.Lists.{slice_get-within}
 use Rattle.generators.proofs.MapLaws.{len-insert_absent, len-insert_present, len-remove_present}
 use Rattle.bank_parts.specs.declared.parts.GlobalZone.{GlobalZone}
 use Rattle.bank_parts.specs.declared.parts.Zone.{Zone}
@@ -17,18 +17,18 @@ use Rattle.bank_parts.specs.Fits.{FitsZone}
 use Rattle.bank_parts.specs.Sound.{IsSound}
 use Rattle.bank_validity.specs.Limits.{totals_of, broken, broken_limit}
 use Rattle.bank_validity.proofs.LimitLaws.{no_limit_of}
-use Rattle.zone_ranges.specs.declared.axes.Axis.{Axis}
-use Rattle.zone_ranges.specs.declared.axes.Keep.{Keep}
-use Rattle.zone_ranges.specs.declared.axes.Keep.TheVariants as keeping
-use Rattle.zone_ranges.specs.Ranges.{range_operator, low_end, high_end, range_from, range_of, own_range, with_range}
-use Rattle.zone_ranges.specs.Splits.{is_inside, lower_part, upper_part, parted, merged, joint_range, joined}
-use Rattle.zone_ranges.specs.Splits.{are_joinable, split_records, join_records}
-use Rattle.zone_ranges.specs.Undone.{own_amount}
-use Rattle.zone_ranges.proofs.Parting.{parted_at, all_parted, all_merged, all_at, left_first}
-use Rattle.zone_ranges.proofs.SplitLaws.{split_at, joined_at}
-use Rattle.zone_ranges.proofs.There.{ZoneThere, split_there, join_there, zones_there, split_is_put, join_is_put}
-use Rattle.zone_ranges.proofs.PartLaws.{valid_with, fits_with, range_holds, own_holds, lower_is_range}
-use Rattle.zone_ranges.proofs.PartLaws.{upper_is_range, joined_range, valid_joined, fits_joined}
+use Rattle.bank_zone_ranges.specs.declared.axes.Axis.{Axis}
+use Rattle.bank_zone_ranges.specs.declared.axes.Keep.{Keep}
+use Rattle.bank_zone_ranges.specs.declared.axes.Keep.TheVariants as keeping
+use Rattle.bank_zone_ranges.specs.Ranges.{range_operator, low_end, high_end, range_from, range_of, own_range, with_range}
+use Rattle.bank_zone_ranges.specs.Splits.{is_inside, lower_part, upper_part, parted, merged, joint_range, joined}
+use Rattle.bank_zone_ranges.specs.Splits.{are_joinable, split_records, join_records}
+use Rattle.bank_zone_ranges.specs.Undone.{own_amount}
+use Rattle.bank_zone_ranges.proofs.Parting.{parted_at, all_parted, all_merged, all_at, left_first}
+use Rattle.bank_zone_ranges.proofs.SplitLaws.{split_at, joined_at}
+use Rattle.bank_zone_ranges.proofs.There.{ZoneThere, split_there, join_there, zones_there, split_is_put, join_is_put}
+use Rattle.bank_zone_ranges.proofs.PartLaws.{valid_with, fits_with, range_holds, own_holds, lower_is_range}
+use Rattle.bank_zone_ranges.proofs.PartLaws.{upper_is_range, joined_range, valid_joined, fits_joined}
 use Rattle.bank_changes.specs.declared.members.Owner.{Owner}
 use Rattle.bank_changes.specs.declared.members.Owner.TheVariants as owner
 use Rattle.bank_changes.specs.declared.members.Place.TheVariants as place

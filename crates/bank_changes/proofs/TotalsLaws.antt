@@ -4,7 +4,7 @@ use Rattle.std.proofs.Common.{refl, ap, arith}
 use Rattle.std.specs.FinMap.{len}
 use Rattle.std.proofs.lemmas.List.{length-map}
 use Rattle.std.proofs.lemmas.List.Sums.{sum_by-insert}
-use Rattle.numbered_lists.specs.declared.renumbering.Renumbering.{Renumbering}
+use Rattle.base_numbered_lists.specs.declared.renumbering.Renumbering.{Renumbering}
 use Rattle.sf_base.specs.declared.limits.TheConstants.{ZONES, GENERATORS, MODULATORS, ZERO_POINTS}
 use Rattle.generators.specs.declared.level.Level.{Level}
 use Rattle.bank_parts.specs.declared.counting.Records.{Records}
@@ -25,8 +25,8 @@ use Rattle.bank_changes.specs.Totals.{with_records, HasRecords}
 use Rattle.bank_parts.proofs.Counts.{counted_same}
 use Rattle.bank_validity.proofs.LevelLaws.{changed_at, same_before}
 use Rattle.bank_validity.proofs.LimitLaws.{within_totals, none_broken, level_within, unchanged_within}
-use Rattle.numbered_lists.specs.Moved.{moved, changed}
-use Rattle.numbered_lists.proofs.Lists.{slice_get-within, length-changed, length-moved}
+use Rattle.base_numbered_lists.specs.Moved.{moved, changed}
+use Rattle.base_numbered_lists.proofs.Lists.{slice_get-within, length-changed, length-moved}
 use Rattle.std.proofs.lemmas.List.Edits.{length-insert, length-remove}
 use Rattle.bank_changes.proofs.Changes.{sum-removed, sum-changed}
 use Rattle.bank_changes.proofs.Moves.{sum-moved}

@@ -4,8 +4,8 @@ use Rattle.std.proofs.Common.{sym, ap, ◌∙◌}
 use Rattle.std.specs.Prelude.{IsSomeAnd}
 use Rattle.std.specs.FinMap.{len}
 use Rattle.std.proofs.lemmas.List.Sums.{sum_by-insert}
-use Rattle.numbered_lists.specs.Moved.{changed, moved}
-use Rattle.numbered_lists.proofs.Lists.{slice_get-found}
+use Rattle.base_numbered_lists.specs.Moved.{changed, moved}
+use Rattle.base_numbered_lists.proofs.Lists.{slice_get-found}
 use Rattle.bank_parts.specs.declared.parts.Head.{Head}
 use Rattle.bank_parts.specs.declared.parts.Zone.{Zone}
 use Rattle.bank_parts.specs.declared.parts.WithZones.{WithZones}

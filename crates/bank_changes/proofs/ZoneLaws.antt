@@ -5,7 +5,7 @@ use Rattle.std.specs.Prelude.{sum_by, slice_set}
 use Rattle.std.specs.List.{AllByRecursion}
 use Rattle.std.specs.FinMap.{len}
 use Rattle.std.proofs.lemmas.List.Sums.{sum_by-cons}
-use Rattle.numbered_lists.proofs.Lists.{changed-found, length-changed}
+use Rattle.base_numbered_lists.proofs.Lists.{changed-found, length-changed}
 use Rattle.generators.specs.declared.level.Level.{Level}
 use Rattle.bank_parts.specs.declared.counting.Records.{Records}
 use Rattle.bank_validity.specs.declared.totals.Totals.{Totals}

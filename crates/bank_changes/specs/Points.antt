@@ -2,7 +2,7 @@
 -- tuning.
 use Rattle.std.specs.Prelude.{ℕ, ℤ, ◌+◌, ◌-◌, ◌++◌, [], Option, List, length, slice_get, slice_range}
 use Rattle.std.specs.Option.{option_map, option_map_or, option_and_then}
-use Rattle.numbered_lists.specs.Moved.{changed}
+use Rattle.base_numbered_lists.specs.Moved.{changed}
 use Rattle.bank_parts.specs.declared.parts.Kind.{Kind}
 use Rattle.bank_parts.specs.declared.parts.Sample.{Sample}
 use Rattle.bank_parts.specs.declared.parts.Parts.{Parts}

@@ -1,6 +1,6 @@
 -- The raw changes of presets. Nothing in a bank refers to presets by number.
 use Rattle.std.specs.Prelude.{ℕ, List, insert, remove}
-use Rattle.numbered_lists.specs.Moved.{changed, moved}
+use Rattle.base_numbered_lists.specs.Moved.{changed, moved}
 use Rattle.bank_parts.specs.declared.parts.Head.{Head}
 use Rattle.bank_parts.specs.declared.parts.WithZones.{WithZones}
 use Rattle.bank_parts.specs.declared.parts.Parts.{Parts}

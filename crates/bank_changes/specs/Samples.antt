@@ -1,8 +1,8 @@
 -- The raw changes of samples, and whether a sample is in use.
 use Rattle.std.specs.Prelude.{ℕ, Bool, ◌||◌, List, insert, remove}
 use Rattle.std.specs.List.{list_any}
-use Rattle.numbered_lists.specs.declared.renumbering.Renumbering.TheVariants.{Insertion, Removal, Move}
-use Rattle.numbered_lists.specs.Moved.{changed, moved}
+use Rattle.base_numbered_lists.specs.declared.renumbering.Renumbering.TheVariants.{Insertion, Removal, Move}
+use Rattle.base_numbered_lists.specs.Moved.{changed, moved}
 use Rattle.bank_parts.specs.declared.parts.Sample.{Sample}
 use Rattle.bank_parts.specs.declared.parts.Parts.{Parts}
 use Rattle.bank_parts.specs.Links.{links_to}

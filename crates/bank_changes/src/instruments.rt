@@ -6,7 +6,7 @@ ghost use Rattle.bank_parts.specs.Valid.{IsValid};
 ghost use Rattle.bank_changes.specs.Instruments.{instrument_renamed, instrument_added, instrument_removed, instrument_moved};
 
 use bank_parts::{Instrument, Parts};
-use numbered_lists::{Renumber, Renumbering};
+use base_numbered_lists::{Renumber, Renumbering};
 use sf_base::{Name20, OutOfMemory};
 use std::alloc::Global;
 

@@ -4,7 +4,7 @@ ghost use Rattle.bank_parts.specs.Valid.{IsValid};
 ghost use Rattle.bank_changes.specs.Samples.{sample_renamed, sample_added, sample_removed, sample_moved};
 
 use bank_parts::{Parts, Sample};
-use numbered_lists::{Renumber, Renumbering};
+use base_numbered_lists::{Renumber, Renumbering};
 use sf_base::Name20;
 
 /// Renames a sample and returns the old name. Allocates nothing.

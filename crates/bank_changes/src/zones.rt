@@ -2,16 +2,16 @@
 ghost use Rattle.std.specs.Prelude.{◌≡◌, ◌<◌, ◌≤◌, Some, IsSomeAnd, OnOk, OnErr, IfOk, IfErr, ◌+◌, true, IfSome};
 ghost use Rattle.bank_parts.specs.Counts.{all_counted};
 ghost use Rattle.bank_parts.specs.Room.{IsStorable};
-ghost use Rattle.zone_ranges.specs.Splits.{split_records, join_records};
+ghost use Rattle.bank_zone_ranges.specs.Splits.{split_records, join_records};
 ghost use Rattle.bank_changes.specs.Members.{own_zone_count, zone_of, target_of};
 ghost use Rattle.bank_changes.specs.Zones.{zone_added, zone_removed, zone_moved, target_set, can_split, can_join, zone_split, zone_joined};
 
 use crate::members::Owner;
 use crate::with_owners;
 use bank_parts::{Parts, Records, Zone};
+use bank_zone_ranges::{Axis, Keep};
 use sf_base::OutOfMemory;
 use std::alloc::Global;
-use zone_ranges::{Axis, Keep};
 
 /// Inserts a zone as number `at` of an owner; its later zones move up by one. If an allocation fails, the bank is
 /// unchanged and the zone is returned.
@@ -77,7 +77,7 @@ pub fn split_records(parts: &Parts<'_>, owner: Owner, zone: u32, axis: Axis) -> 
     ensures { IfSome (zone_of parts.now owner zone) (λ z. result ≡ all_counted (split_records axis z)) }
 {
     with_owners!(parts, owner, |owners, number| {
-        zone_ranges::split_records(owners, number, zone, axis)
+        bank_zone_ranges::split_records(owners, number, zone, axis)
     })
 }
 
@@ -87,7 +87,7 @@ pub fn join_records(parts: &Parts<'_>, owner: Owner, zone: u32, keep: Keep) -> R
     ensures { IfSome (zone_of parts.now owner (zone + 1)) (λ z. result ≡ all_counted (join_records keep z)) }
 {
     with_owners!(parts, owner, |owners, number| {
-        zone_ranges::join_records(owners, number, zone, keep)
+        bank_zone_ranges::join_records(owners, number, zone, keep)
     })
 }
 
@@ -107,7 +107,7 @@ pub fn split_zone(
     ensures err { OnErr result (parts.new ≡ parts.old) }
 {
     with_owners!(parts, owner, |owners, number| {
-        zone_ranges::split_zone(owners, alloc, number, zone, axis, at)
+        bank_zone_ranges::split_zone(owners, alloc, number, zone, axis, at)
     })
 }
 
@@ -125,6 +125,6 @@ pub fn join_zone(
     ensures err { OnErr result (parts.new ≡ parts.old) }
 {
     with_owners!(parts, owner, |owners, number| {
-        zone_ranges::join_zones(owners, alloc, number, zone, axis, keep)
+        bank_zone_ranges::join_zones(owners, alloc, number, zone, axis, keep)
     })
 }

@@ -11,10 +11,10 @@ ghost use Rattle.bank_core.specs.Flat.{IsFlatOf};
 
 use crate::bank::Bank;
 use crate::flat_heads::FlatHeads;
+use bank_linked_members::LinkedMembers;
 use bank_parts::{Head, OwnerHead, Owners, Parts, Sample, Texts};
 use bank_validity::valid_totals;
 use flat_records::Recs;
-use linked_members::LinkedMembers;
 use sf_base::Name20;
 
 /// The lists of a bank as in a file (SoundFont 2.04, sections 7.2 to 7.10), with their terminals. The samples already

@@ -3,7 +3,7 @@ ghost use Rattle.std.specs.Prelude.{◌≡◌, ◌+◌, length, MatchOption};
 ghost use Rattle.bank_core.specs.Heads.{head_records};
 
 use bank_parts::Head;
-use numbered_lists::NumberedList;
+use base_numbered_lists::NumberedList;
 use sf_base::Name20;
 use std::marker::Model;
 

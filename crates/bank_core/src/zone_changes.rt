@@ -3,7 +3,7 @@ ghost use Rattle.std.specs.Prelude.{◌≡◌, ◌<◌, ◌≤◌, ℕ, Some, Is
 ghost use Rattle.std.specs.Option.{option_map};
 ghost use Rattle.bank_parts.specs.Sound.{IsSound};
 ghost use Rattle.bank_validity.specs.Limits.{broken_limit};
-ghost use Rattle.zone_ranges.specs.Ranges.{low_end, high_end};
+ghost use Rattle.bank_zone_ranges.specs.Ranges.{low_end, high_end};
 ghost use Rattle.bank_changes.specs.Members.{own_zone_count, zone_of, target_of};
 ghost use Rattle.bank_changes.specs.Zones.{zone_added, zone_removed, zone_moved, target_set, can_split, can_join, zone_split, zone_joined, range_of_zone};
 
@@ -14,10 +14,10 @@ use bank_changes::{
 };
 use bank_parts::Zone;
 use bank_validity::Limit;
+use bank_zone_ranges::{Axis, Keep};
 use generators::Range;
 use sf_base::OutOfMemory;
 use std::alloc::Global;
-use zone_ranges::{Axis, Keep};
 
 impl<'a> Bank<'a> {
     /// Inserts a zone as number `at` of an owner; its later zones move up by one. If an allocation fails, the bank is
@@ -88,7 +88,7 @@ impl<'a> Bank<'a> {
         ensures high { option_map high_end (range_of_zone self.now owner zone axis) ≡ Some result.high }
     {
         with_owners!(&self.parts, owner, |owners, number| {
-            zone_ranges::zone_range(owners, number, zone, axis)
+            bank_zone_ranges::zone_range(owners, number, zone, axis)
         })
     }
 
@@ -98,7 +98,7 @@ impl<'a> Bank<'a> {
         ensures { result ≡ can_split self.now owner zone axis at }
     {
         with_owners!(&self.parts, owner, |owners, number| {
-            zone_ranges::splits(owners, number, zone, axis, at)
+            bank_zone_ranges::splits(owners, number, zone, axis, at)
         })
     }
 
@@ -109,7 +109,7 @@ impl<'a> Bank<'a> {
         ensures { result ≡ can_join self.now owner zone axis keep }
     {
         with_owners!(&self.parts, owner, |owners, number| {
-            zone_ranges::joins(owners, number, zone, axis, keep)
+            bank_zone_ranges::joins(owners, number, zone, axis, keep)
         })
     }
 

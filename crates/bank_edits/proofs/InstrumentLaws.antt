@@ -3,8 +3,8 @@ use Rattle.std.proofs.Common.{◌≡◌, ℕ, List, length, Some, refl, sym, ap,
 use Rattle.std.proofs.lemmas.List.Edits.{length-insert, length-remove}
 use Rattle.std.specs.Prelude.{slice_get}
 use Rattle.sf_base.specs.Names.{IsName}
-use Rattle.numbered_lists.proofs.Lists.{slice_get-found, slice_get-insert, slice_get-changed, length-changed}
-use Rattle.numbered_lists.proofs.Lists.{changed-back}
+use Rattle.base_numbered_lists.proofs.Lists.{slice_get-found, slice_get-insert, slice_get-changed, length-changed}
+use Rattle.base_numbered_lists.proofs.Lists.{changed-back}
 use Rattle.generators.specs.declared.level.Level.TheVariants as level
 use Rattle.bank_parts.specs.declared.parts.WithZones.{WithZones}
 use Rattle.bank_parts.specs.declared.parts.Parts.{Parts}

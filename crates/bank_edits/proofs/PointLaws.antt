@@ -3,7 +3,7 @@ use Rattle.std.proofs.Common.{◌≡◌, ◌<◌, ◌≤◌, ◌+◌, ◌-◌, �
 use Rattle.std.proofs.Common.{refl, ap, arith, FitsSigned, w8}
 use Rattle.std.proofs.lemmas.List.Elements.{All-take, All-drop, All-from_recursion, recursion_from_All}
 use Rattle.sample_view.specs.Words.{AreWords}
-use Rattle.numbered_lists.proofs.Lists.{slice_get-found, slice_get-changed, changed-back}
+use Rattle.base_numbered_lists.proofs.Lists.{slice_get-found, slice_get-changed, changed-back}
 use Rattle.bank_parts.specs.declared.parts.Kind.{Kind}
 use Rattle.bank_parts.specs.declared.parts.Sample.{Sample}
 use Rattle.bank_parts.specs.declared.parts.Parts.{Parts}

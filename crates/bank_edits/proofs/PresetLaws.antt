@@ -2,7 +2,7 @@
 use Rattle.std.proofs.Common.{◌≡◌, ℕ, List, length, Some, refl, sym, arith}
 use Rattle.std.proofs.lemmas.List.Edits.{length-insert, length-remove}
 use Rattle.std.specs.Prelude.{slice_get}
-use Rattle.numbered_lists.proofs.Lists.{slice_get-found, slice_get-insert}
+use Rattle.base_numbered_lists.proofs.Lists.{slice_get-found, slice_get-insert}
 use Rattle.generators.specs.declared.level.Level.TheVariants as level
 use Rattle.bank_parts.specs.declared.parts.Head.{Head}
 use Rattle.bank_parts.specs.declared.parts.WithZones.{WithZones}

@@ -33,7 +33,7 @@ use Rattle.bank_edits.proofs.UndoneBy.{IsTaken, IsUndone, undone_by}
 use Rattle.std.proofs.lemmas.List.Edits.{length-insert, length-remove}
 use Rattle.std.specs.Prelude.{slice_get, slice_set, IsSomeAnd}
 use Rattle.std.specs.Option.{option_and_then}
-use Rattle.numbered_lists.proofs.Lists.{slice_get-found, slice_get-insert, slice_get-slice_set, length-slice_set}
+use Rattle.base_numbered_lists.proofs.Lists.{slice_get-found, slice_get-insert, slice_get-slice_set, length-slice_set}
 use Rattle.modulators.specs.declared.modulator.Modulator.{Modulator}
 use Rattle.modulators.specs.Modulators.{FitsModulator}
 use Rattle.edit_forms.specs.declared.settings.SettingStep.{SettingStep}

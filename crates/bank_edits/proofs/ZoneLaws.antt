@@ -4,8 +4,8 @@ use Rattle.std.proofs.Common.{◌∙◌, arith, ◌+◌, ◌^◌, true, unwrap_o
 use Rattle.std.specs.Prelude.{IsSomeAnd, slice_get}
 use Rattle.std.specs.Option.{option_map}
 use Rattle.std.proofs.lemmas.List.Edits.{length-insert, length-remove}
-use Rattle.numbered_lists.specs.Moved.{moved, changed}
-use Rattle.numbered_lists.proofs.Lists.{slice_get-within, length-moved, length-changed, slice_get-changed}
+use Rattle.base_numbered_lists.specs.Moved.{moved, changed}
+use Rattle.base_numbered_lists.proofs.Lists.{slice_get-within, length-moved, length-changed, slice_get-changed}
 use Rattle.bank_parts.specs.declared.parts.Zone.{Zone}
 use Rattle.bank_parts.specs.declared.parts.WithZones.{WithZones}
 use Rattle.bank_parts.specs.declared.parts.Parts.{Parts}
@@ -38,18 +38,18 @@ use Rattle.edit_refusals.proofs.ZoneLaws.{tests_join_zone, sound_join_zone}
 use Rattle.bank_edits.proofs.UndoneBy.{IsTaken, IsUndone, undone_by}
 use Rattle.generators.specs.Ranges.{IsRange}
 use Rattle.bank_parts.specs.declared.parts.Head.{Head}
-use Rattle.zone_ranges.specs.declared.axes.Axis.{Axis}
-use Rattle.zone_ranges.specs.declared.axes.Keep.{Keep}
-use Rattle.zone_ranges.specs.Ranges.{low_end, high_end, range_from, range_of, whole_range}
-use Rattle.zone_ranges.specs.Splits.{lower_part, upper_part, parted, zones_split, zone_split as split_in, joined}
-use Rattle.zone_ranges.specs.Splits.{merged, zones_joined, zone_joined as joined_in, keep_for, splits_at, joins_at}
-use Rattle.zone_ranges.specs.Undone.{own_low, own_amount}
-use Rattle.zone_ranges.proofs.Parting.{first_parted, second_parted, first_merged, all_at}
-use Rattle.zone_ranges.proofs.SplitLaws.{low_of_range, low_is_small, own_with, split_is_joinable, split_undone}
-use Rattle.zone_ranges.proofs.SplitLaws.{join_is_splittable, join_undone, keep_of_joined}
-use Rattle.zone_ranges.proofs.There.{ZoneThere, zone_is, zone_within, SplitThere, split_there, there_split}
-use Rattle.zone_ranges.proofs.There.{JoinThere, join_there, there_joined, zones_there}
-use Rattle.zone_ranges.proofs.PartLaws.{own_holds}
+use Rattle.bank_zone_ranges.specs.declared.axes.Axis.{Axis}
+use Rattle.bank_zone_ranges.specs.declared.axes.Keep.{Keep}
+use Rattle.bank_zone_ranges.specs.Ranges.{low_end, high_end, range_from, range_of, whole_range}
+use Rattle.bank_zone_ranges.specs.Splits.{lower_part, upper_part, parted, zones_split, zone_split as split_in, joined}
+use Rattle.bank_zone_ranges.specs.Splits.{merged, zones_joined, zone_joined as joined_in, keep_for, splits_at, joins_at}
+use Rattle.bank_zone_ranges.specs.Undone.{own_low, own_amount}
+use Rattle.bank_zone_ranges.proofs.Parting.{first_parted, second_parted, first_merged, all_at}
+use Rattle.bank_zone_ranges.proofs.SplitLaws.{low_of_range, low_is_small, own_with, split_is_joinable, split_undone}
+use Rattle.bank_zone_ranges.proofs.SplitLaws.{join_is_splittable, join_undone, keep_of_joined}
+use Rattle.bank_zone_ranges.proofs.There.{ZoneThere, zone_is, zone_within, SplitThere, split_there, there_split}
+use Rattle.bank_zone_ranges.proofs.There.{JoinThere, join_there, there_joined, zones_there}
+use Rattle.bank_zone_ranges.proofs.PartLaws.{own_holds}
 use Rattle.edit_forms.specs.declared.zones.ZoneStep.{ZoneStep}
 use Rattle.edit_forms.specs.Steps.{inverse}
 

@@ -6,9 +6,9 @@ ghost use Rattle.bank_edits.specs.GroupChanges.{IsStepDone, StepStops};
 
 use crate::step_changes::change_step;
 use bank_core::Bank;
+use base_numbered_lists::NumberedList;
 use edit_forms::{Edit, Step};
 use edit_refusals::{Refusal, refuse};
-use numbered_lists::NumberedList;
 use std::alloc::Global;
 
 /// Applies the steps to a copy of the bank, and replaces the bank by the copy if all succeed.

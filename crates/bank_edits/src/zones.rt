@@ -7,17 +7,17 @@ ghost use Rattle.edit_forms.specs.Steps.{refusal, GrowsNothing};
 ghost use Rattle.bank_edits.specs.StepChanges.{IsStepChange};
 ghost use Rattle.bank_changes.specs.declared.members.Place.TheVariants as place;
 ghost use Rattle.bank_changes.specs.Members.{zone_of, amount_of};
-ghost use Rattle.zone_ranges.specs.Ranges.{range_operator};
-ghost use Rattle.zone_ranges.specs.Splits.{keep_for};
-ghost use Rattle.zone_ranges.specs.Undone.{own_low};
+ghost use Rattle.bank_zone_ranges.specs.Ranges.{range_operator};
+ghost use Rattle.bank_zone_ranges.specs.Splits.{keep_for};
+ghost use Rattle.bank_zone_ranges.specs.Undone.{own_low};
 
 use crate::step_changes::Back;
 use bank_core::{Bank, Owner, Place};
 use bank_parts::Zone;
+use bank_zone_ranges::{Axis, Keep, range_operator};
 use edit_forms::{Step, ZoneStep};
 use generators::Range;
 use std::alloc::Global;
-use zone_ranges::{Axis, Keep, range_operator};
 
 pub(crate) fn change_zone<'a>(
     alloc: Global,

@@ -7,14 +7,14 @@ use Rattle.std.specs.FinMap.{entries, len, len-entries}
 use Rattle.std.specs.Option.{IfSome, IsSomeAnd, option_and_then}
 use Rattle.std.proofs.lemmas.List.Sums.{sum_by-cons}
 use Rattle.std.proofs.lemmas.Option.{get_or_from_slice_get}
-use Rattle.numbered_lists.specs.Moved.{changed}
-use Rattle.numbered_lists.proofs.Lists.{slice_get-found, slice_get-changed, changed-found, length-changed}
-use Rattle.numbered_lists.proofs.Lists.{slice_set_same}
+use Rattle.base_numbered_lists.specs.Moved.{changed}
+use Rattle.base_numbered_lists.proofs.Lists.{slice_get-found, slice_get-changed, changed-found, length-changed}
+use Rattle.base_numbered_lists.proofs.Lists.{slice_set_same}
 use Rattle.flat_records.specs.Runs.{put}
 use Rattle.flat_records.specs.Bags.{Bag, gens_in, mods_in, with_gens}
-use Rattle.owner_bags.specs.Owned.{all_bags, bag_at, bag_changed}
+use Rattle.bank_owner_bags.specs.Owned.{all_bags, bag_at, bag_changed}
 use Rattle.flat_records.specs.Stored.{Counts}
-use Rattle.owner_bags.specs.Stored.{Stored}
+use Rattle.bank_owner_bags.specs.Stored.{Stored}
 use Rattle.bank_parts.specs.declared.counting.Records.{Records}
 use Rattle.bank_parts.specs.Counts.{records_of_global, records_of_zone, records_sum}
 use Rattle.bank_parts.specs.declared.parts.GlobalZone.{GlobalZone}

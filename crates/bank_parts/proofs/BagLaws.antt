@@ -4,11 +4,11 @@ use Rattle.std.proofs.Common.{slice_get, Option, Some, None, refl, sym, subst, �
 use Rattle.std.specs.Prelude.{min}
 use Rattle.std.specs.Option.{IfSome, IsSome, IsSomeAnd}
 use Rattle.std.proofs.lemmas.Bool.Decides.{nat_tests}
-use Rattle.numbered_lists.specs.Moved.{changed}
-use Rattle.numbered_lists.proofs.Lists.{slice_get-found}
+use Rattle.base_numbered_lists.specs.Moved.{changed}
+use Rattle.base_numbered_lists.proofs.Lists.{slice_get-found}
 use Rattle.modulators.specs.declared.modulator.Modulator.{Modulator}
 use Rattle.flat_records.specs.Bags.{Bag}
-use Rattle.owner_bags.specs.Owned.{bag_at, bag_changed}
+use Rattle.bank_owner_bags.specs.Owned.{bag_at, bag_changed}
 use Rattle.bank_parts.specs.Changes.{bag_size, record_taken}
 
 pub some_of : {X : Type 0} (P : X → Type 0) (o : Option X) → IsSomeAnd o P → IsSome o

@@ -5,12 +5,12 @@ use Rattle.std.specs.FinMap as map
 use Rattle.std.specs.FinMap.{entries}
 use Rattle.std.specs.Option.{IfSome, IsSome}
 use Rattle.std.proofs.Math.ListN.{length-set}
-use Rattle.numbered_lists.specs.Moved.{changed}
+use Rattle.base_numbered_lists.specs.Moved.{changed}
 use Rattle.generators.specs.Places.{IsAt, IsGapFor}
 use Rattle.modulators.specs.declared.modulator.Modulator.{Modulator}
 use Rattle.flat_records.specs.Runs.{put, cut}
 use Rattle.flat_records.specs.Bags.{Bag, with_gens, with_mods}
-use Rattle.owner_bags.specs.Owned.{bag_at, bag_changed}
+use Rattle.bank_owner_bags.specs.Owned.{bag_at, bag_changed}
 use Rattle.bank_parts.specs.declared.parts.WithZones.{WithZones}
 use Rattle.bank_parts.specs.declared.owners.ZonePlace.{ZonePlace}
 use Rattle.bank_parts.specs.Owners.{entries_at, mods_at, amount_at}

@@ -2,8 +2,8 @@
 use Rattle.std.proofs.Common.{◌≡◌, ℕ, ◌<◌, ◌≤◌, ◌+◌, suc, zero, List, [], ◌∷◌, ◌++◌, length, insert, remove}
 use Rattle.std.proofs.Common.{slice_get, set, take, drop, Some, refl, sym, subst, ◌∙◌, ap, zero-add, suc-add, arith}
 use Rattle.std.specs.List.{AllByRecursion}
-use Rattle.numbered_lists.specs.Moved.{moved, changed}
-use Rattle.numbered_lists.proofs.Lists.{slice_get-found, slice_get-within, moved-found, changed-found}
+use Rattle.base_numbered_lists.specs.Moved.{moved, changed}
+use Rattle.base_numbered_lists.proofs.Lists.{slice_get-found, slice_get-within, moved-found, changed-found}
 use Rattle.flat_records.specs.Runs.{put, cut}
 
 -- ---- properties of all members

@@ -3,9 +3,9 @@ use Rattle.std.proofs.Common.{◌≡◌, ℕ, ◌<◌, List, [], length, insert,
 use Rattle.std.specs.Option.{option_map}
 use Rattle.std.proofs.lemmas.List.{length-map}
 use Rattle.std.proofs.lemmas.Option.{slice_get-map}
-use Rattle.numbered_lists.specs.Moved.{moved, changed}
-use Rattle.numbered_lists.proofs.Lists.{slice_get-found, changed-found, map-slice_set, map-moved, map-insert}
-use Rattle.numbered_lists.proofs.Lists.{map-remove, slice_set_same}
+use Rattle.base_numbered_lists.specs.Moved.{moved, changed}
+use Rattle.base_numbered_lists.proofs.Lists.{slice_get-found, changed-found, map-slice_set, map-moved, map-insert}
+use Rattle.base_numbered_lists.proofs.Lists.{map-remove, slice_set_same}
 use Rattle.flat_records.specs.Bags.{Bag}
 use Rattle.bank_parts.specs.declared.parts.WithZones.{WithZones}
 use Rattle.bank_parts.specs.Owners.{head_at, with_head}

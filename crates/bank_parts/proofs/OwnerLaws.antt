@@ -4,10 +4,10 @@ use Rattle.std.proofs.Common.{Option, Some, None, refl, sym, subst, ◌∙◌, a
 use Rattle.std.specs.Prelude.{is_some}
 use Rattle.std.specs.List.{AllByRecursion, list_any}
 use Rattle.std.specs.FinMap.{get}
-use Rattle.numbered_lists.specs.Moved.{moved}
+use Rattle.base_numbered_lists.specs.Moved.{moved}
 use Rattle.flat_records.specs.Bags.{Bag, gens_in, mods_in}
-use Rattle.owner_bags.specs.Owned.{all_bags}
-use Rattle.owner_bags.specs.Stored.{Stored}
+use Rattle.bank_owner_bags.specs.Owned.{all_bags}
+use Rattle.bank_owner_bags.specs.Stored.{Stored}
 use Rattle.bank_parts.specs.declared.counting.Records.{Records}
 use Rattle.bank_parts.specs.declared.parts.Zone.{Zone}
 use Rattle.bank_parts.specs.declared.parts.WithZones.{WithZones}

@@ -6,13 +6,13 @@ use Rattle.std.specs.FinMap.{entries, len, get, len-entries}
 use Rattle.std.specs.Option.{IfSome, IsSome, IsSomeAnd, option_map, option_and_then}
 use Rattle.std.proofs.lemmas.Option.{same_Some, get_or_from_slice_get}
 use Rattle.std.proofs.lemmas.Bool.Decides.{nat_tests}
-use Rattle.numbered_lists.specs.Moved.{changed}
-use Rattle.numbered_lists.proofs.Lists.{slice_get-found}
+use Rattle.base_numbered_lists.specs.Moved.{changed}
+use Rattle.base_numbered_lists.proofs.Lists.{slice_get-found}
 use Rattle.generators.specs.Gens.{Gens, FitGens, AreInOrder}
 use Rattle.generators.specs.Places.{IsAt, IsGapFor}
 use Rattle.modulators.specs.declared.modulator.Modulator.{Modulator}
 use Rattle.flat_records.specs.Bags.{Bag}
-use Rattle.owner_bags.specs.Owned.{bag_at, bag_changed}
+use Rattle.bank_owner_bags.specs.Owned.{bag_at, bag_changed}
 use Rattle.bank_parts.specs.declared.parts.WithZones.{WithZones}
 use Rattle.bank_parts.specs.declared.owners.ZonePlace.{ZonePlace}
 use Rattle.bank_parts.specs.Owners.{HasPlace, gens_at, entries_at, mods_at, amount_at, mod_at}

@@ -3,11 +3,11 @@ use Rattle.std.proofs.Common.{◌≡◌, ℕ, ◌≤◌, ◌+◌, zero, suc, Lis
 use Rattle.std.proofs.Common.{sym, ◌∙◌, ap, length-append, arith}
 use Rattle.std.specs.List.{flat_map}
 use Rattle.std.proofs.lemmas.List.Concat.{flat_map-append}
-use Rattle.numbered_lists.specs.Moved.{changed}
-use Rattle.numbered_lists.proofs.Lists.{slice_get-changed, changed-found}
+use Rattle.base_numbered_lists.specs.Moved.{changed}
+use Rattle.base_numbered_lists.proofs.Lists.{slice_get-changed, changed-found}
 use Rattle.flat_records.specs.Bags.{Bag, gens_in, mods_in}
-use Rattle.owner_bags.specs.Owned.{all_bags, bag_changed}
-use Rattle.owner_bags.specs.Stored.{Stored}
+use Rattle.bank_owner_bags.specs.Owned.{all_bags, bag_changed}
+use Rattle.bank_owner_bags.specs.Stored.{Stored}
 use Rattle.bank_parts.specs.declared.counting.Records.{Records}
 use Rattle.bank_parts.specs.Counts.{records_sum}
 use Rattle.bank_parts.specs.Room.{HasRoom}

@@ -8,8 +8,8 @@ use Rattle.std.specs.FinMap as map
 use Rattle.std.specs.FinMap.{entries, len, len-entries}
 use Rattle.std.proofs.lemmas.List.Sums.{sum_by-insert, sum_by-set}
 use Rattle.std.proofs.lemmas.Option.{same_Some, get_or_from_slice_get}
-use Rattle.numbered_lists.proofs.Lists.{slice_get-within, slice_set-back, changed-found}
-use Rattle.numbered_lists.specs.Moved.{changed}
+use Rattle.base_numbered_lists.proofs.Lists.{slice_get-within, slice_set-back, changed-found}
+use Rattle.base_numbered_lists.specs.Moved.{changed}
 use Rattle.generators.specs.Gens.{Gens}
 use Rattle.generators.specs.Places.{IsAt, IsGapFor}
 use Rattle.generators.specs.Levels.{target_operator}
@@ -20,7 +20,7 @@ use Rattle.modulators.specs.declared.modulator.Modulator.{Modulator}
 use Rattle.flat_records.specs.Runs.{put}
 use Rattle.flat_records.specs.Bags as records
 use Rattle.flat_records.specs.Bags.{Bag, gens_in, mods_in}
-use Rattle.owner_bags.specs.Owned.{all_bags, bag_changed}
+use Rattle.bank_owner_bags.specs.Owned.{all_bags, bag_changed}
 use Rattle.bank_parts.specs.declared.counting.Records.{Records}
 use Rattle.bank_parts.specs.declared.parts.Zone.{Zone}
 use Rattle.bank_parts.specs.declared.parts.WithZones.{WithZones}

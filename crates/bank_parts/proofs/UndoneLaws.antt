@@ -4,10 +4,10 @@ use Rattle.std.proofs.Common.{sym, ap, ◌∙◌}
 use Rattle.std.specs.Prelude.{slice_get, slice_set, IsSomeAnd}
 use Rattle.std.specs.Option.{option_map, option_and_then}
 use Rattle.std.specs.FinMap as map
-use Rattle.numbered_lists.specs.Moved.{moved, changed}
-use Rattle.numbered_lists.proofs.Lists.{insert-remove, remove-insert, moved-back, slice_set-back, changed-back}
-use Rattle.numbered_lists.proofs.Lists.{slice_get-insert, slice_get-moved, slice_get-found, slice_get-within}
-use Rattle.numbered_lists.proofs.Lists.{slice_get-slice_set}
+use Rattle.base_numbered_lists.specs.Moved.{moved, changed}
+use Rattle.base_numbered_lists.proofs.Lists.{insert-remove, remove-insert, moved-back, slice_set-back, changed-back}
+use Rattle.base_numbered_lists.proofs.Lists.{slice_get-insert, slice_get-moved, slice_get-found, slice_get-within}
+use Rattle.base_numbered_lists.proofs.Lists.{slice_get-slice_set}
 use Rattle.generators.specs.Gens.{Gens}
 use Rattle.generators.proofs.MapLaws as gens
 use Rattle.generators.proofs.Order.{tied_same}

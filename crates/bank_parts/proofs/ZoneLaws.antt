@@ -5,11 +5,11 @@ use Rattle.std.specs.FinMap.{entries}
 use Rattle.std.specs.Option.{IfSome, IsSome, IsSomeAnd, option_map, option_and_then}
 use Rattle.std.proofs.lemmas.List.{length-map}
 use Rattle.std.proofs.lemmas.Option.{slice_get-map, same_Some}
-use Rattle.numbered_lists.specs.Moved.{moved, changed}
-use Rattle.numbered_lists.proofs.Lists.{slice_get-found, slice_get-within, changed-found, map-slice_set, map-moved}
-use Rattle.numbered_lists.proofs.Lists.{map-insert, map-remove}
+use Rattle.base_numbered_lists.specs.Moved.{moved, changed}
+use Rattle.base_numbered_lists.proofs.Lists.{slice_get-found, slice_get-within, changed-found, map-slice_set, map-moved}
+use Rattle.base_numbered_lists.proofs.Lists.{map-insert, map-remove}
 use Rattle.flat_records.specs.Bags.{Bag, with_gens}
-use Rattle.owner_bags.specs.Owned.{bag_at, bag_changed}
+use Rattle.bank_owner_bags.specs.Owned.{bag_at, bag_changed}
 use Rattle.bank_parts.specs.declared.parts.Zone.{Zone}
 use Rattle.bank_parts.specs.declared.parts.WithZones.{WithZones}
 use Rattle.bank_parts.specs.declared.owners.ZonePlace.TheVariants as place

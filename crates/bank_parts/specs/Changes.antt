@@ -1,9 +1,9 @@
 -- Changes of bags that insert or remove the bag of a global zone.
 use Rattle.std.specs.Prelude.{ℕ, ◌+◌, ◌==◌, if◌then◌else◌, List, length, remove}
-use Rattle.numbered_lists.specs.Moved.{changed}
+use Rattle.base_numbered_lists.specs.Moved.{changed}
 use Rattle.flat_records.specs.Runs.{cut}
 use Rattle.flat_records.specs.Bags.{Bag, with_gens, with_mods}
-use Rattle.owner_bags.specs.Owned.{bag_changed}
+use Rattle.bank_owner_bags.specs.Owned.{bag_changed}
 
 -- how many records a bag has
 abbrev pub bag_size : Bag → ℕ

@@ -1,5 +1,5 @@
 pub use Rattle.sf_base.specs.Names
-pub use Rattle.numbered_lists.specs.Moved
+pub use Rattle.base_numbered_lists.specs.Moved
 pub use Rattle.generators.specs.Levels
 pub use Rattle.generators.specs.Ranges
 pub use Rattle.generators.specs.Gens

@@ -1,7 +1,7 @@
 -- Targets and links after a change of the list whose members they number.
 use Rattle.std.specs.Prelude.{◌≡◌, ◌<◌, ◌^◌, false, map, All, refl}
-use Rattle.numbered_lists.specs.declared.renumbering.Renumbering.{Renumbering}
-use Rattle.numbered_lists.specs.Renumbered.{renumbered}
+use Rattle.base_numbered_lists.specs.declared.renumbering.Renumbering.{Renumbering}
+use Rattle.base_numbered_lists.specs.Renumbered.{renumbered}
 use Rattle.bank_parts.specs.declared.parts.Kind.{Kind}
 use Rattle.bank_parts.specs.declared.parts.Kind.TheVariants.{Mono, Right, Left, Linked}
 use Rattle.bank_parts.specs.declared.parts.Zone.{Zone}

@@ -2,7 +2,7 @@
 -- other zones; and the zones of an owner.
 use Rattle.std.specs.Prelude.{ℕ, List, Option, Some, slice_get}
 use Rattle.std.specs.Option.{option_map, option_and_then}
-use Rattle.numbered_lists.specs.Moved.{changed}
+use Rattle.base_numbered_lists.specs.Moved.{changed}
 use Rattle.generators.specs.Gens.{Gens}
 use Rattle.modulators.specs.declared.modulator.Modulator.{Modulator}
 use Rattle.bank_parts.specs.declared.parts.GlobalZone.{GlobalZone}

@@ -1,7 +1,7 @@
 -- The raw changes of the zones of a preset or an instrument, and of their contents.
 use Rattle.std.specs.Prelude.{ℕ, List, insert, remove, slice_set}
 use Rattle.std.specs.FinMap as map
-use Rattle.numbered_lists.specs.Moved.{moved, changed}
+use Rattle.base_numbered_lists.specs.Moved.{moved, changed}
 use Rattle.modulators.specs.declared.modulator.Modulator.{Modulator}
 use Rattle.bank_parts.specs.declared.parts.Zone.{Zone}
 use Rattle.bank_parts.specs.declared.parts.WithZones.{WithZones}

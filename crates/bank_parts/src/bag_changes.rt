@@ -1,9 +1,9 @@
 //! Changes of the bags of owners: insertion of zones and whole owners, and the bags of global zones, which exist only
 //! while they hold a record.
 ghost use Rattle.std.specs.Prelude.{◌≡◌, ◌==◌, ◌≤◌, ◌<◌, ◌++◌, ◌∷◌, [], length, insert, slice_get, map, IfSome, IsSomeAnd, OnOk, OnErr, IsSome};
-ghost use Rattle.numbered_lists.specs.Moved.{changed};
+ghost use Rattle.base_numbered_lists.specs.Moved.{changed};
 ghost use Rattle.flat_records.specs.Bags.{Bag};
-ghost use Rattle.owner_bags.specs.Owned.{bag_at};
+ghost use Rattle.bank_owner_bags.specs.Owned.{bag_at};
 ghost use Rattle.bank_parts.specs.declared.counting.Records.{Records};
 ghost use Rattle.bank_parts.specs.Counts.{records_of_global, records_of_zone, records_of_owner, records_sum};
 ghost use Rattle.bank_parts.specs.Bagged.{zone_bag, global_bags, bags_of};
@@ -13,8 +13,8 @@ ghost use Rattle.bank_parts.specs.Changes.{bag_size, gen_taken, mod_taken};
 use crate::counting::Records;
 use crate::parts::{GlobalZone, WithZones, Zone};
 use crate::room::make_room;
+use bank_owner_bags::OwnerBags;
 use modulators::Modulator;
-use owner_bags::OwnerBags;
 use sf_base::OutOfMemory;
 
 /// Inserts the bag of a zone as bag `k` of owner `i`.

@@ -3,9 +3,9 @@ ghost use Rattle.std.specs.Prelude.{◌≡◌, IfOk};
 
 use crate::parts::{GlobalZone, Parts, Sample, WithZones, Zone};
 use crate::texts::Texts;
-use linked_members::LinkedMembers;
+use bank_linked_members::LinkedMembers;
+use base_numbered_lists::NumberedList;
 use modulators::Modulator;
-use numbered_lists::NumberedList;
 use sf_base::{Lent, OutOfMemory};
 use std::alloc::Global;
 

@@ -10,11 +10,11 @@ use crate::heads::OwnerHead;
 use crate::level_contents::gens_fit;
 use crate::own_bags::are_all_bags;
 use crate::owners::Owners;
+use bank_linked_members::EndedList;
+use bank_owner_bags::OwnerBags;
+use base_numbered_lists::NumberedList;
 use flat_records::Recs;
-use linked_members::EndedList;
 use modulators::Modulator;
-use numbered_lists::NumberedList;
-use owner_bags::OwnerBags;
 
 impl<H: OwnerHead> Owners<H> {
     /// The presets or instruments with these heads and flat lists; none if the lists form no such owners, or if one

@@ -4,9 +4,9 @@ ghost use Rattle.std.specs.List.{list_any};
 ghost use Rattle.bank_parts.specs.OwnBags.{is_plain, is_own_bag, AreOwnBags, AreAllBags};
 
 use crate::reading::{ends_in, without_last};
+use bank_owner_bags::OwnerBags;
 use generators::are_in_order;
 use modulators::Modulator;
-use owner_bags::OwnerBags;
 
 /// Whether all bags are those of presets or of instruments whose targets have this operator.
 pub(crate) fn are_all_bags(bags: &OwnerBags, operator: u16) -> bool

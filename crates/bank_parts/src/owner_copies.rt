@@ -9,10 +9,10 @@ ghost use Rattle.bank_parts.specs.Settings.{zones_at};
 use crate::heads::OwnerHead;
 use crate::owners::{Owners, ZonePlace};
 use crate::parts::{GlobalZone, WithZones, Zone};
+use bank_linked_members::EndedList;
+use base_numbered_lists::NumberedList;
 use generators::GenMap;
-use linked_members::EndedList;
 use modulators::Modulator;
-use numbered_lists::NumberedList;
 use sf_base::OutOfMemory;
 use std::alloc::Global;
 

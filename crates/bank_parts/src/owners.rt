@@ -1,15 +1,15 @@
 //! The presets or the instruments of a bank, stored as flat lists of records.
 ghost use Rattle.std.specs.Prelude.{◌≡◌, ◌<◌, ◌+◌, length, slice_get, [], Some, IfOk, IfSome};
 ghost use Rattle.generators.specs.Levels.{target_operator};
-ghost use Rattle.numbered_lists.specs.Moved.{moved, changed};
+ghost use Rattle.base_numbered_lists.specs.Moved.{moved, changed};
 ghost use Rattle.bank_parts.specs.declared.parts.WithZones.{WithZones};
 ghost use Rattle.bank_parts.specs.Owners.{head_at, with_head, zone_count_at};
 ghost use Rattle.bank_parts.specs.Bagged.{global_bags};
 
 use crate::heads::OwnerHead;
 use crate::reading::ends_in;
-use linked_members::EndedList;
-use owner_bags::OwnerBags;
+use bank_linked_members::EndedList;
+use bank_owner_bags::OwnerBags;
 use sf_base::OutOfMemory;
 use std::alloc::Global;
 use std::marker::Model;

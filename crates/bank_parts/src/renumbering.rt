@@ -1,12 +1,12 @@
 //! The links of samples when the list of samples changes.
 use crate::parts::{Kind, Sample};
-use linked_members::Linked;
-use numbered_lists::{Renumber, Renumbering};
+use bank_linked_members::Linked;
+use base_numbered_lists::{Renumber, Renumbering};
 
 /// A sample holds the number of the sample that it links to.
 impl<'a> Renumber for Sample<'a> {
     ghost use Rattle.std.specs.Prelude.{ℕ, ◌<◌, ◌^◌};
-    ghost use Rattle.numbered_lists.specs.Renumbered.{renumbered};
+    ghost use Rattle.base_numbered_lists.specs.Renumbered.{renumbered};
     ghost use Rattle.bank_parts.specs.Links.{OfLink};
     ghost use Rattle.bank_parts.specs.Renumbered.{sample_renumbered};
 

@@ -8,8 +8,8 @@ ghost use Rattle.bank_parts.specs.Room.{CanHold, HasRoom, has_operator};
 
 use crate::counting::Records;
 use crate::parts::{WithZones, Zone};
+use bank_owner_bags::OwnerBags;
 use generators::GenMap;
-use owner_bags::OwnerBags;
 use sf_base::OutOfMemory;
 
 /// Whether flat lists can hold `more` records in addition.

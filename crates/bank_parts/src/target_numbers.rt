@@ -1,7 +1,7 @@
 //! The targets of zones when the list of instruments or samples changes.
 use crate::heads::OwnerHead;
 use crate::owners::Owners;
-use numbered_lists::{Renumber, Renumbering};
+use base_numbered_lists::{Renumber, Renumbering};
 
 /// Presets hold numbers of instruments as targets of their zones, and instruments hold numbers of samples.
 impl<H: OwnerHead> Renumber for Owners<H> {

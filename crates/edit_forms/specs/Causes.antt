@@ -17,8 +17,8 @@ use Rattle.bank_parts.specs.declared.parts.Parts.{Parts}
 use Rattle.bank_parts.specs.Texts.{most_bytes, is_engine}
 use Rattle.bank_parts.specs.Contents.{misses_target, sets_foreign, has_foreign, is_bad_range, sets_bad_range}
 use Rattle.bank_parts.specs.Contents.{has_bad_range}
-use Rattle.zone_ranges.specs.declared.axes.Axis.{Axis}
-use Rattle.zone_ranges.specs.declared.axes.Keep.{Keep}
+use Rattle.bank_zone_ranges.specs.declared.axes.Axis.{Axis}
+use Rattle.bank_zone_ranges.specs.declared.axes.Keep.{Keep}
 use Rattle.bank_changes.specs.declared.members.Owner.{Owner}
 use Rattle.bank_changes.specs.declared.members.Owner.TheVariants as owner
 use Rattle.bank_changes.specs.declared.members.Place.{Place}

@@ -4,8 +4,8 @@ use Rattle.std.specs.Option.{option_map_or}
 use Rattle.bank_parts.specs.declared.parts.Zone.{Zone}
 use Rattle.bank_parts.specs.declared.parts.Parts.{Parts}
 use Rattle.bank_parts.specs.Fits.{FitsZone}
-use Rattle.zone_ranges.specs.Ranges.{low_end, own_range, whole_range}
-use Rattle.zone_ranges.specs.Splits.{keep_for}
+use Rattle.bank_zone_ranges.specs.Ranges.{low_end, own_range, whole_range}
+use Rattle.bank_zone_ranges.specs.Splits.{keep_for}
 use Rattle.bank_changes.specs.declared.members.Owner.{Owner}
 use Rattle.bank_changes.specs.Members.{level_of, zone_of, target_of}
 use Rattle.bank_changes.specs.Zones.{zone_added, zone_removed, zone_moved, zone_split, zone_joined, target_set}

@@ -5,7 +5,7 @@ ghost use Rattle.edit_forms.specs.declared.edit.Edit.TheVariants.{One, Group};
 ghost use Rattle.edit_forms.specs.Fits.{FitsStep, FitsEdit};
 
 use crate::step::Step;
-use numbered_lists::NumberedList;
+use base_numbered_lists::NumberedList;
 
 /// An edit of a bank.
 pub enum Edit<'a> {

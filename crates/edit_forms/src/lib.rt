@@ -12,6 +12,7 @@ mod step;
 mod texts;
 mod zones;
 
+pub use bank_zone_ranges::{Axis, Keep};
 pub use cause::Cause;
 pub use edit::Edit;
 pub use instruments::InstrumentStep;
@@ -21,5 +22,4 @@ pub use samples::SampleStep;
 pub use settings::SettingStep;
 pub use step::Step;
 pub use texts::TextStep;
-pub use zone_ranges::{Axis, Keep};
 pub use zones::ZoneStep;

@@ -3,9 +3,9 @@ ghost use Rattle.std.specs.Prelude.{◌≡◌, Some, IsSome, IfOk};
 ghost use Rattle.edit_forms.specs.Zones.{Fits, is_neutral, zone_in};
 
 use bank_parts::{CopyOut, Zone};
+use bank_zone_ranges::{Axis, Keep};
 use sf_base::OutOfMemory;
 use std::alloc::Global;
-use zone_ranges::{Axis, Keep};
 
 /// A step that edits the zones of a preset or an instrument. Numbers count from 0, without the global zone.
 pub enum ZoneStep {

@@ -2,7 +2,7 @@
 use Rattle.std.proofs.Common.{◌≡◌, ◌<◌, ℕ, nat_le, false, List, [], length, Option, Some, None, refl, ◌∙◌, ap, arith}
 use Rattle.std.specs.Prelude.{IsSome, IsSomeAnd, IfSome, unwrap_or}
 use Rattle.std.specs.Option.{option_map}
-use Rattle.numbered_lists.proofs.Lists.{length-changed}
+use Rattle.base_numbered_lists.proofs.Lists.{length-changed}
 use Rattle.modulators.specs.declared.modulator.Modulator.{Modulator}
 use Rattle.bank_parts.specs.declared.owners.ZonePlace.{ZonePlace}
 use Rattle.bank_parts.specs.declared.owners.ZonePlace.TheVariants as there

@@ -2,7 +2,7 @@
 use Rattle.std.proofs.Common.{◌≡◌, ◌<◌, ◌≤◌, ◌+◌, ◌^◌, ℕ, ℤ, nat_lt, FitsSigned, w8, false, List, length, Option}
 use Rattle.std.proofs.Common.{Some, None, Ok, refl, sym, ◌∙◌, ap, arith, true}
 use Rattle.sample_view.specs.Words.{AreWords}
-use Rattle.numbered_lists.proofs.Lists.{slice_get-found}
+use Rattle.base_numbered_lists.proofs.Lists.{slice_get-found}
 use Rattle.bank_parts.specs.declared.parts.Kind.{Kind}
 use Rattle.bank_parts.specs.declared.parts.Sample.{Sample}
 use Rattle.bank_parts.specs.declared.parts.Parts.{Parts}

@@ -3,7 +3,7 @@ use Rattle.std.proofs.Common.{◌≡◌, ◌<◌, ◌≤◌, ◌^◌, ◌||◌, 
 use Rattle.std.proofs.Common.{unwrap_or, refl, ◌∙◌, ap, arith, ◌+◌, Bool, true, not, subst}
 use Rattle.std.specs.Prelude.{IsSomeAnd, slice_get}
 use Rattle.sf_base.specs.Names.{IsName}
-use Rattle.numbered_lists.proofs.Lists.{slice_get-found, slice_get-within}
+use Rattle.base_numbered_lists.proofs.Lists.{slice_get-found, slice_get-within}
 use Rattle.generators.specs.declared.level.Level.{Level}
 use Rattle.bank_parts.specs.declared.parts.Zone.{Zone}
 use Rattle.bank_parts.specs.declared.parts.WithZones.{WithZones}
@@ -34,8 +34,8 @@ use Rattle.edit_forms.specs.Steps.{refusal, causes}
 use Rattle.edit_refusals.proofs.Accepted.{NoneStands, accepted, below, not_below, up_to, not_above}
 use Rattle.sf_base.specs.declared.limits.TheConstants.{ZONES}
 use Rattle.bank_parts.specs.declared.parts.Head.{Head}
-use Rattle.zone_ranges.specs.declared.axes.Axis.{Axis}
-use Rattle.zone_ranges.specs.declared.axes.Keep.{Keep}
+use Rattle.bank_zone_ranges.specs.declared.axes.Axis.{Axis}
+use Rattle.bank_zone_ranges.specs.declared.axes.Keep.{Keep}
 use Rattle.bank_changes.proofs.Changes.{sum-removed}
 use Rattle.bank_changes.proofs.SplitLaws.{split, join, next_is_there, sound_zone_split, sound_zone_joined}
 use Rattle.edit_forms.specs.declared.zones.ZoneStep.{ZoneStep}

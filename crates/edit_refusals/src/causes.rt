@@ -11,12 +11,12 @@ use bank_parts::{
     InfoId, Kind, Sample, WithZones, Zone, is_bad_range, sets_bad_range, sets_foreign,
 };
 use bank_validity::Limit;
+use bank_zone_ranges::{Axis, Keep};
 use edit_forms::Cause;
 use generators::{Level, allowed};
 use modulators::Modulator;
 use sf_base::Lent;
 use sf_base::limits::{COMMENT_LENGTH, TEXT_LENGTH};
-use zone_ranges::{Axis, Keep};
 
 /// The last test of every form: a limit that the changed bank would break.
 pub(crate) fn full(limit: Option<Limit>) -> Result<(), Cause>

@@ -13,8 +13,8 @@ use crate::causes::{
 };
 use bank_core::{Bank, Owner};
 use bank_parts::Zone;
+use bank_zone_ranges::{Axis, Keep};
 use edit_forms::{Cause, ZoneStep};
-use zone_ranges::{Axis, Keep};
 
 pub(crate) fn refuse_zone_step(bank: &Bank<'_>, owner: Owner, step: &ZoneStep) -> Result<(), Cause>
     requires { IsSound bank.now }

@@ -7,14 +7,14 @@ use Rattle.edit_forms.specs.declared.step.Step.{Step}
 use Rattle.edit_forms.specs.declared.edit.Edit.{Edit}
 use Rattle.edit_forms.specs.declared.edit.Edit.TheVariants.{One, Group}
 use Rattle.edit_forms.specs.Fits.{FitsStep, FitsEdit}
-use Rattle.line_tokens.specs.declared.cursor.Said.{Said}
-use Rattle.line_tokens.specs.declared.fault.ScriptFault.{ScriptFault}
-use Rattle.line_tokens.specs.Lines.{lines_of}
-use Rattle.line_tokens.specs.Pool.{Answers}
+use Rattle.script_tokens.specs.declared.cursor.Said.{Said}
+use Rattle.script_tokens.specs.declared.fault.ScriptFault.{ScriptFault}
+use Rattle.script_tokens.specs.Lines.{lines_of}
+use Rattle.script_tokens.specs.Pool.{Answers}
 use Rattle.script_grammar.specs.Operands.{Operand, Fixed}
 use Rattle.script_grammar.proofs.FitLaws.{AllRanged, all_ranged, behind}
-use Rattle.step_script.specs.Spelling.{SaysWhole}
-use Rattle.step_script.proofs.StepLaws.{step_fits}
+use Rattle.script_steps.specs.Spelling.{SaysWhole}
+use Rattle.script_steps.proofs.StepLaws.{step_fits}
 use Rattle.edit_script.specs.declared.parsing.Line.{Line}
 use Rattle.edit_script.specs.Grammar.{in_braces, SaysSteps, SaysAll}
 use Rattle.edit_script.specs.Script.{script_of}

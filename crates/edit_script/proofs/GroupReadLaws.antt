@@ -5,17 +5,17 @@ use Rattle.std.proofs.lemmas.List.{append-nil}
 use Rattle.edit_forms.specs.declared.step.Step.{Step}
 use Rattle.edit_forms.specs.declared.edit.Edit.{Edit}
 use Rattle.edit_forms.specs.declared.edit.Edit.TheVariants.{One, Group}
-use Rattle.line_tokens.specs.declared.cursor.Said.{Said}
-use Rattle.line_tokens.specs.Parts.{Took, pure, is_next}
-use Rattle.line_tokens.proofs.ReadLaws.{AllHoldBytes}
+use Rattle.script_tokens.specs.declared.cursor.Said.{Said}
+use Rattle.script_tokens.specs.Parts.{Took, pure, is_next}
+use Rattle.script_tokens.proofs.ReadLaws.{AllHoldBytes}
 use Rattle.script_grammar.specs.Names.{fixed}
 use Rattle.script_grammar.specs.Operands.{Operand, Fixed}
 use Rattle.script_grammar.proofs.ReadLaws.{Fronts, then, made, fixed_front}
 use Rattle.script_grammar.proofs.RepeatedLaws.{repeated_reads}
-use Rattle.step_script.specs.Grammar.{step}
-use Rattle.step_script.specs.Spelling.{SaysWhole}
-use Rattle.step_script.proofs.SaidLaws.{SaidFront, IsSaid, behind, behind_said, none}
-use Rattle.step_script.proofs.StepLaws.{step_said}
+use Rattle.script_steps.specs.Grammar.{step}
+use Rattle.script_steps.specs.Spelling.{SaysWhole}
+use Rattle.script_steps.proofs.SaidLaws.{SaidFront, IsSaid, behind, behind_said, none}
+use Rattle.script_steps.proofs.StepLaws.{step_said}
 use Rattle.edit_script.specs.Grammar.{in_braces, SaysSteps, SaysAll, braced_step, is_over, with_step, steps_left}
 use Rattle.edit_script.specs.Grammar.{group, one, one_or_group}
 use Rattle.edit_script.proofs.StepsLaws.{group_first, one_first}

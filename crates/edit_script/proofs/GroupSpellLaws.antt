@@ -4,14 +4,14 @@ use Rattle.std.proofs.lemmas.List.{append-nil}
 use Rattle.edit_forms.specs.declared.step.Step.{Step}
 use Rattle.edit_forms.specs.declared.edit.Edit.{Edit}
 use Rattle.edit_forms.specs.declared.edit.Edit.TheVariants.{One, Group}
-use Rattle.line_tokens.specs.declared.cursor.Said.{Said}
-use Rattle.line_tokens.specs.Parts.{is_next}
+use Rattle.script_tokens.specs.declared.cursor.Said.{Said}
+use Rattle.script_tokens.specs.Parts.{is_next}
 use Rattle.script_grammar.specs.Operands.{Operand, Fixed, AllSay}
 use Rattle.script_grammar.proofs.SpellLaws.{Gives, then, gives_pure, gives_fixed}
 use Rattle.script_grammar.proofs.ZoneSpellLaws.{next_word, nothing_ends, brace_ends, as_other}
-use Rattle.step_script.specs.Grammar.{word_of}
-use Rattle.step_script.specs.Spelling.{SaysWhole}
-use Rattle.step_script.proofs.StepLaws.{gives_step, not_group}
+use Rattle.script_steps.specs.Grammar.{word_of}
+use Rattle.script_steps.specs.Spelling.{SaysWhole}
+use Rattle.script_steps.proofs.StepLaws.{gives_step, not_group}
 use Rattle.edit_script.specs.Grammar.{in_braces, SaysSteps, SaysGroup, SaysAll, braced_step, is_over, with_step}
 use Rattle.edit_script.specs.Grammar.{steps_left, group, one, one_or_group}
 use Rattle.edit_script.proofs.StepsLaws.{steps_end, steps_go_on, group_first, one_first}

@@ -6,19 +6,19 @@ use Rattle.edit_forms.specs.declared.step.Step.{Step}
 use Rattle.edit_forms.specs.declared.edit.Edit.{Edit}
 use Rattle.edit_forms.specs.declared.edit.Edit.TheVariants.{One, Group}
 use Rattle.edit_forms.specs.Fits.{FitsStep, FitsEdit}
-use Rattle.line_tokens.specs.declared.cursor.Said.TheVariants as says
-use Rattle.line_tokens.specs.Lines.{lines_of}
-use Rattle.line_tokens.specs.Printing.{line_text}
-use Rattle.line_tokens.proofs.LexLaws.{lines_none}
-use Rattle.line_tokens.specs.declared.printing.Piece.{Piece}
-use Rattle.line_tokens.proofs.TestLaws.{not_feed}
-use Rattle.line_tokens.proofs.PieceLaws.{meant, line, line_says, line_first, AllSpoken}
+use Rattle.script_tokens.specs.declared.cursor.Said.TheVariants as says
+use Rattle.script_tokens.specs.Lines.{lines_of}
+use Rattle.script_tokens.specs.Printing.{line_text}
+use Rattle.script_tokens.proofs.LexLaws.{lines_none}
+use Rattle.script_tokens.specs.declared.printing.Piece.{Piece}
+use Rattle.script_tokens.proofs.TestLaws.{not_feed}
+use Rattle.script_tokens.proofs.PieceLaws.{meant, line, line_says, line_first, AllSpoken}
 use Rattle.script_grammar.specs.Operands.{Operand, Fixed, pieces_of}
 use Rattle.script_grammar.proofs.OperandLaws as operand
 use Rattle.script_grammar.proofs.OperandLaws.{IsFixed, all_spoken, all_say, both_fit}
-use Rattle.step_script.specs.Grammar.{word_of, operands, step_operands}
-use Rattle.step_script.specs.Spelling.{SaysWhole}
-use Rattle.step_script.proofs.StepLaws.{form_fixed, operands_fit, step_printed}
+use Rattle.script_steps.specs.Grammar.{word_of, operands, step_operands}
+use Rattle.script_steps.specs.Spelling.{SaysWhole}
+use Rattle.script_steps.proofs.StepLaws.{form_fixed, operands_fit, step_printed}
 use Rattle.edit_script.specs.Grammar.{braced, SaysSteps, SaysAll}
 use Rattle.edit_script.specs.declared.parsing.Line.{Line}
 use Rattle.edit_script.specs.Script.{script_of}

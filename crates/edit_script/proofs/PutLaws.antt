@@ -1,13 +1,13 @@
 -- A group that is written step by step has all its operands on the line.
 use Rattle.std.proofs.Common.{◌≡◌, ℕ, List, [], ◌∷◌, codes, Option, refl, sym, ap, ◌∙◌, ◌++◌}
 use Rattle.std.specs.List.{flat_map}
-use Rattle.outputs.specs.declared.output.Output.{Output}
-use Rattle.outputs.specs.Output.{Puts}
-use Rattle.outputs.proofs.OutputLaws.{puts_as}
+use Rattle.base_outputs.specs.declared.output.Output.{Output}
+use Rattle.base_outputs.specs.Output.{Puts}
+use Rattle.base_outputs.proofs.OutputLaws.{puts_as}
 use Rattle.edit_forms.specs.declared.step.Step.{Step}
 use Rattle.script_grammar.specs.Operands.{Fixed}
 use Rattle.script_grammar.proofs.PutLaws.{spaced_out, spaced_both, puts_both}
-use Rattle.step_script.specs.Grammar.{word_of, operands, step_operands}
+use Rattle.script_steps.specs.Grammar.{word_of, operands, step_operands}
 use Rattle.edit_script.specs.Grammar.{braced}
 
 abbrev pub braced_text : Step → List ℕ

@@ -5,17 +5,17 @@ use Rattle.std.specs.List.{AllByRecursion}
 use Rattle.std.specs.Result.{result_and}
 use Rattle.std.proofs.lemmas.List.{append-nil}
 use Rattle.edit_forms.specs.declared.edit.Edit.{Edit}
-use Rattle.line_tokens.specs.declared.cursor.Said.{Said}
-use Rattle.line_tokens.specs.declared.fault.LineFault.{LineFault}
-use Rattle.line_tokens.specs.Lines.{lines_of}
-use Rattle.line_tokens.specs.Tokens.{tokens_of}
-use Rattle.line_tokens.specs.Said.{said_in, said_lines}
-use Rattle.line_tokens.specs.Parts.{Took, ended}
-use Rattle.line_tokens.specs.Pool.{Grown, gather, pool_bytes}
-use Rattle.line_tokens.specs.Spelling.{LineSays}
-use Rattle.line_tokens.proofs.PoolLaws.{through}
-use Rattle.line_tokens.proofs.GatherLaws.{gather_none, gather_on}
-use Rattle.line_tokens.proofs.ReadLaws.{AllGood, AllHoldBytes, lines_good, line_shown, tokens_bytes, both, ended_is}
+use Rattle.script_tokens.specs.declared.cursor.Said.{Said}
+use Rattle.script_tokens.specs.declared.fault.LineFault.{LineFault}
+use Rattle.script_tokens.specs.Lines.{lines_of}
+use Rattle.script_tokens.specs.Tokens.{tokens_of}
+use Rattle.script_tokens.specs.Said.{said_in, said_lines}
+use Rattle.script_tokens.specs.Parts.{Took, ended}
+use Rattle.script_tokens.specs.Pool.{Grown, gather, pool_bytes}
+use Rattle.script_tokens.specs.Spelling.{LineSays}
+use Rattle.script_tokens.proofs.PoolLaws.{through}
+use Rattle.script_tokens.proofs.GatherLaws.{gather_none, gather_on}
+use Rattle.script_tokens.proofs.ReadLaws.{AllGood, AllHoldBytes, lines_good, line_shown, tokens_bytes, both, ended_is}
 use Rattle.edit_script.specs.declared.parsing.Line.{Line}
 use Rattle.script_grammar.specs.Operands.{AllSay}
 use Rattle.edit_script.specs.Grammar.{one_or_group, edit}

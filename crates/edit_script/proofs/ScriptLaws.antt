@@ -3,13 +3,13 @@ use Rattle.std.proofs.Common.{◌≡◌, ℕ, Bool, true, false, List, [], ◌�
 use Rattle.std.specs.Result.{result_and}
 use Rattle.sf_base.specs.declared.memory.Failure.{Failure}
 use Rattle.sf_base.specs.declared.memory.Failure.TheVariants.{Fault}
-use Rattle.line_tokens.specs.declared.cursor.Said.{Said}
-use Rattle.line_tokens.specs.declared.fault.LineFault.{LineFault}
-use Rattle.line_tokens.specs.Lines.{lines_of}
-use Rattle.line_tokens.specs.Said.{Left, said_lines, lines_said_over}
-use Rattle.line_tokens.specs.Parts.{Part}
-use Rattle.line_tokens.specs.Pool.{Grown, pool_bytes}
-use Rattle.line_tokens.proofs.PoolLaws.{over_pool}
+use Rattle.script_tokens.specs.declared.cursor.Said.{Said}
+use Rattle.script_tokens.specs.declared.fault.LineFault.{LineFault}
+use Rattle.script_tokens.specs.Lines.{lines_of}
+use Rattle.script_tokens.specs.Said.{Left, said_lines, lines_said_over}
+use Rattle.script_tokens.specs.Parts.{Part}
+use Rattle.script_tokens.specs.Pool.{Grown, pool_bytes}
+use Rattle.script_tokens.proofs.PoolLaws.{over_pool}
 use Rattle.script_grammar.specs.Memory.{ReadsOrWants}
 use Rattle.edit_script.specs.declared.parsing.Line.{Line}
 use Rattle.edit_script.specs.Grammar.{edit}

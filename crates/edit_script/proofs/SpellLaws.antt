@@ -6,15 +6,15 @@ use Rattle.std.specs.List.{AllByRecursion}
 use Rattle.std.proofs.lemmas.List.{append-nil}
 use Rattle.edit_forms.specs.declared.edit.Edit.{Edit}
 use Rattle.edit_forms.specs.declared.edit.Edit.TheVariants.{One, Group}
-use Rattle.line_tokens.specs.declared.cursor.Said.{Said}
-use Rattle.line_tokens.specs.Lines.{lines_of}
-use Rattle.line_tokens.specs.Said.{said_in, said_lines}
-use Rattle.line_tokens.specs.Parts.{and_then, ended}
-use Rattle.line_tokens.specs.Pool as pool
-use Rattle.line_tokens.specs.Pool.{Grown, gather, pool_bytes}
-use Rattle.line_tokens.specs.Spelling.{SaysNothing, LineSays}
-use Rattle.line_tokens.proofs.SpellLaws.{Says, line_said, lines_grow}
-use Rattle.line_tokens.proofs.GatherLaws.{gather_on, gather_none}
+use Rattle.script_tokens.specs.declared.cursor.Said.{Said}
+use Rattle.script_tokens.specs.Lines.{lines_of}
+use Rattle.script_tokens.specs.Said.{said_in, said_lines}
+use Rattle.script_tokens.specs.Parts.{and_then, ended}
+use Rattle.script_tokens.specs.Pool as pool
+use Rattle.script_tokens.specs.Pool.{Grown, gather, pool_bytes}
+use Rattle.script_tokens.specs.Spelling.{SaysNothing, LineSays}
+use Rattle.script_tokens.proofs.SpellLaws.{Says, line_said, lines_grow}
+use Rattle.script_tokens.proofs.GatherLaws.{gather_on, gather_none}
 use Rattle.edit_script.specs.declared.parsing.Line.{Line}
 use Rattle.script_grammar.specs.Operands.{Operand, AllSay}
 use Rattle.edit_script.specs.Grammar.{SaysAll, edit}

@@ -1,15 +1,15 @@
 -- A list of steps, one step at a time, and what follows the first token of a line.
 use Rattle.std.proofs.Common.{◌≡◌, true, false, List, [], ◌∷◌, codes, Ok, Err, refl}
 use Rattle.edit_forms.specs.declared.step.Step.{Step}
-use Rattle.line_tokens.specs.declared.cursor.Said.{Said}
-use Rattle.line_tokens.specs.declared.fault.LineFault.{LineFault}
-use Rattle.line_tokens.specs.Parts.{Took, pure, is_next}
+use Rattle.script_tokens.specs.declared.cursor.Said.{Said}
+use Rattle.script_tokens.specs.declared.fault.LineFault.{LineFault}
+use Rattle.script_tokens.specs.Parts.{Took, pure, is_next}
 use Rattle.script_grammar.specs.Names.{fixed}
 use Rattle.script_grammar.proofs.RepeatedLaws.{Shortens, shortens_keeps, pure_keeps, then_keeps, then_shortens}
 use Rattle.script_grammar.proofs.RepeatedLaws.{repeated_ends, repeated_goes_on, repeated_fails}
 use Rattle.script_grammar.proofs.ItemLaws.{fixed_shortens}
-use Rattle.step_script.specs.Grammar.{step}
-use Rattle.step_script.proofs.StepLaws.{step_keeps}
+use Rattle.script_steps.specs.Grammar.{step}
+use Rattle.script_steps.proofs.StepLaws.{step_keeps}
 use Rattle.edit_script.specs.Grammar.{braced_step, is_over, with_step, steps_left, group, one, one_or_group}
 
 pub braced_shortens : Shortens braced_step

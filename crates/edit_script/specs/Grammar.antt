@@ -3,13 +3,13 @@ use Rattle.std.specs.Prelude.{◌≡◌, List, [], ◌∷◌, ◌++◌, codes, B
 use Rattle.edit_forms.specs.declared.step.Step.{Step}
 use Rattle.edit_forms.specs.declared.edit.Edit.{Edit}
 use Rattle.edit_forms.specs.declared.edit.Edit.TheVariants.{One, Group}
-use Rattle.line_tokens.specs.declared.cursor.Said.{Said}
-use Rattle.line_tokens.specs.Parts.{Part, ◌>>=◌, pure, is_next, ended}
+use Rattle.script_tokens.specs.declared.cursor.Said.{Said}
+use Rattle.script_tokens.specs.Parts.{Part, ◌>>=◌, pure, is_next, ended}
 use Rattle.script_grammar.specs.Names.{fixed}
 use Rattle.script_grammar.specs.Operands.{Operand, Fixed}
 use Rattle.script_grammar.specs.Repeated.{repeated}
-use Rattle.step_script.specs.Grammar.{step_operands, step}
-use Rattle.step_script.specs.Spelling.{SaysWhole}
+use Rattle.script_steps.specs.Grammar.{step_operands, step}
+use Rattle.script_steps.specs.Spelling.{SaysWhole}
 
 -- ---- the operands on a line
 

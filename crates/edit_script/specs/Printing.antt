@@ -4,10 +4,10 @@ use Rattle.std.specs.List.{flat_map, AllByRecursion}
 use Rattle.edit_forms.specs.declared.edit.Edit.{Edit}
 use Rattle.edit_forms.specs.declared.edit.Edit.TheVariants.{One, Group}
 use Rattle.edit_forms.specs.Fits.{FitsEdit}
-use Rattle.line_tokens.specs.Printing.{line_text}
+use Rattle.script_tokens.specs.Printing.{line_text}
 use Rattle.edit_script.specs.declared.parsing.Line.{Line}
 use Rattle.script_grammar.specs.Operands.{pieces_of}
-use Rattle.step_script.specs.Grammar.{word_of, operands}
+use Rattle.script_steps.specs.Grammar.{word_of, operands}
 use Rattle.edit_script.specs.Grammar.{braced}
 
 -- the line of an edit, with its line feed

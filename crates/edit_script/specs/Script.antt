@@ -2,11 +2,11 @@
 use Rattle.std.specs.Prelude.{ℕ, List, [], ◌∷◌, ◌++◌, Result, Ok, Err}
 use Rattle.std.specs.Result.{result_and}
 use Rattle.edit_forms.specs.declared.edit.Edit.{Edit}
-use Rattle.line_tokens.specs.declared.cursor.Said.{Said}
-use Rattle.line_tokens.specs.declared.fault.LineFault.{LineFault}
-use Rattle.line_tokens.specs.Said.{said_lines}
-use Rattle.line_tokens.specs.Parts.{Took}
-use Rattle.line_tokens.specs.Pool.{Grown, gather, on_line, pool_bytes}
+use Rattle.script_tokens.specs.declared.cursor.Said.{Said}
+use Rattle.script_tokens.specs.declared.fault.LineFault.{LineFault}
+use Rattle.script_tokens.specs.Said.{said_lines}
+use Rattle.script_tokens.specs.Parts.{Took}
+use Rattle.script_tokens.specs.Pool.{Grown, gather, on_line, pool_bytes}
 use Rattle.edit_script.specs.declared.parsing.Line.{Line}
 use Rattle.edit_script.specs.Grammar.{edit}
 

@@ -1,9 +1,9 @@
 -- The grammar of scripts, as a relation of texts and edits that no reader defines.
 use Rattle.std.specs.Prelude.{◌≡◌, ◌⊎◌, ℕ, suc, List, [], ◌∷◌}
 use Rattle.edit_forms.specs.declared.edit.Edit.{Edit}
-use Rattle.line_tokens.specs.declared.cursor.Said.{Said}
-use Rattle.line_tokens.specs.Lines.{lines_of}
-use Rattle.line_tokens.specs.Spelling.{SaysNothing, LineSays}
+use Rattle.script_tokens.specs.declared.cursor.Said.{Said}
+use Rattle.script_tokens.specs.Lines.{lines_of}
+use Rattle.script_tokens.specs.Spelling.{SaysNothing, LineSays}
 use Rattle.edit_script.specs.declared.parsing.Line.{Line}
 use Rattle.script_grammar.specs.Operands.{Operand, AllSay}
 use Rattle.edit_script.specs.Grammar.{SaysAll}

@@ -1,31 +1,31 @@
 //! Reads and writes edits.
 ghost use Rattle.std.specs.Prelude.{◌≡◌, [], OnOk};
 ghost use Rattle.std.specs.List.{flat_map};
-ghost use Rattle.outputs.specs.Writing.{Writes};
-ghost use Rattle.outputs.specs.Output.{Puts};
+ghost use Rattle.base_outputs.specs.Writing.{Writes};
+ghost use Rattle.base_outputs.specs.Output.{Puts};
 ghost use Rattle.edit_forms.specs.declared.step.Step.{Step};
-ghost use Rattle.line_tokens.specs.Printing.{spaced};
+ghost use Rattle.script_tokens.specs.Printing.{spaced};
 ghost use Rattle.script_grammar.specs.Operands.{pieces_of};
 ghost use Rattle.script_grammar.specs.Memory.{ReadsOrWants};
 ghost use Rattle.edit_script.specs.Grammar.{braced, braced_step, steps_left, group, one, one_or_group, edit};
 ghost use Rattle.edit_script.specs.Printing.{text_of};
 ghost use Rattle.edit_forms.specs.declared.edit.Edit.TheVariants.{One, Group};
 
+use base_numbered_lists::NumberedList;
+use base_outputs::{Output, WriteFault};
 use edit_forms::{Edit, Step};
-use line_tokens::{Cursor, LineFault, Piece, put_pieces};
-use numbered_lists::NumberedList;
-use outputs::{Output, WriteFault};
 use script_grammar::fixed;
+use script_steps::{put_operands, step, word_of};
+use script_tokens::{Cursor, LineFault, Piece, put_pieces};
 use sf_base::{Failure, Lent};
 use std::alloc::Global;
 use std::io::Write;
-use step_script::{put_operands, step, word_of};
 
 // ---- read
 
 /// Reads an edit from the remaining tokens of a line, to its end. The error is the first fault from left to
 /// right, or `OutOfMemory`.
-#[tactic(auto, unfolding(crate::specs::Grammar::edit, line_tokens::specs::Parts::ended))]
+#[tactic(auto, unfolding(crate::specs::Grammar::edit, script_tokens::specs::Parts::ended))]
 pub fn edit<'p>(alloc: Global, line: &mut Cursor<'_, 'p>) -> Result<Edit<'p>, Failure<LineFault>>
     ensures reads { ReadsOrWants (λ e. e) edit line.old line.new result }
     ensures done { OnOk result (line.new.said ≡ []) }

@@ -5,7 +5,7 @@
 //!
 //! [`parse_notes`] reads note lists.
 //!
-//! An edit is a step, in one of the forms of [`step_script`], or a group of steps, `group { STEP } { STEP }
+//! An edit is a step, in one of the forms of [`script_steps`], or a group of steps, `group { STEP } { STEP }
 //! ..`. A group may be empty, and contains no groups.
 #![tactic(auto)]
 
@@ -15,6 +15,6 @@ mod parsing;
 
 pub use edits::{edit, print, put_edit};
 pub use laws::{one_reading, printed_lines_spell, spelled_edits_fit, spelled_is_read};
-pub use line_tokens::{ScriptFault, pool_of};
-pub use note_list::{Note, NoteFault, parse_notes};
 pub use parsing::{Line, parse};
+pub use script_notes::{Note, NoteFault, parse_notes};
+pub use script_tokens::{ScriptFault, pool_of};

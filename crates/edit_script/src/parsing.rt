@@ -1,15 +1,15 @@
 //! Reads the edits of a script.
 ghost use Rattle.std.specs.Prelude.{◌≡◌, Ok, IfOk};
-ghost use Rattle.line_tokens.specs.Tokens.{tokens_of};
-ghost use Rattle.line_tokens.specs.Lines.{lines_of};
-ghost use Rattle.line_tokens.specs.Said.{all_said_over, pool_after, lines_said_over};
+ghost use Rattle.script_tokens.specs.Tokens.{tokens_of};
+ghost use Rattle.script_tokens.specs.Lines.{lines_of};
+ghost use Rattle.script_tokens.specs.Said.{all_said_over, pool_after, lines_said_over};
 ghost use Rattle.edit_script.specs.Printing.{LinesFit};
-ghost use Rattle.line_tokens.specs.Pool.{Answers, pool_bytes};
+ghost use Rattle.script_tokens.specs.Pool.{Answers, pool_bytes};
 ghost use Rattle.edit_script.specs.Script.{edit_of, edits_in, script_of};
 
 use crate::edits::edit;
 use edit_forms::Edit;
-use line_tokens::{Cursor, Lines, ScriptFault};
+use script_tokens::{Cursor, Lines, ScriptFault};
 use sf_base::Failure;
 use std::alloc::Global;
 

@@ -6,7 +6,7 @@ use Rattle.modulators.specs.declared.modulator.Modulator.{Modulator}
 use Rattle.flat_records.specs.Runs.{starts}
 use Rattle.flat_records.specs.Bags.{Bag, past_bag, gens_in, mods_in, no_modulator, Tables, tables_of, bags_from}
 use Rattle.flat_records.specs.Bags.{bags_of_records, bags_in, AreRead}
-use Rattle.numbered_lists.proofs.Lists.{slice_get-within}
+use Rattle.base_numbered_lists.proofs.Lists.{slice_get-within}
 use Rattle.flat_records.proofs.Starts.{end, length-starts, starts-first, starts-end}
 use Rattle.flat_records.proofs.Ends.{last_of, last-found, some-first, joined}
 use Rattle.flat_records.proofs.TableLaws.{gens-end, mods-end}

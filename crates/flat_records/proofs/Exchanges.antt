@@ -3,7 +3,7 @@ use Rattle.std.proofs.Common.{◌≡◌, ℕ, ◌≤◌, ◌+◌, ◌-◌, List,
 use Rattle.std.proofs.Common.{length-append, length-take, length-drop, arith}
 use Rattle.std.proofs.lemmas.List.{take_at, drop_at, take-take, drop-take, drop-drop, take-append-drop}
 use Rattle.std.proofs.lemmas.List.{length-take-le, length-map}
-use Rattle.numbered_lists.specs.Moved.{changed_within}
+use Rattle.base_numbered_lists.specs.Moved.{changed_within}
 use Rattle.flat_records.specs.Runs.{exchanged, changed_exchanged}
 
 module _ {X : Type 0} (xs : List X) where

@@ -5,7 +5,7 @@ use Rattle.std.proofs.Common.{arith}
 use Rattle.std.specs.Option.{IfSome, IsSomeAnd}
 use Rattle.std.proofs.lemmas.List.{get_or_default, take_at, drop_at}
 use Rattle.std.proofs.lemmas.List.Elements.{All-drop}
-use Rattle.numbered_lists.proofs.Lists.{slice_get-found}
+use Rattle.base_numbered_lists.proofs.Lists.{slice_get-found}
 use Rattle.flat_records.specs.Runs.{starts}
 use Rattle.flat_records.specs.Bags.{Bag, past_bag, gens_in, mods_in, no_modulator, Tables}
 use Rattle.flat_records.specs.Raised.{CanRaise, CanLower}

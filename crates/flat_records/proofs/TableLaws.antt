@@ -4,8 +4,8 @@ use Rattle.std.proofs.Common.{slice_get, Some, refl, sym, ◌∙◌, ap, take, d
 use Rattle.std.proofs.Common.{length-append, zero-add, add-zero, arith}
 use Rattle.std.proofs.lemmas.List.{take_at, drop_at, set_at, length-set, length-take-le, take-append-drop}
 use Rattle.std.proofs.lemmas.List.{get_or_default}
-use Rattle.numbered_lists.specs.Moved.{changed}
-use Rattle.numbered_lists.proofs.Lists.{changed-found}
+use Rattle.base_numbered_lists.specs.Moved.{changed}
+use Rattle.base_numbered_lists.proofs.Lists.{changed-found}
 use Rattle.modulators.specs.declared.modulator.Modulator.{Modulator}
 use Rattle.flat_records.specs.Runs.{starts, changed_from, put, cut}
 use Rattle.flat_records.specs.Bags.{Bag, past_bag, gens_in, mods_in, no_modulator, Tables, tables_of, no_bag}

@@ -5,9 +5,9 @@ use Rattle.std.specs.Option.{IsSomeAnd, IfSome}
 use Rattle.std.specs.List.{flat_map}
 use Rattle.std.proofs.lemmas.List.{take-append-drop, set_at, length-take-le}
 use Rattle.std.proofs.lemmas.List.Concat.{flat_map-append}
-use Rattle.numbered_lists.specs.Moved.{changed}
+use Rattle.base_numbered_lists.specs.Moved.{changed}
 use Rattle.std.proofs.lemmas.Option.{slice_get_within, get_or_from_slice_get}
-use Rattle.numbered_lists.proofs.Lists.{slice_get-insert, slice_get-found, slice_get-slice_set, changed-found}
+use Rattle.base_numbered_lists.proofs.Lists.{slice_get-insert, slice_get-found, slice_get-slice_set, changed-found}
 use Rattle.modulators.specs.declared.modulator.Modulator.{Modulator}
 use Rattle.flat_records.specs.Runs.{cut}
 use Rattle.flat_records.specs.Bags.{Bag, no_bag}

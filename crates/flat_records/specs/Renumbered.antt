@@ -1,7 +1,7 @@
 -- Generators of one operator whose amounts are numbers of a list's members, after a change of the list.
 use Rattle.std.specs.Prelude.{◌≡◌, ◌<◌, ◌^◌, ◌==◌, ℕ, true, if◌then◌else◌, map}
-use Rattle.numbered_lists.specs.declared.renumbering.Renumbering.{Renumbering}
-use Rattle.numbered_lists.specs.Renumbered.{renumbered}
+use Rattle.base_numbered_lists.specs.declared.renumbering.Renumbering.{Renumbering}
+use Rattle.base_numbered_lists.specs.Renumbered.{renumbered}
 use Rattle.flat_records.specs.Bags.{Bag, with_gens}
 
 abbrev pub gen_renumbered : ℕ → Renumbering → ℕ × ℕ → ℕ × ℕ

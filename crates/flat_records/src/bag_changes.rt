@@ -1,7 +1,7 @@
 //! Changes of the bags of a level.
 ghost use Rattle.std.specs.Prelude.{◌≡◌, ◌≤◌, ◌<◌, ◌+◌, ◌^◌, length, insert, remove, slice_get, slice_set, Some, IfSome};
 ghost use Rattle.std.specs.Option.{IsSomeAnd};
-ghost use Rattle.numbered_lists.specs.Moved.{changed};
+ghost use Rattle.base_numbered_lists.specs.Moved.{changed};
 ghost use Rattle.flat_records.specs.Runs.{put, cut, exchanged};
 ghost use Rattle.flat_records.specs.Bags.{Bag, no_bag, gens_in, mods_in, with_gens, with_mods};
 ghost use Rattle.flat_records.specs.Stored.{Uses, Frees, counts_of, no_records};

@@ -1,7 +1,7 @@
 //! Shifts of the indexes of later bags.
 ghost use Rattle.std.specs.Prelude.{◌≡◌, ◌≤◌, ◌<◌, ◌^◌, slice_index_or, length, map, All, take, drop, ◌-◌, vec_len, vec_capacity};
 ghost use Rattle.flat_records.specs.Raised.{raised, lowered, CanRaise, CanLower};
-ghost use Rattle.numbered_lists.specs.Moved.{changed_within};
+ghost use Rattle.base_numbered_lists.specs.Moved.{changed_within};
 ghost use Rattle.flat_records.specs.Runs.{changed_from, changed_exchanged, AreWindows};
 
 use crate::pieces::exchange;

@@ -4,7 +4,7 @@ ghost use Rattle.flat_records.specs.Bags.{gens_in};
 ghost use Rattle.flat_records.specs.Renumbered.{gen_renumbered, bag_renumbered, CanRenumber};
 
 use crate::bags::Bags;
-use numbered_lists::Renumbering;
+use base_numbered_lists::Renumbering;
 
 impl Bags {
     /// Renumbers all amounts of an operator, which are numbers of a list's members. Allocates nothing.

@@ -5,5 +5,5 @@ mod session;
 mod step;
 
 pub use bank_edits::{undo_restores, undo_restores_all};
-pub use neutral_edits::{apply_neutral, is_neutral};
 pub use session::Session;
+pub use sound_neutral_edits::{apply_neutral, is_neutral};

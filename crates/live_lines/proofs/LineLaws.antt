@@ -4,14 +4,14 @@ use Rattle.std.specs.List.{list_all, list_any}
 use Rattle.std.specs.Result.{is_err}
 use Rattle.std.proofs.lemmas.Bool.{and_parts}
 use Rattle.std.proofs.lemmas.List.{append-nil}
-use Rattle.line_tokens.specs.declared.cursor.Said.{Said}
-use Rattle.line_tokens.specs.declared.cursor.Said.TheVariants.{Word, Literal, Bad}
-use Rattle.line_tokens.specs.declared.fault.ScriptFault.{ScriptFault}
-use Rattle.line_tokens.specs.Lines.{lines_of, is_feed}
-use Rattle.line_tokens.specs.Tokens.{tokens_of, tokens_for}
-use Rattle.line_tokens.specs.Said.{said, said_in, all_said_over}
-use Rattle.line_tokens.specs.Pool.{Grown, and_then, gather, literal_of, literals_of, pool_bytes}
-use Rattle.line_tokens.proofs.PoolLaws.{serves}
+use Rattle.script_tokens.specs.declared.cursor.Said.{Said}
+use Rattle.script_tokens.specs.declared.cursor.Said.TheVariants.{Word, Literal, Bad}
+use Rattle.script_tokens.specs.declared.fault.ScriptFault.{ScriptFault}
+use Rattle.script_tokens.specs.Lines.{lines_of, is_feed}
+use Rattle.script_tokens.specs.Tokens.{tokens_of, tokens_for}
+use Rattle.script_tokens.specs.Said.{said, said_in, all_said_over}
+use Rattle.script_tokens.specs.Pool.{Grown, and_then, gather, literal_of, literals_of, pool_bytes}
+use Rattle.script_tokens.proofs.PoolLaws.{serves}
 use Rattle.live_lines.specs.Requests.{HasNoFeed, is_bad}
 
 -- ---- a text without line feed is one line

@@ -3,14 +3,14 @@ use Rattle.std.proofs.Common.{◌≡◌, ℕ, Bool, true, false, List, [], ◌�
 use Rattle.std.proofs.Common.{refl, sym, ap, ◌∙◌}
 use Rattle.std.specs.List.{list_any}
 use Rattle.std.specs.Result.{IsOk}
-use Rattle.line_tokens.specs.declared.cursor.Said.{Said}
-use Rattle.line_tokens.specs.declared.cursor.Said.TheVariants.{Word, Literal, Bad}
-use Rattle.line_tokens.specs.declared.fault.LineFault.{LineFault}
-use Rattle.line_tokens.specs.declared.fault.ScriptFault.{ScriptFault}
-use Rattle.line_tokens.specs.Said.{said_in}
-use Rattle.line_tokens.specs.declared.fault.LineFault.TheVariants as line
-use Rattle.line_tokens.specs.Parts.{Took, and_then, word, or_fault}
-use Rattle.line_tokens.specs.Pool.{pool_bytes}
+use Rattle.script_tokens.specs.declared.cursor.Said.{Said}
+use Rattle.script_tokens.specs.declared.cursor.Said.TheVariants.{Word, Literal, Bad}
+use Rattle.script_tokens.specs.declared.fault.LineFault.{LineFault}
+use Rattle.script_tokens.specs.declared.fault.ScriptFault.{ScriptFault}
+use Rattle.script_tokens.specs.Said.{said_in}
+use Rattle.script_tokens.specs.declared.fault.LineFault.TheVariants as line
+use Rattle.script_tokens.specs.Parts.{Took, and_then, word, or_fault}
+use Rattle.script_tokens.specs.Pool.{pool_bytes}
 use Rattle.script_grammar.specs.Names.{named, next_named}
 use Rattle.edit_script.specs.Grammar.{edit}
 use Rattle.live_lines.specs.declared.command.Command.{Command}

@@ -8,11 +8,11 @@ use Rattle.edit_refusals.specs.declared.refusal.Refusal.TheVariants.{Of, OutOfMe
 use Rattle.edit_refusals.specs.declared.refusal.Refusal.TheVariants.{GroupRefused}
 use Rattle.edit_forms.specs.CauseNames as causes
 use Rattle.edit_refusals.specs.RefusalNames as refusals
-use Rattle.outputs.specs.declared.output_fault.OutputFault.{OutputFault}
-use Rattle.outputs.specs.OutputFaults as outputs
-use Rattle.line_tokens.specs.declared.printing.Piece.{Piece}
-use Rattle.line_tokens.specs.declared.printing.Piece.TheVariants.{Number, Word}
-use Rattle.line_tokens.specs.Printing.{line_text}
+use Rattle.base_outputs.specs.declared.output_fault.OutputFault.{OutputFault}
+use Rattle.base_outputs.specs.OutputFaults as outputs
+use Rattle.script_tokens.specs.declared.printing.Piece.{Piece}
+use Rattle.script_tokens.specs.declared.printing.Piece.TheVariants.{Number, Word}
+use Rattle.script_tokens.specs.Printing.{line_text}
 use Rattle.live_lines.specs.declared.answer.Answer.{Answer}
 use Rattle.live_lines.specs.declared.answer.Answer.TheVariants as answers
 use Rattle.live_lines.specs.declared.fault.RequestFault.{RequestFault}

@@ -1,7 +1,7 @@
 -- The numbers and names of the faults of a line.
 use Rattle.std.specs.Prelude.{ℕ, List, codes}
-use Rattle.line_tokens.specs.declared.fault.LineFault.{LineFault}
-use Rattle.line_tokens.specs.declared.fault.LineFault.TheVariants as line
+use Rattle.script_tokens.specs.declared.fault.LineFault.{LineFault}
+use Rattle.script_tokens.specs.declared.fault.LineFault.TheVariants as line
 use Rattle.live_lines.specs.declared.fault.RequestFault.{RequestFault}
 use Rattle.live_lines.specs.declared.fault.RequestFault.TheVariants.{Syntax, Number, Literal, BadNote, TooLong}
 

@@ -2,9 +2,9 @@
 use Rattle.std.specs.Prelude.{ℕ, List, [], ◌∷◌, Option, Some, None, Err, Bool, ◌&&◌, nat_le, if◌then◌else◌}
 use Rattle.std.specs.List.{list_all}
 use Rattle.std.specs.Str.{is_utf8}
-use Rattle.line_tokens.specs.declared.cursor.Said.TheVariants.{Word, Literal, Bad}
-use Rattle.line_tokens.specs.declared.fault.LineFault.TheVariants as faults
-use Rattle.line_tokens.specs.Parts.{Part, ◌>>=◌, or_fault, ended}
+use Rattle.script_tokens.specs.declared.cursor.Said.TheVariants.{Word, Literal, Bad}
+use Rattle.script_tokens.specs.declared.fault.LineFault.TheVariants as faults
+use Rattle.script_tokens.specs.Parts.{Part, ◌>>=◌, or_fault, ended}
 use Rattle.live_lines.specs.declared.paths.Paths.{Paths}
 
 -- UTF-8 without control characters

@@ -4,15 +4,15 @@ use Rattle.std.specs.Prelude.{IsTrue, if◌then◌else◌}
 use Rattle.std.specs.List.{list_all, list_any}
 use Rattle.sf_base.specs.declared.memory.Failure.{Failure}
 use Rattle.sf_base.specs.declared.memory.Failure.TheVariants as failures
-use Rattle.line_tokens.specs.declared.cursor.Said.{Said}
-use Rattle.line_tokens.specs.declared.cursor.Said.TheVariants.{Word, Literal, Bad}
-use Rattle.line_tokens.specs.declared.fault.LineFault.{LineFault}
-use Rattle.line_tokens.specs.Lines.{is_feed}
-use Rattle.line_tokens.specs.Parts.{Took, Part, ◌>>=◌, pure, most_word, most_double_word, number, ended}
+use Rattle.script_tokens.specs.declared.cursor.Said.{Said}
+use Rattle.script_tokens.specs.declared.cursor.Said.TheVariants.{Word, Literal, Bad}
+use Rattle.script_tokens.specs.declared.fault.LineFault.{LineFault}
+use Rattle.script_tokens.specs.Lines.{is_feed}
+use Rattle.script_tokens.specs.Parts.{Took, Part, ◌>>=◌, pure, most_word, most_double_word, number, ended}
 use Rattle.script_grammar.specs.Names.{next_named}
 use Rattle.edit_script.specs.Grammar.{edit}
-use Rattle.note_list.specs.declared.limits.TheConstants.{HIGHEST_KEY, HIGHEST_VELOCITY}
-use Rattle.note_list.specs.Notes.{Numbers, note_of}
+use Rattle.script_notes.specs.declared.limits.TheConstants.{HIGHEST_KEY, HIGHEST_VELOCITY}
+use Rattle.script_notes.specs.Notes.{Numbers, note_of}
 use Rattle.live_lines.specs.declared.command.Command.{Command}
 use Rattle.live_lines.specs.declared.command.Command.TheVariants as command
 use Rattle.live_lines.specs.declared.fault.RequestFault.{RequestFault}

@@ -1,16 +1,16 @@
 //! The answer to a line.
 ghost use Rattle.std.specs.Prelude.{◌≡◌, ◌∷◌, [], codes};
 ghost use Rattle.std.specs.List.{flat_map};
-ghost use Rattle.outputs.specs.Output.{Puts};
-ghost use Rattle.line_tokens.specs.Printing.{line_text, spaced};
+ghost use Rattle.base_outputs.specs.Output.{Puts};
+ghost use Rattle.script_tokens.specs.Printing.{line_text, spaced};
 ghost use Rattle.live_lines.specs.Answers.{answer_text, refused_text, refused_line, reason_pieces, detail_pieces, step_pieces, limit_pieces, fault_text, write_text, rejected_text};
 
 use crate::fault::RequestFault;
 use crate::paths::FilePath;
 use bank_validity::Limit;
+use base_outputs::{Output, OutputFault};
 use edit_refusals::{Cause, Refusal};
-use line_tokens::{Piece, put_line, put_pieces};
-use outputs::{Output, OutputFault};
+use script_tokens::{Piece, put_line, put_pieces};
 use sf_base::Lent;
 use std::io::Write;
 

@@ -3,7 +3,7 @@ ghost use Rattle.std.specs.Prelude.{◌≡◌};
 ghost use Rattle.sf_base.specs.declared.memory.Failure.TheVariants.{Fault};
 ghost use Rattle.live_lines.specs.Faults.{number_of, name_of, of_line};
 
-use line_tokens::LineFault;
+use script_tokens::LineFault;
 use sf_base::Failure;
 use thiserror::Error;
 

@@ -1,12 +1,12 @@
 //! The paths of files.
 ghost use Rattle.std.specs.Prelude.{◌≡◌, [], drop, nat_le, MatchResult, IsOk, if◌then◌else◌};
 ghost use Rattle.std.specs.List.{list_all};
-ghost use Rattle.line_tokens.specs.Tokens.{tokens_of};
-ghost use Rattle.line_tokens.specs.Said.{all_said_over};
-ghost use Rattle.line_tokens.specs.Parts.{Reads, word};
+ghost use Rattle.script_tokens.specs.Tokens.{tokens_of};
+ghost use Rattle.script_tokens.specs.Said.{all_said_over};
+ghost use Rattle.script_tokens.specs.Parts.{Reads, word};
 ghost use Rattle.live_lines.specs.Paths.{path_of, path, paths};
 
-use line_tokens::{Cursor, LineFault};
+use script_tokens::{Cursor, LineFault};
 use std::marker::Model;
 
 /// The path of a file: UTF-8 bytes without control characters.
@@ -69,7 +69,7 @@ fn has_no_controls(bytes: &[u8]) -> bool
 }
 
 // The paths after the first word of a line, to its end.
-#[tactic(auto, unfolding(crate::specs::Paths::paths, line_tokens::specs::Parts::ended))]
+#[tactic(auto, unfolding(crate::specs::Paths::paths, script_tokens::specs::Parts::ended))]
 pub(crate) fn both_paths<'t, 'p: 't>(line: &'t [u8], pool: &'p [u8]) -> Result<Paths<'t>, LineFault>
     requires { IsOk (word (all_said_over pool.now (tokens_of line.now))) }
     ensures { MatchResult result (λ p. paths (drop 1 (all_said_over pool.now (tokens_of line.now))) ≡ Ok (record { value = p; rest = [] })) (λ e. paths (drop 1 (all_said_over pool.now (tokens_of line.now))) ≡ Err e) }
@@ -107,7 +107,7 @@ fn behind_word<'t, 'p>(line: &'t [u8], pool: &'p [u8]) -> Cursor<'t, 'p>
 }
 
 // Reads the next path. A cursor can't be asked whether a word or a literal is next, so a twin tries it first.
-#[tactic(auto, unfolding(crate::specs::Paths::path, line_tokens::specs::Parts::word, line_tokens::specs::Parts::literal))]
+#[tactic(auto, unfolding(crate::specs::Paths::path, script_tokens::specs::Parts::word, script_tokens::specs::Parts::literal))]
 fn path<'t, 'p: 't>(
     line: &mut Cursor<'t, 'p>,
     mut twin: Cursor<'t, 'p>,

@@ -1,9 +1,9 @@
 //! Reads the request of a line.
 ghost use Rattle.std.specs.Prelude.{◌≡◌, drop, Ok, IfOk, IfErr, IsOk};
-ghost use Rattle.line_tokens.specs.Tokens.{tokens_of};
-ghost use Rattle.line_tokens.specs.Said.{said_in, left_over, all_said_over};
-ghost use Rattle.line_tokens.specs.Parts.{Reads, word, ended};
-ghost use Rattle.line_tokens.specs.Pool.{Answers, Fails, pool_bytes};
+ghost use Rattle.script_tokens.specs.Tokens.{tokens_of};
+ghost use Rattle.script_tokens.specs.Said.{said_in, left_over, all_said_over};
+ghost use Rattle.script_tokens.specs.Parts.{Reads, word, ended};
+ghost use Rattle.script_tokens.specs.Pool.{Answers, Fails, pool_bytes};
 ghost use Rattle.script_grammar.specs.Names.{next_named};
 ghost use Rattle.sf_base.specs.declared.memory.Failure.TheVariants.{Fault};
 ghost use Rattle.edit_forms.specs.declared.edit.Edit.{Edit};
@@ -20,9 +20,9 @@ use crate::paths::both_paths;
 use crate::request::{MOST_FRAMES, Request};
 use edit_forms::Edit;
 use edit_script::edit;
-use line_tokens::{Cursor, LineFault, pool_of};
-use note_list::{HIGHEST_KEY, HIGHEST_VELOCITY, Note};
 use script_grammar::next_named;
+use script_notes::{HIGHEST_KEY, HIGHEST_VELOCITY, Note};
+use script_tokens::{Cursor, LineFault, pool_of};
 use sf_base::Failure;
 use std::alloc::Global;
 
@@ -157,7 +157,7 @@ fn failure_of(fault: LineFault) -> Failure<RequestFault>
 }
 
 // The request, if its line is at its end.
-#[tactic(auto, unfolding(line_tokens::specs::Parts::ended))]
+#[tactic(auto, unfolding(script_tokens::specs::Parts::ended))]
 fn alone<'t, 'p>(
     request: Request<'t, 'p>,
     line: &mut Cursor<'t, 'p>,
@@ -216,7 +216,7 @@ fn some_frames<'t, 'p>(line: &mut Cursor<'t, 'p>) -> Result<Request<'t, 'p>, Fai
 }
 
 // A number of frames, to the line's end.
-#[tactic(auto, unfolding(crate::specs::Requests::frames, line_tokens::specs::Parts::ended))]
+#[tactic(auto, unfolding(crate::specs::Requests::frames, script_tokens::specs::Parts::ended))]
 fn frames(line: &mut Cursor<'_, '_>) -> Result<u32, LineFault>
     ensures { Reads (λ n. n) frames line.old line.new result }
 {

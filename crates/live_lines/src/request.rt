@@ -1,7 +1,7 @@
 //! The request of a line.
 use crate::paths::Paths;
 use edit_forms::Edit;
-use note_list::Note;
+use script_notes::Note;
 
 /// The most frames of one request, and of all requests of a session together.
 pub const MOST_FRAMES: u32 = 100_000_000;

@@ -12,9 +12,9 @@ use Rattle.mixer.specs.declared.playing.Playing.{Playing}
 use Rattle.mixer.specs.Heard.{frames}
 use Rattle.mixer.specs.Events.{Given, starts, given, is_sounding, aged, after_block, block, blocks}
 use Rattle.std.proofs.lemmas.Grind.{flat_map-append}
-use Rattle.outputs.specs.declared.output.Output.{Output}
-use Rattle.outputs.specs.Output.{Puts}
-use Rattle.outputs.proofs.OutputLaws.{Putting, putting_step}
+use Rattle.base_outputs.specs.declared.output.Output.{Output}
+use Rattle.base_outputs.specs.Output.{Puts}
+use Rattle.base_outputs.proofs.OutputLaws.{Putting, putting_step}
 use Rattle.wave_file.specs.Wave.{sample_bytes}
 use Rattle.mixer.proofs.EventLaws.{blocks_from}
 

@@ -6,7 +6,7 @@ use Rattle.std.proofs.lemmas.List.{length-map}
 use Rattle.std.proofs.lemmas.List.Elements.{Contains-get_or}
 use Rattle.bank_parts.specs.declared.parts.Parts.{Parts}
 use Rattle.bank_parts.specs.Valid.{IsValid}
-use Rattle.note_list.specs.Notes.{Numbers}
+use Rattle.script_notes.specs.Notes.{Numbers}
 use Rattle.zone_select.specs.Select.{Voice, selected}
 use Rattle.zone_select.specs.Pairs.{pairs, voice_by, listed}
 use Rattle.zone_select.proofs.PairLaws.{selected_by_pairs}

@@ -9,7 +9,7 @@ use Rattle.std.specs.Io.KnownBytes.{Appends, IsAtEnd}
 use Rattle.std.proofs.KnownBytes.{Appends-nil, Appends-trans}
 use Rattle.std.proofs.lemmas.Grind.{flat_map-append}
 use Rattle.std.proofs.lemmas.List.{map-append}
-use Rattle.line_tokens.specs.Lines.{lines_of}
+use Rattle.script_tokens.specs.Lines.{lines_of}
 use Rattle.bank_format.specs.declared.fault.Counts.{Counts}
 use Rattle.live_sessions.specs.declared.live.Live.{Live}
 use Rattle.live_sessions.specs.declared.requests.Next.{Next}

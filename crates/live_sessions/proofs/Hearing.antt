@@ -13,7 +13,7 @@ use Rattle.mixer.specs.declared.playing.Playing.{Playing}
 use Rattle.mixer.specs.Heard.{fresh}
 use Rattle.mixer.specs.Events.{Event, Edited, Started, Given, after_start, after_block, block, blocks, heard}
 use Rattle.mixer.proofs.EventLaws.{blocks_heard}
-use Rattle.note_list.specs.Notes.{Numbers}
+use Rattle.script_notes.specs.Notes.{Numbers}
 use Rattle.wave_file.specs.Wave.{sample_bytes}
 use Rattle.live_lines.specs.declared.answer.Answer.{Answer}
 use Rattle.live_lines.specs.declared.answer.Answer.TheVariants as answer

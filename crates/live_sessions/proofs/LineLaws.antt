@@ -4,7 +4,7 @@ use Rattle.std.proofs.Common.{None, IfSome, refl, sym, ap, subst, ◌∙◌}
 use Rattle.std.specs.List.{list_all}
 use Rattle.std.specs.Io.KnownBytes.{IsAtEnd}
 use Rattle.std.specs.Io.BufRead.{take_through, drop_through, DropsThrough}
-use Rattle.line_tokens.specs.Lines.{is_feed, onto, lines_of}
+use Rattle.script_tokens.specs.Lines.{is_feed, onto, lines_of}
 use Rattle.live_lines.specs.Requests.{HasNoFeed}
 use Rattle.live_sessions.specs.Turns.{Reads}
 use Rattle.live_sessions.specs.Runs.{IsFirst, IsRead}

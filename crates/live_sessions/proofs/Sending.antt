@@ -3,10 +3,10 @@ use Rattle.std.proofs.Common.{◌≡◌, ℕ, List, [], Option, Some, Result, Ok
 use Rattle.std.specs.Option.{option_map_or}
 use Rattle.bank_parts.specs.declared.parts.Parts.{Parts}
 use Rattle.bank_format.specs.declared.fault.Counts.{Counts}
-use Rattle.bank_listing.specs.Listing.{listing}
+use Rattle.show_listing.specs.Listing.{listing}
 use Rattle.inverse_edits.specs.Histories.{bank_now}
-use Rattle.outputs.specs.declared.writing.WriteFault.{WriteFault}
-use Rattle.outputs.specs.Writing as writing
+use Rattle.base_outputs.specs.declared.writing.WriteFault.{WriteFault}
+use Rattle.base_outputs.specs.Writing as writing
 use Rattle.live_sessions.specs.declared.live.Live.{Live}
 use Rattle.live_sessions.specs.declared.fault.LiveFault.{LiveFault}
 use Rattle.live_sessions.specs.Telling.{bank_told, IsSent, IsTold}

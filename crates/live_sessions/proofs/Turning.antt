@@ -7,8 +7,8 @@ use Rattle.std.specs.Io.KnownBytes.{Appends}
 use Rattle.std.proofs.KnownBytes.{Appends-nil}
 use Rattle.sf_base.specs.declared.memory.Failure.{Failure}
 use Rattle.sf_base.specs.declared.memory.Failure.TheVariants as failures
-use Rattle.line_tokens.specs.Said.{said_in}
-use Rattle.line_tokens.specs.Pool.{Fails}
+use Rattle.script_tokens.specs.Said.{said_in}
+use Rattle.script_tokens.specs.Pool.{Fails}
 use Rattle.bank_format.specs.declared.fault.Counts.{Counts}
 use Rattle.wave_file.specs.Wave.{sample_bytes}
 use Rattle.live_lines.specs.declared.answer.Answer.{Answer}

@@ -1,6 +1,6 @@
 pub use Rattle.bank_format.specs.Canon
 pub use Rattle.bank_format.specs.ReadSteps
-pub use Rattle.bank_listing.specs.Listing
+pub use Rattle.show_listing.specs.Listing
 pub use Rattle.edit_script.specs.Printing
 pub use Rattle.inverse_edits.specs.Histories
 pub use Rattle.live_lines.specs.Requests

@@ -9,8 +9,8 @@ use Rattle.bank_format.specs.declared.fault.Counts.{Counts}
 use Rattle.edit_forms.specs.declared.edit.Edit.{Edit}
 use Rattle.inverse_edits.specs.Histories.{IsHistory, bank_now, begun, IsEdited, IsRefusalNow, IsForth, IsUndoFailure}
 use Rattle.inverse_edits.specs.Histories.{IsRedoFailure, way_back}
-use Rattle.neutral_edits.specs.Neutral.{is_neutral}
-use Rattle.note_list.specs.Notes.{Numbers}
+use Rattle.sound_neutral_edits.specs.Neutral.{is_neutral}
+use Rattle.script_notes.specs.Notes.{Numbers}
 use Rattle.mixer.specs.Heard.{fresh}
 use Rattle.mixer.specs.Events.{Event, Edited, Started, Given, after_start, after_block, block}
 use Rattle.live_lines.specs.declared.answer.Answer.{Answer}

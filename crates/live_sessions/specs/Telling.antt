@@ -4,14 +4,14 @@ use Rattle.std.specs.Option.{option_map_or}
 use Rattle.std.specs.Io.KnownBytes.{Appends}
 use Rattle.bank_parts.specs.declared.parts.Parts.{Parts}
 use Rattle.bank_format.specs.declared.fault.Counts.{Counts}
-use Rattle.bank_listing.specs.Listing.{listing}
+use Rattle.show_listing.specs.Listing.{listing}
 use Rattle.inverse_edits.specs.Histories.{bank_now}
 use Rattle.live_lines.specs.declared.request.Request.{Request}
 use Rattle.live_lines.specs.declared.request.Request.TheVariants as asks
 use Rattle.live_lines.specs.declared.help.TheConstants.{HELP}
 use Rattle.sf_base.specs.declared.memory.Failure.{Failure}
 use Rattle.sf_base.specs.declared.memory.Failure.TheVariants as failures
-use Rattle.outputs.specs.declared.writing.WriteFault.{WriteFault}
+use Rattle.base_outputs.specs.declared.writing.WriteFault.{WriteFault}
 use Rattle.live_lines.specs.declared.answer.Answer.{Answer}
 use Rattle.live_lines.specs.declared.answer.Answer.TheVariants as answer
 use Rattle.live_lines.specs.declared.fault.RequestFault.{RequestFault}

@@ -4,8 +4,8 @@ use Rattle.std.specs.Prelude.{None, Result, Ok, Err}
 use Rattle.std.specs.List.{flat_map, list_any}
 use Rattle.std.specs.Option.{option_map_or}
 use Rattle.std.specs.Io.KnownBytes.{Appends}
-use Rattle.line_tokens.specs.Lines.{lines_of}
-use Rattle.line_tokens.specs.Said.{said_in}
+use Rattle.script_tokens.specs.Lines.{lines_of}
+use Rattle.script_tokens.specs.Said.{said_in}
 use Rattle.bank_format.specs.declared.fault.Counts.{Counts}
 use Rattle.mixer.specs.Events.{Event}
 use Rattle.wave_file.specs.Wave.{sample_bytes}

@@ -1,7 +1,7 @@
 //! Reads the request of a line.
 ghost use Rattle.std.specs.Prelude.{◌≡◌};
-ghost use Rattle.line_tokens.specs.Said.{said_in};
-ghost use Rattle.line_tokens.specs.Pool.{Answers};
+ghost use Rattle.script_tokens.specs.Said.{said_in};
+ghost use Rattle.script_tokens.specs.Pool.{Answers};
 ghost use Rattle.live_lines.specs.Requests.{request_of, HasNoFeed};
 
 use live_lines::{Request, RequestFault, pool_of_line, read_line};

@@ -1,14 +1,14 @@
 //! Renders and writes frames.
 ghost use Rattle.std.specs.Prelude.{◌≡◌, ◌≤◌, ◌/◌, ◌%◌, length};
 ghost use Rattle.std.specs.List.{flat_map};
-ghost use Rattle.outputs.specs.Output.{Puts};
-ghost use Rattle.outputs.specs.Writing as writing;
+ghost use Rattle.base_outputs.specs.Output.{Puts};
+ghost use Rattle.base_outputs.specs.Writing as writing;
 ghost use Rattle.mixer.specs.Events.{after_block, block};
 ghost use Rattle.wave_file.specs.Wave.{sample_bytes};
 
+use base_outputs::{Output, WriteFault};
 use byteorder::{ByteOrder, LittleEndian};
 use mixer::Player;
-use outputs::{Output, WriteFault};
 use std::io::Write;
 
 /// The most frames that are rendered at a time.

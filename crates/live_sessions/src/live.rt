@@ -8,8 +8,8 @@ use edit_forms::Edit;
 use inverse_edits::Session;
 use live_lines::Answer;
 use mixer::Player;
-use neutral_edits::is_neutral;
-use note_list::Note;
+use script_notes::Note;
+use sound_neutral_edits::is_neutral;
 use std::alloc::Global;
 use zone_select::matches;
 

@@ -1,6 +1,6 @@
 //! Runs a session line by line.
 ghost use Rattle.std.specs.Prelude.{◌≡◌, None};
-ghost use Rattle.line_tokens.specs.Lines.{lines_of};
+ghost use Rattle.script_tokens.specs.Lines.{lines_of};
 ghost use Rattle.live_lines.specs.Requests.{HasNoFeed};
 ghost use Rattle.live_sessions.specs.Telling.{told_failure};
 ghost use Rattle.live_sessions.specs.Runs.{AnswersOr, Goes, IsFirst, IsReadFault, Plays, Runs};
@@ -13,8 +13,8 @@ use crate::requests::{Kind, Next, do_request, kind_of};
 use crate::saving::Saves;
 use crate::telling::send_answer;
 use bank_format::Counts;
-use line_tokens::Lines;
 use live_lines::{Answer, RequestFault};
+use script_tokens::Lines;
 use sf_base::Failure;
 use sf_reader::read;
 use std::alloc::Global;

@@ -1,16 +1,16 @@
 //! What a session saves, and the interface that saves it.
 ghost use Rattle.std.specs.Prelude.{◌≡◌};
 ghost use Rattle.std.specs.List.{flat_map};
-ghost use Rattle.outputs.specs.Output.{Puts};
+ghost use Rattle.base_outputs.specs.Output.{Puts};
 ghost use Rattle.live_sessions.specs.Saved.{undo_text};
 ghost use Rattle.live_sessions.specs.Steps.{SaveIs};
 
 use crate::live::Live;
 use bank_core::Bank;
+use base_outputs::{Output, OutputFault};
 use edit_forms::Edit;
 use edit_script::put_edit;
 use live_lines::{Answer, Paths};
-use outputs::{Output, OutputFault};
 use std::io::Write;
 
 /// Why a bank and its undo script could not be saved.

@@ -1,6 +1,6 @@
 //! The text that answers a line.
 ghost use Rattle.std.specs.Prelude.{◌≡◌, ◌++◌, IfOk};
-ghost use Rattle.outputs.specs.Output.{Puts};
+ghost use Rattle.base_outputs.specs.Output.{Puts};
 ghost use Rattle.live_lines.specs.Answers.{answer_text};
 ghost use Rattle.live_sessions.specs.Telling.{told_text, next_of, IsSent, IsTold};
 
@@ -8,9 +8,9 @@ use crate::fault::LiveFault;
 use crate::live::Live;
 use crate::requests::{Kind, Next, next_of};
 use bank_format::Counts;
-use bank_listing::put_listing;
+use base_outputs::{Output, WriteFault};
 use live_lines::{Answer, HELP, put_answer};
-use outputs::{Output, WriteFault};
+use show_listing::put_listing;
 use std::io::Write;
 
 /// Writes the text that answers a line, flushes, and returns whether the session continues. Allocates nothing.
@@ -44,7 +44,7 @@ fn put_text<A: Write>(
 }
 
 // Puts the text before an answer.
-#[tactic(auto, using(crate::proofs::Sending::bank_is_told, outputs::proofs::OutputLaws::puts_nothing))]
+#[tactic(auto, using(crate::proofs::Sending::bank_is_told, base_outputs::proofs::OutputLaws::puts_nothing))]
 fn put_told<A: Write>(live: &Live<'_>, counts: &Counts, kind: Kind, output: &mut Output<'_, A>)
     ensures { Puts A.contents output.old output.new (told_text counts.now live.now kind) }
 {

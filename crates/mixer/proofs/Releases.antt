@@ -12,7 +12,7 @@ use Rattle.sound_tables.proofs.FloorLaws.{floor_div_is, floor_mod_is}
 use Rattle.sound_tables.proofs.OctaveLaws.{frames_case, frames_bound}
 use Rattle.bank_parts.specs.declared.parts.Sample.{Sample}
 use Rattle.bank_parts.specs.declared.parts.Parts.{Parts}
-use Rattle.note_list.specs.Notes.{Numbers}
+use Rattle.script_notes.specs.Notes.{Numbers}
 use Rattle.zone_select.specs.declared.parameters.VoiceParameters.{VoiceParameters}
 use Rattle.zone_select.specs.Amounts.{moved, parameters_of}
 use Rattle.zone_select.specs.Select.{Voice, voice_of}

@@ -4,7 +4,7 @@ use Rattle.std.proofs.Common.{length, get_or, refl, sym, ap, ◌∙◌, subst, a
 use Rattle.std.proofs.lemmas.List.{at_drop_more, at_drop_all}
 use Rattle.std.proofs.lemmas.Slice.{take-put_mid}
 use Rattle.std.proofs.lemmas.Grind.{common_steps}
-use Rattle.note_list.specs.Notes.{Numbers}
+use Rattle.script_notes.specs.Notes.{Numbers}
 use Rattle.bank_parts.specs.declared.parts.Parts.{Parts}
 use Rattle.mixer.specs.declared.playing.Playing.{Playing}
 use Rattle.mixer.specs.Heard.{Start, fresh, frames}

@@ -5,7 +5,7 @@ use Rattle.std.specs.List.{flat_map}
 use Rattle.std.specs.Option.{option_map}
 use Rattle.std.proofs.lemmas.List.{map-append}
 use Rattle.bank_parts.specs.declared.parts.Parts.{Parts}
-use Rattle.note_list.specs.Notes.{Numbers}
+use Rattle.script_notes.specs.Notes.{Numbers}
 use Rattle.zone_select.specs.Select.{Voice, selected}
 use Rattle.zone_select.specs.Pairs.{pairs, voice_by, listed}
 use Rattle.zone_select.proofs.PairLaws.{selected_by_pairs}

@@ -4,7 +4,7 @@ use Rattle.std.proofs.Common.{◌||◌, List, [], ◌∷◌, map, refl, sym, ap,
 use Rattle.std.specs.List.{list_any, range_with_len}
 use Rattle.std.proofs.lemmas.Int.{ints}
 use Rattle.std.proofs.lemmas.Bool.Decides.{nat_tests}
-use Rattle.note_list.specs.Notes.{Numbers}
+use Rattle.script_notes.specs.Notes.{Numbers}
 use Rattle.bank_parts.specs.declared.parts.Parts.{Parts}
 use Rattle.mixer.specs.declared.playing.Playing.{Playing}
 use Rattle.mixer.specs.Heard.{fresh, silences, is_silenced, voice_at, start_at, sum_at, side_at, frames, cut, is_left}

@@ -1,7 +1,7 @@
 -- Banks that give each note the same voices render identically.
 use Rattle.std.specs.Prelude.{◌≡◌, List, [], ◌∷◌}
 use Rattle.bank_parts.specs.declared.parts.Parts.{Parts}
-use Rattle.note_list.specs.Notes.{Numbers}
+use Rattle.script_notes.specs.Notes.{Numbers}
 use Rattle.zone_select.specs.Alike.{AreAlike}
 use Rattle.mixer.specs.declared.playing.Playing.{Playing}
 use Rattle.mixer.specs.Events.{Event, Edited, Started, Given, heard, blocks}

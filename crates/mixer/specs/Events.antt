@@ -2,7 +2,7 @@
 use Rattle.std.specs.Prelude.{◌≡◌, ℕ, ◌+◌, ◌*◌, ◌/◌, ℤ, Bool, not, List, [], ◌∷◌, ◌++◌, map, filter}
 use Rattle.std.specs.List.{range_with_len}
 use Rattle.bank_parts.specs.declared.parts.Parts.{Parts}
-use Rattle.note_list.specs.Notes.{Numbers}
+use Rattle.script_notes.specs.Notes.{Numbers}
 use Rattle.voices.specs.Sound.{snd}
 use Rattle.voices.specs.Place.{is_over}
 use Rattle.mixer.specs.declared.playing.Playing.{Playing}

@@ -1,7 +1,7 @@
 -- Notes sorted by start.
 use Rattle.std.specs.Prelude.{◌≡◌, ℕ, ◌≤◌, Bool, cond, nat_le, ℤ, List, [], ◌∷◌, map}
 use Rattle.bank_parts.specs.declared.parts.Parts.{Parts}
-use Rattle.note_list.specs.Notes.{Numbers}
+use Rattle.script_notes.specs.Notes.{Numbers}
 use Rattle.mixer.specs.Heard.{Start, fresh, sum_at, frames}
 use Rattle.mixer.specs.Render.{notes_at}
 

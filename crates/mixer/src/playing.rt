@@ -10,7 +10,7 @@ ghost use Rattle.mixer.specs.Ahead.{rewound};
 ghost use Rattle.mixer.specs.KeptVoices.{AllSounding, AllYounger, lifetime};
 
 use bank_core::Bank;
-use note_list::Note;
+use script_notes::Note;
 use sf_base::OutOfMemory;
 use std::alloc::Global;
 use voices::{Voice, VoiceFault};

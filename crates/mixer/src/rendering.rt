@@ -9,8 +9,8 @@ ghost use Rattle.mixer.specs.Order.{IsRising, StartWithin};
 
 use crate::player::Player;
 use bank_core::Bank;
-use note_list::Note;
-use progress::{Progress, Unheard, Work};
+use base_progress::{Progress, Unheard, Work};
+use script_notes::Note;
 use sf_base::OutOfMemory;
 use sound_tables::MOST_FRAMES;
 use std::alloc::Global;

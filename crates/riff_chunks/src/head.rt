@@ -1,10 +1,10 @@
 //! Writing chunks: the header of a chunk, its id and size, and its body.
 ghost use Rattle.std.specs.Prelude.{◌≡◌};
-ghost use Rattle.outputs.specs.Output.{Puts};
+ghost use Rattle.base_outputs.specs.Output.{Puts};
 ghost use Rattle.riff_chunks.specs.Spelling.{chunk_head};
 
+use base_outputs::Output;
 use byteorder::{ByteOrder, LittleEndian};
-use outputs::Output;
 use std::io::Write;
 
 /// An output that chunks are written to, first the header of a chunk and then its body.

@@ -11,13 +11,13 @@ use Rattle.bank_parts.specs.declared.parts.Kind.{Kind}
 use Rattle.bank_parts.specs.declared.parts.Kind.TheVariants.{Mono, Right, Left, Linked}
 use Rattle.bank_parts.specs.declared.parts.Sample.{Sample}
 use Rattle.bank_parts.specs.Fits.{FitsText, FitsKind, FitsLoop, FitsSample}
-use Rattle.zone_ranges.specs.declared.axes.Axis.{Axis}
-use Rattle.zone_ranges.specs.declared.axes.Axis.TheVariants as axis
-use Rattle.zone_ranges.specs.declared.axes.Keep.{Keep}
-use Rattle.zone_ranges.specs.declared.axes.Keep.TheVariants as keep
-use Rattle.line_tokens.specs.declared.cursor.Said.{Said}
-use Rattle.line_tokens.specs.Parts.{most_word, most_double_word}
-use Rattle.line_tokens.specs.Spelling.{WritesSigned, IsWithin}
+use Rattle.bank_zone_ranges.specs.declared.axes.Axis.{Axis}
+use Rattle.bank_zone_ranges.specs.declared.axes.Axis.TheVariants as axis
+use Rattle.bank_zone_ranges.specs.declared.axes.Keep.{Keep}
+use Rattle.bank_zone_ranges.specs.declared.axes.Keep.TheVariants as keep
+use Rattle.script_tokens.specs.declared.cursor.Said.{Said}
+use Rattle.script_tokens.specs.Parts.{most_word, most_double_word}
+use Rattle.script_tokens.specs.Spelling.{WritesSigned, IsWithin}
 use Rattle.script_grammar.specs.Operands.{Operand, Fixed, Number, Signed, Amount, Range, Name, Text, Points, Says}
 use Rattle.script_grammar.specs.Operands.{AllSay}
 use Rattle.script_grammar.specs.Samples.{kind_operands, loop_operands, tune_operands, head_operands, body_operands}

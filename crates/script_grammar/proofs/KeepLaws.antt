@@ -3,9 +3,9 @@ use Rattle.std.proofs.Common.{◌≡◌, ◌≤◌, ℕ, Bool, true, false, List
 use Rattle.std.proofs.Common.{arith}
 use Rattle.std.specs.Str.{bytes_eq}
 use Rattle.bank_parts.specs.declared.parts.Zone.{Zone}
-use Rattle.line_tokens.specs.declared.fault.LineFault.TheVariants as faults
-use Rattle.line_tokens.specs.Parts.{◌>>=◌, pure, is_next, word, literal, most_word, most_double_word, name}
-use Rattle.line_tokens.proofs.ReadLaws.{literal_is}
+use Rattle.script_tokens.specs.declared.fault.LineFault.TheVariants as faults
+use Rattle.script_tokens.specs.Parts.{◌>>=◌, pure, is_next, word, literal, most_word, most_double_word, name}
+use Rattle.script_tokens.proofs.ReadLaws.{literal_is}
 use Rattle.script_grammar.specs.Names.{next_named}
 use Rattle.script_grammar.specs.Samples.{kind_behind, kind, loop_behind, looped, points, tune, body}
 use Rattle.script_grammar.specs.Texts.{id_word, ids, info_id}

@@ -2,9 +2,9 @@
 use Rattle.std.proofs.Common.{◌≡◌, Result, Ok, Err, ap, ◌∙◌}
 use Rattle.sf_base.specs.declared.memory.Failure.{Failure}
 use Rattle.sf_base.specs.declared.memory.Failure.TheVariants.{Fault, OutOfMemory}
-use Rattle.line_tokens.specs.declared.fault.LineFault.{LineFault}
-use Rattle.line_tokens.specs.Said.{Left}
-use Rattle.line_tokens.specs.Parts.{Took, Part, and_then, ◌>>=◌}
+use Rattle.script_tokens.specs.declared.fault.LineFault.{LineFault}
+use Rattle.script_tokens.specs.Said.{Left}
+use Rattle.script_tokens.specs.Parts.{Took, Part, and_then, ◌>>=◌}
 use Rattle.script_grammar.specs.Memory.{ReadsOrWants}
 
 module _ {X Y : Type 0} (p : Part X) (f : X → Part Y) where

@@ -7,10 +7,10 @@ use Rattle.std.proofs.lemmas.Slice.Eq.{bytes_eq-Decides}
 use Rattle.bank_parts.specs.declared.texts.InfoId.{InfoId}
 use Rattle.bank_parts.specs.declared.texts.InfoId.TheVariants.{Engine, Name, Date, Engineers, Product, Copyright}
 use Rattle.bank_parts.specs.declared.texts.InfoId.TheVariants.{Comment, Software}
-use Rattle.zone_ranges.specs.declared.axes.Axis.{Axis}
-use Rattle.zone_ranges.specs.declared.axes.Axis.TheVariants as axis
-use Rattle.zone_ranges.specs.declared.axes.Keep.{Keep}
-use Rattle.zone_ranges.specs.declared.axes.Keep.TheVariants as keep
+use Rattle.bank_zone_ranges.specs.declared.axes.Axis.{Axis}
+use Rattle.bank_zone_ranges.specs.declared.axes.Axis.TheVariants as axis
+use Rattle.bank_zone_ranges.specs.declared.axes.Keep.{Keep}
+use Rattle.bank_zone_ranges.specs.declared.axes.Keep.TheVariants as keep
 use Rattle.script_grammar.specs.Names.{named}
 use Rattle.script_grammar.specs.Texts.{id_word, ids}
 use Rattle.script_grammar.specs.Ranges.{axis_word, axes, keep_word, keeps}

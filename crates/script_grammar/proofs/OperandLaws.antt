@@ -10,11 +10,11 @@ use Rattle.sf_base.specs.Names.{IsName}
 use Rattle.sample_view.specs.Words.{word_bytes}
 use Rattle.sample_view.proofs.WordLaws.{words_of_bytes}
 use Rattle.bank_parts.specs.Fits.{FitsText}
-use Rattle.line_tokens.specs.Spelling.{is_word, IsWithin}
-use Rattle.line_tokens.proofs.TestLaws.{not_feed}
-use Rattle.line_tokens.proofs.PieceLaws.{meant, Spoken, AllSpoken, writes, writes_signed, writes_range, range_text}
-use Rattle.line_tokens.proofs.PieceLaws.{spoken_number, spoken_signed, spoken_range, spoken_word, spoken_name}
-use Rattle.line_tokens.proofs.PieceLaws.{spoken_bytes, spoken_hex, are_bytes}
+use Rattle.script_tokens.specs.Spelling.{is_word, IsWithin}
+use Rattle.script_tokens.proofs.TestLaws.{not_feed}
+use Rattle.script_tokens.proofs.PieceLaws.{meant, Spoken, AllSpoken, writes, writes_signed, writes_range, range_text}
+use Rattle.script_tokens.proofs.PieceLaws.{spoken_number, spoken_signed, spoken_range, spoken_word, spoken_name}
+use Rattle.script_tokens.proofs.PieceLaws.{spoken_bytes, spoken_hex, are_bytes}
 use Rattle.script_grammar.specs.Operands.{Operand, Fixed, Number, Signed, Amount, Range, Name, Text, Points, Says}
 use Rattle.script_grammar.specs.Operands.{AllSay, piece_of, pieces_of}
 

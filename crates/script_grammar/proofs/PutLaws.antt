@@ -1,11 +1,11 @@
 -- A line that is written part by part has all its operands.
 use Rattle.std.proofs.Common.{◌≡◌, ℕ, List, [], ◌∷◌, ◌++◌, Option, refl, sym, ap, ◌∙◌, append_assoc}
 use Rattle.std.specs.List.{flat_map}
-use Rattle.outputs.specs.declared.output.Output.{Output}
-use Rattle.outputs.specs.Output.{Puts}
-use Rattle.outputs.proofs.OutputLaws.{puts_then, puts_as}
+use Rattle.base_outputs.specs.declared.output.Output.{Output}
+use Rattle.base_outputs.specs.Output.{Puts}
+use Rattle.base_outputs.proofs.OutputLaws.{puts_then, puts_as}
 use Rattle.bank_parts.specs.declared.parts.Sample.{Sample}
-use Rattle.line_tokens.specs.Printing.{spaced}
+use Rattle.script_tokens.specs.Printing.{spaced}
 use Rattle.script_grammar.specs.Operands.{Operand, Name, Points, piece_of, pieces_of}
 use Rattle.script_grammar.specs.Samples.{kind_operands, loop_operands, tune_operands, head_operands, body_operands}
 

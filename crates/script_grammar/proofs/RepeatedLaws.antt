@@ -1,11 +1,11 @@
 -- A repeated part: how many tokens it consumes, how it continues, and how it ends.
 use Rattle.std.proofs.Common.{◌≡◌, ◌≤◌, ◌<◌, ℕ, zero, suc, Bool, true, false, cond, List, ◌∷◌, length, Option}
 use Rattle.std.proofs.Common.{Result, Ok, Err, refl, sym, ap, ◌∙◌, arith}
-use Rattle.line_tokens.specs.declared.cursor.Said.{Said}
-use Rattle.line_tokens.specs.declared.cursor.Said.TheVariants.{Word}
-use Rattle.line_tokens.specs.declared.fault.LineFault.{LineFault}
-use Rattle.line_tokens.specs.Parts.{Took, Part, and_then, ◌>>=◌, pure, or_fault, word, number, signed, range}
-use Rattle.line_tokens.proofs.ReadLaws.{AllHoldBytes, both, or_fault_is, word_is, number_is, signed_is, range_is}
+use Rattle.script_tokens.specs.declared.cursor.Said.{Said}
+use Rattle.script_tokens.specs.declared.cursor.Said.TheVariants.{Word}
+use Rattle.script_tokens.specs.declared.fault.LineFault.{LineFault}
+use Rattle.script_tokens.specs.Parts.{Took, Part, and_then, ◌>>=◌, pure, or_fault, word, number, signed, range}
+use Rattle.script_tokens.proofs.ReadLaws.{AllHoldBytes, both, or_fault_is, word_is, number_is, signed_is, range_is}
 use Rattle.script_grammar.specs.Repeated.{repeated_within, repeated}
 
 -- ---- consumed tokens

@@ -8,12 +8,12 @@ use Rattle.bank_parts.specs.declared.texts.InfoId.{InfoId}
 use Rattle.bank_parts.specs.declared.parts.Kind.{Kind}
 use Rattle.bank_parts.specs.declared.parts.Kind.TheVariants.{Mono, Right, Left, Linked}
 use Rattle.bank_parts.specs.declared.parts.Sample.{Sample}
-use Rattle.line_tokens.specs.declared.cursor.Said.{Said}
-use Rattle.line_tokens.specs.declared.cursor.Said.TheVariants.{Literal}
-use Rattle.line_tokens.specs.declared.fault.LineFault.TheVariants as faults
-use Rattle.line_tokens.specs.Parts.{Part, and_then, ◌>>=◌, pure, or_fault, word, literal, number, signed, name}
-use Rattle.line_tokens.specs.Parts.{most_word, most_double_word}
-use Rattle.line_tokens.proofs.SpellLaws as tokens
+use Rattle.script_tokens.specs.declared.cursor.Said.{Said}
+use Rattle.script_tokens.specs.declared.cursor.Said.TheVariants.{Literal}
+use Rattle.script_tokens.specs.declared.fault.LineFault.TheVariants as faults
+use Rattle.script_tokens.specs.Parts.{Part, and_then, ◌>>=◌, pure, or_fault, word, literal, number, signed, name}
+use Rattle.script_tokens.specs.Parts.{most_word, most_double_word}
+use Rattle.script_tokens.proofs.SpellLaws as tokens
 use Rattle.script_grammar.specs.Operands.{Operand, Fixed, Number, Signed, Name, Text, Points, AllSay}
 use Rattle.script_grammar.specs.Names.{named, next_named, fixed_by, fixed}
 use Rattle.script_grammar.specs.Texts.{id_word, ids, info_id}

@@ -23,8 +23,8 @@ use Rattle.modulators.specs.Modulators.{FitsModulator}
 use Rattle.bank_parts.specs.declared.parts.GlobalZone.{GlobalZone}
 use Rattle.bank_parts.specs.declared.parts.Zone.{Zone}
 use Rattle.bank_parts.specs.Fits.{FitsGlobal, FitsZone}
-use Rattle.line_tokens.specs.Parts.{most_word}
-use Rattle.line_tokens.specs.Spelling.{IsWithin}
+use Rattle.script_tokens.specs.Parts.{most_word}
+use Rattle.script_tokens.specs.Spelling.{IsWithin}
 use Rattle.script_grammar.specs.declared.items.Item.{Item}
 use Rattle.script_grammar.specs.declared.items.Item.TheVariants as item
 use Rattle.script_grammar.specs.Operands.{Amount, Range}

@@ -4,13 +4,13 @@ use Rattle.std.proofs.Common.{refl, sym, ap, subst, ◌∙◌, append_assoc}
 use Rattle.std.specs.Prelude.{◌==◌}
 use Rattle.std.specs.List.{flat_map}
 use Rattle.std.specs.FinMap.{len}
-use Rattle.outputs.specs.declared.output.Output.{Output}
-use Rattle.outputs.specs.Output.{Puts}
-use Rattle.outputs.proofs.OutputLaws.{puts_as, Putting, putting_member}
+use Rattle.base_outputs.specs.declared.output.Output.{Output}
+use Rattle.base_outputs.specs.Output.{Puts}
+use Rattle.base_outputs.proofs.OutputLaws.{puts_as, Putting, putting_member}
 use Rattle.modulators.specs.declared.modulator.Modulator.{Modulator}
 use Rattle.bank_parts.specs.declared.parts.GlobalZone.{GlobalZone}
 use Rattle.bank_parts.specs.declared.parts.Zone.{Zone}
-use Rattle.line_tokens.specs.Parts.{most_word}
+use Rattle.script_tokens.specs.Parts.{most_word}
 use Rattle.script_grammar.specs.declared.items.Item.{Item}
 use Rattle.script_grammar.specs.declared.items.Item.TheVariants as item
 use Rattle.script_grammar.specs.Operands.{Operand, Fixed, Number}

@@ -10,11 +10,11 @@ use Rattle.generators.specs.Ranges.{is_range_operator}
 use Rattle.modulators.specs.declared.modulator.Modulator.{Modulator}
 use Rattle.bank_parts.specs.declared.parts.GlobalZone.{GlobalZone}
 use Rattle.bank_parts.specs.declared.parts.Zone.{Zone}
-use Rattle.line_tokens.specs.declared.cursor.Said.{Said}
-use Rattle.line_tokens.specs.declared.cursor.Said.TheVariants.{Word}
-use Rattle.line_tokens.specs.declared.fault.LineFault.TheVariants as faults
-use Rattle.line_tokens.specs.Parts.{Took, ◌>>=◌, pure, or_fault, is_next, word, most_word, number, signed, range}
-use Rattle.line_tokens.proofs.ReadLaws.{AllHoldBytes, both, word_is, signed_is, range_is}
+use Rattle.script_tokens.specs.declared.cursor.Said.{Said}
+use Rattle.script_tokens.specs.declared.cursor.Said.TheVariants.{Word}
+use Rattle.script_tokens.specs.declared.fault.LineFault.TheVariants as faults
+use Rattle.script_tokens.specs.Parts.{Took, ◌>>=◌, pure, or_fault, is_next, word, most_word, number, signed, range}
+use Rattle.script_tokens.proofs.ReadLaws.{AllHoldBytes, both, word_is, signed_is, range_is}
 use Rattle.script_grammar.specs.declared.items.Item.{Item}
 use Rattle.script_grammar.specs.declared.items.Item.TheVariants as item
 use Rattle.script_grammar.specs.Operands.{Operand, Fixed, Number, Signed, Amount, Range}

@@ -10,10 +10,10 @@ use Rattle.generators.specs.Ranges.{is_range_operator}
 use Rattle.modulators.specs.declared.modulator.Modulator.{Modulator}
 use Rattle.bank_parts.specs.declared.parts.GlobalZone.{GlobalZone}
 use Rattle.bank_parts.specs.declared.parts.Zone.{Zone}
-use Rattle.line_tokens.specs.declared.cursor.Said.{Said}
-use Rattle.line_tokens.specs.Parts.{Part, and_then, ◌>>=◌, pure, is_next, is_digit, most_word, signed, range}
-use Rattle.line_tokens.specs.Spelling.{Writes}
-use Rattle.line_tokens.proofs.SpellLaws as tokens
+use Rattle.script_tokens.specs.declared.cursor.Said.{Said}
+use Rattle.script_tokens.specs.Parts.{Part, and_then, ◌>>=◌, pure, is_next, is_digit, most_word, signed, range}
+use Rattle.script_tokens.specs.Spelling.{Writes}
+use Rattle.script_tokens.proofs.SpellLaws as tokens
 use Rattle.script_grammar.specs.declared.items.Item.{Item}
 use Rattle.script_grammar.specs.declared.items.Item.TheVariants as item
 use Rattle.script_grammar.specs.Operands.{Operand, Fixed, Number, Signed, Amount, Range, AllSay}

@@ -8,8 +8,8 @@ use Rattle.generators.specs.Gens.{no_gens}
 use Rattle.generators.specs.Ranges.{is_range_operator}
 use Rattle.modulators.specs.declared.modulator.Modulator.{Modulator}
 use Rattle.bank_parts.specs.declared.parts.GlobalZone.{GlobalZone}
-use Rattle.line_tokens.specs.declared.fault.LineFault.TheVariants as faults
-use Rattle.line_tokens.specs.Parts.{Part, ◌>>=◌, pure, or_fault, is_next, word, most_word, number, signed, range}
+use Rattle.script_tokens.specs.declared.fault.LineFault.TheVariants as faults
+use Rattle.script_tokens.specs.Parts.{Part, ◌>>=◌, pure, or_fault, is_next, word, most_word, number, signed, range}
 use Rattle.script_grammar.specs.declared.items.Item.{Item}
 use Rattle.script_grammar.specs.declared.items.Item.TheVariants as item
 use Rattle.script_grammar.specs.Repeated.{repeated}

@@ -2,9 +2,9 @@
 use Rattle.std.specs.Prelude.{◌≡◌, Result, Ok, Err}
 use Rattle.sf_base.specs.declared.memory.Failure.{Failure}
 use Rattle.sf_base.specs.declared.memory.Failure.TheVariants.{Fault, OutOfMemory}
-use Rattle.line_tokens.specs.declared.fault.LineFault.{LineFault}
-use Rattle.line_tokens.specs.Said as saying
-use Rattle.line_tokens.specs.Parts.{Part}
+use Rattle.script_tokens.specs.declared.fault.LineFault.{LineFault}
+use Rattle.script_tokens.specs.Said as saying
+use Rattle.script_tokens.specs.Parts.{Part}
 
 -- the contract of a function that implements such a parser; a failed allocation may replace any result
 abbrev pub ReadsOrWants : {X Y : Type 0} → (X → Y) → Part Y → saying.Left → saying.Left

@@ -1,8 +1,8 @@
 -- Values that a word of the script names.
 use Rattle.std.specs.Prelude.{ℕ, List, [], ◌∷◌, Option, Some, None, if◌then◌else◌}
 use Rattle.std.specs.Str.{bytes_eq}
-use Rattle.line_tokens.specs.declared.fault.LineFault.TheVariants as faults
-use Rattle.line_tokens.specs.Parts.{Part, ◌>>=◌, pure, or_fault, word}
+use Rattle.script_tokens.specs.declared.fault.LineFault.TheVariants as faults
+use Rattle.script_tokens.specs.Parts.{Part, ◌>>=◌, pure, or_fault, word}
 
 -- the first of these values that has this word
 abbrev pub named : {X : Type 0} → (X → List ℕ) → List X → List ℕ → Option X

@@ -5,11 +5,11 @@ use Rattle.std.specs.List.{flat_map}
 use Rattle.sf_base.specs.Names.{IsName}
 use Rattle.sample_view.specs.Words.{words, word_bytes}
 use Rattle.bank_parts.specs.Fits.{FitsText}
-use Rattle.line_tokens.specs.declared.cursor.Said.{Said}
-use Rattle.line_tokens.specs.declared.cursor.Said.TheVariants.{Word, Literal}
-use Rattle.line_tokens.specs.declared.printing.Piece.{Piece}
-use Rattle.line_tokens.specs.declared.printing.Piece.TheVariants as piece
-use Rattle.line_tokens.specs.Spelling.{Writes, WritesSigned, WritesRange}
+use Rattle.script_tokens.specs.declared.cursor.Said.{Said}
+use Rattle.script_tokens.specs.declared.cursor.Said.TheVariants.{Word, Literal}
+use Rattle.script_tokens.specs.declared.printing.Piece.{Piece}
+use Rattle.script_tokens.specs.declared.printing.Piece.TheVariants as piece
+use Rattle.script_tokens.specs.Spelling.{Writes, WritesSigned, WritesRange}
 
 -- an operand: a fixed word, a number up to a limit, a signed number from minus the limit minus 1 up to the
 -- limit, a signed number of 16 bits as its WORD, the ends of a range, a name, a text, points as WORDs of 16

@@ -1,9 +1,9 @@
 -- The words for a zone's axis, and for whether it keeps its own range.
 use Rattle.std.specs.Prelude.{ℕ, List, [], ◌∷◌, codes}
-use Rattle.zone_ranges.specs.declared.axes.Axis.{Axis}
-use Rattle.zone_ranges.specs.declared.axes.Axis.TheVariants as axis
-use Rattle.zone_ranges.specs.declared.axes.Keep.{Keep}
-use Rattle.zone_ranges.specs.declared.axes.Keep.TheVariants as keep
+use Rattle.bank_zone_ranges.specs.declared.axes.Axis.{Axis}
+use Rattle.bank_zone_ranges.specs.declared.axes.Axis.TheVariants as axis
+use Rattle.bank_zone_ranges.specs.declared.axes.Keep.{Keep}
+use Rattle.bank_zone_ranges.specs.declared.axes.Keep.TheVariants as keep
 
 -- the axis of a range: key or velocity
 abbrev pub axis_word : Axis → List ℕ

@@ -1,8 +1,8 @@
 -- A part of a line that is repeated up to an end.
 use Rattle.std.specs.Prelude.{ℕ, zero, suc, List, length, Err, Bool, if◌then◌else◌}
-use Rattle.line_tokens.specs.declared.cursor.Said.{Said}
-use Rattle.line_tokens.specs.declared.fault.LineFault.TheVariants as faults
-use Rattle.line_tokens.specs.Parts.{Part, ◌>>=◌}
+use Rattle.script_tokens.specs.declared.cursor.Said.{Said}
+use Rattle.script_tokens.specs.declared.fault.LineFault.TheVariants as faults
+use Rattle.script_tokens.specs.Parts.{Part, ◌>>=◌}
 
 -- up to n repetitions: the value of each part is added to the state, and the last parser makes the result
 unfoldable pub repeated_within : {X Y : Type 0} → (List Said → Bool) → (Y → Part Y) → Part X → (Y → X → Y) → ℕ → Y

@@ -5,9 +5,9 @@ use Rattle.sample_view.specs.Words.{words}
 use Rattle.bank_parts.specs.declared.parts.Kind.{Kind}
 use Rattle.bank_parts.specs.declared.parts.Kind.TheVariants.{Mono, Right, Left, Linked}
 use Rattle.bank_parts.specs.declared.parts.Sample.{Sample}
-use Rattle.line_tokens.specs.declared.fault.LineFault.TheVariants as faults
-use Rattle.line_tokens.specs.Parts.{Part, ◌>>=◌, pure, or_fault, word, literal, number, signed, name}
-use Rattle.line_tokens.specs.Parts.{most_word, most_double_word}
+use Rattle.script_tokens.specs.declared.fault.LineFault.TheVariants as faults
+use Rattle.script_tokens.specs.Parts.{Part, ◌>>=◌, pure, or_fault, word, literal, number, signed, name}
+use Rattle.script_tokens.specs.Parts.{most_word, most_double_word}
 use Rattle.script_grammar.specs.Operands.{Operand, Fixed, Number, Signed, Name, Points}
 
 -- ---- the operands on a line

@@ -3,7 +3,7 @@ use Rattle.std.specs.Prelude.{ℕ, List, [], ◌∷◌, codes}
 use Rattle.bank_parts.specs.declared.texts.InfoId.{InfoId}
 use Rattle.bank_parts.specs.declared.texts.InfoId.TheVariants.{Engine, Name, Date, Engineers, Product, Copyright}
 use Rattle.bank_parts.specs.declared.texts.InfoId.TheVariants.{Comment, Software}
-use Rattle.line_tokens.specs.Parts.{Part}
+use Rattle.script_tokens.specs.Parts.{Part}
 use Rattle.script_grammar.specs.Names.{next_named}
 
 -- the id of a text's chunk

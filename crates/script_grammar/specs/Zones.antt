@@ -7,8 +7,8 @@ use Rattle.modulators.specs.declared.modulator.Modulator.{Modulator}
 use Rattle.generators.specs.Gens.{Gens}
 use Rattle.bank_parts.specs.declared.parts.GlobalZone.{GlobalZone}
 use Rattle.bank_parts.specs.declared.parts.Zone.{Zone}
-use Rattle.line_tokens.specs.declared.cursor.Said.{Said}
-use Rattle.line_tokens.specs.Parts.{Part, ◌>>=◌, pure, is_next, word, most_word, number}
+use Rattle.script_tokens.specs.declared.cursor.Said.{Said}
+use Rattle.script_tokens.specs.Parts.{Part, ◌>>=◌, pure, is_next, word, most_word, number}
 use Rattle.script_grammar.specs.declared.items.Item.{Item}
 use Rattle.script_grammar.specs.declared.items.Item.TheVariants as item
 use Rattle.script_grammar.specs.Repeated.{repeated}

@@ -1,15 +1,15 @@
 //! Reads the items of a zone: generators and modulators.
 ghost use Rattle.std.specs.Prelude.{◌≡◌, OnOk};
-ghost use Rattle.line_tokens.specs.Parts.{Reads};
+ghost use Rattle.script_tokens.specs.Parts.{Reads};
 ghost use Rattle.script_grammar.specs.Items.{an_item, item_behind, amount, generator, modulator, items, with_item, no_content};
 ghost use Rattle.script_grammar.specs.Memory.{ReadsOrWants};
 
 use crate::names::says;
 use bank_parts::GlobalZone;
+use base_numbered_lists::NumberedList;
 use generators::{GenMap, Range, is_range_operator};
-use line_tokens::{Cursor, LineFault};
 use modulators::Modulator;
-use numbered_lists::NumberedList;
+use script_tokens::{Cursor, LineFault};
 use sf_base::{Failure, OutOfMemory};
 use std::alloc::Global;
 

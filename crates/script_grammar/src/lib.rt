@@ -1,6 +1,6 @@
 //! The parts that several forms of edit have on their lines: samples, zones, generators and modulators.
 //!
-//! A part is read from a [`Cursor`](line_tokens::Cursor) by one function, and written by another, each token
+//! A part is read from a [`Cursor`](script_tokens::Cursor) by one function, and written by another, each token
 //! after a space. The parts are a fixed word ([`fixed`]), a word of a list of words ([`next_named`]), the id
 //! of a text ([`info_id`]), a sample, `NAME RATE KEY CORR KIND LOOP POINTS` ([`sample_body`]), or some of it,
 //! `RATE KEY CORR` ([`tune`]), `KIND` ([`kind`]), `LOOP` ([`looped`]) or `POINTS` ([`points`]), the zones of

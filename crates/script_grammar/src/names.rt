@@ -1,10 +1,10 @@
 //! Values that a word of the script names.
 ghost use Rattle.std.specs.Prelude.{◌≡◌};
 ghost use Rattle.std.specs.Str.{bytes_eq};
-ghost use Rattle.line_tokens.specs.Parts.{Reads};
+ghost use Rattle.script_tokens.specs.Parts.{Reads};
 ghost use Rattle.script_grammar.specs.Names.{named, next_named, fixed};
 
-use line_tokens::{Cursor, LineFault};
+use script_tokens::{Cursor, LineFault};
 
 /// A type whose values are finitely many and each have a word in scripts.
 pub trait HasWord: Copy + 'static {

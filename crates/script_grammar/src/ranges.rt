@@ -3,7 +3,7 @@ ghost use Rattle.std.specs.Prelude.{◌≡◌};
 ghost use Rattle.script_grammar.specs.Ranges.{axis_word, axes, keep_word, keeps};
 
 use crate::names::HasWord;
-use zone_ranges::{Axis, Keep};
+use bank_zone_ranges::{Axis, Keep};
 
 static AXES: [Axis; 2] = [Axis::Key, Axis::Vel];
 

@@ -1,18 +1,18 @@
 //! Reads and writes the parts of a sample.
 ghost use Rattle.std.specs.Prelude.{◌≡◌, ◌∷◌, []};
 ghost use Rattle.std.specs.List.{flat_map};
-ghost use Rattle.outputs.specs.Output.{Puts};
-ghost use Rattle.line_tokens.specs.Parts.{most_word, Reads};
-ghost use Rattle.line_tokens.specs.Printing.{spaced};
+ghost use Rattle.base_outputs.specs.Output.{Puts};
+ghost use Rattle.script_tokens.specs.Parts.{most_word, Reads};
+ghost use Rattle.script_tokens.specs.Printing.{spaced};
 ghost use Rattle.script_grammar.specs.Operands as operand;
 ghost use Rattle.script_grammar.specs.Operands.{pieces_of};
 ghost use Rattle.script_grammar.specs.Samples.{kind_operands, loop_operands, tune_operands, head_operands, body_operands, kind, looped, points_of, points, tune, body};
 
 use crate::names::says;
 use bank_parts::{Kind, Sample};
-use line_tokens::{Cursor, Joined, LineFault, Piece, put_pieces};
-use outputs::Output;
+use base_outputs::Output;
 use sample_view::Points;
+use script_tokens::{Cursor, Joined, LineFault, Piece, put_pieces};
 use sf_base::{Lent, Name20};
 use std::alloc::Global;
 use std::io::Write;

@@ -1,11 +1,11 @@
 //! Reads the id of one of a bank's texts.
 ghost use Rattle.std.specs.Prelude.{◌≡◌};
-ghost use Rattle.line_tokens.specs.Parts.{Reads};
+ghost use Rattle.script_tokens.specs.Parts.{Reads};
 ghost use Rattle.script_grammar.specs.Texts.{id_word, ids, info_id};
 
 use crate::names::{HasWord, next_named};
 use bank_parts::InfoId;
-use line_tokens::{Cursor, LineFault};
+use script_tokens::{Cursor, LineFault};
 
 static IDS: [InfoId; 8] = [
     InfoId::Engine,

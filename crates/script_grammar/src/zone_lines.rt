@@ -1,10 +1,10 @@
 //! Writes zones.
 ghost use Rattle.std.specs.Prelude.{◌≡◌, ◌∷◌, []};
 ghost use Rattle.std.specs.List.{flat_map};
-ghost use Rattle.outputs.specs.Output.{Puts};
+ghost use Rattle.base_outputs.specs.Output.{Puts};
 ghost use Rattle.bank_parts.specs.declared.parts.Zone.{Zone};
 ghost use Rattle.modulators.specs.declared.modulator.Modulator.{Modulator};
-ghost use Rattle.line_tokens.specs.Printing.{spaced};
+ghost use Rattle.script_tokens.specs.Printing.{spaced};
 ghost use Rattle.script_grammar.specs.Operands as operand;
 ghost use Rattle.script_grammar.specs.Operands.{piece_of, pieces_of};
 ghost use Rattle.script_grammar.specs.declared.items.Item.TheVariants as item;
@@ -12,10 +12,10 @@ ghost use Rattle.script_grammar.specs.Items.{amount_operand, generator_operands,
 ghost use Rattle.script_grammar.specs.Zones.{listed_items, global_of, global_operands, zone_operands, written_zone, written_of, written_operands};
 
 use bank_parts::{GlobalZone, Zone};
+use base_outputs::Output;
 use generators::{Range, is_range_operator};
-use line_tokens::{Piece, put_pieces};
 use modulators::Modulator;
-use outputs::Output;
+use script_tokens::{Piece, put_pieces};
 use sf_base::Lent;
 use std::io::Write;
 

@@ -6,8 +6,8 @@ ghost use Rattle.script_grammar.specs.Memory.{ReadsOrWants};
 use crate::items::{items, no_content};
 use crate::names::fixed;
 use bank_parts::{GlobalZone, Zone};
-use line_tokens::{Cursor, LineFault};
-use numbered_lists::NumberedList;
+use base_numbered_lists::NumberedList;
+use script_tokens::{Cursor, LineFault};
 use sf_base::Failure;
 use std::alloc::Global;
 

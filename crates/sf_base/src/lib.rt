@@ -10,10 +10,10 @@ mod name;
 mod numbers;
 mod slices;
 
+pub use base_outputs::{WriteFault, put_all};
 pub use blank::Blank;
 pub use lent::Lent;
 pub use memory::{Failure, OutOfMemory};
 pub use name::{Name20, NameFault};
 pub use numbers::{i16_at, u16_at, u32_at};
-pub use outputs::{WriteFault, put_all};
 pub use slices::{front_of, part_of, rest_from};

@@ -12,7 +12,7 @@ use crate::zones::{NO_COUNTS, Targets, ZoneCounts, read_bags};
 use bank_core::{FlatHeads, Recs};
 use bank_format::{ReadFault, RecordedHead};
 use bank_parts::Head;
-use numbered_lists::NumberedList;
+use base_numbered_lists::NumberedList;
 use sf_base::{Failure, Name20, OutOfMemory};
 use std::alloc::Global;
 

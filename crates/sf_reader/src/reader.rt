@@ -21,7 +21,7 @@ use crate::samples::{
 use crate::texts::{count_cut, cut_texts, texts_of};
 use bank_core::{Bank, Flat, Sample};
 use bank_format::{Counts, ReadFault, read_banks_are_valid, window_of};
-use linked_members::LinkedMembers;
+use bank_linked_members::LinkedMembers;
 use riff_chunks::FirstChunks;
 use sf_base::{Failure, u16_at};
 use std::alloc::Global;

@@ -8,9 +8,9 @@ use Rattle.std.proofs.lemmas.List.Concat.{flat_map-append}
 use Rattle.riff_chunks.specs.Walk.{LIST}
 use Rattle.riff_chunks.specs.Spelling.{pad, chunk, chunk_head}
 use Rattle.riff_chunks.proofs.SpellingLaws.{length-chunk}
-use Rattle.outputs.specs.declared.output.Output.{Output}
-use Rattle.outputs.specs.Output.{Puts}
-use Rattle.outputs.proofs.OutputLaws.{puts_row}
+use Rattle.base_outputs.specs.declared.output.Output.{Output}
+use Rattle.base_outputs.specs.Output.{Puts}
+use Rattle.base_outputs.proofs.OutputLaws.{puts_row}
 
 -- ---- chunks
 

@@ -1,9 +1,9 @@
 //! Writing chunks of even length. All chunks of a canonical file are such, so none has a pad byte.
 ghost use Rattle.std.specs.Prelude.{◌≡◌, ◌<◌, ◌%◌, ◌^◌, ◌++◌, length};
-ghost use Rattle.outputs.specs.Output.{Puts};
+ghost use Rattle.base_outputs.specs.Output.{Puts};
 ghost use Rattle.riff_chunks.specs.Spelling.{chunk, chunk_head};
 
-use outputs::Output;
+use base_outputs::Output;
 use riff_chunks::ChunkWriter;
 use std::io::Write;
 
@@ -14,7 +14,7 @@ pub(crate) const HEAD_SIZE: u32 = 8;
 pub(crate) const FORM_SIZE: u32 = 4;
 
 // Writes the id, the size and the form of a chunk; `size` counts the form.
-#[tactic(auto, using(outputs::proofs::OutputLaws::puts_then))]
+#[tactic(auto, using(base_outputs::proofs::OutputLaws::puts_then))]
 pub(crate) fn put_form_head<W: Write>(
     output: &mut Output<'_, W>,
     id: [u8; 4],

@@ -1,7 +1,7 @@
 //! The whole file: the RIFF form `sfbk` with its three lists.
 ghost use Rattle.std.specs.Prelude.{◌≡◌, ◌++◌, length};
-ghost use Rattle.outputs.specs.Output.{Puts};
-ghost use Rattle.outputs.specs.Writing.{Writes};
+ghost use Rattle.base_outputs.specs.Output.{Puts};
+ghost use Rattle.base_outputs.specs.Writing.{Writes};
 ghost use Rattle.riff_chunks.specs.Spelling.{spell};
 ghost use Rattle.bank_format.specs.Canon.{canon, lists};
 ghost use Rattle.sf_writer.specs.Sizes.{AreSizes};
@@ -12,7 +12,7 @@ use crate::points::put_sdta;
 use crate::records::put_pdta;
 use crate::sizes::Sizes;
 use bank_core::Bank;
-use outputs::{Output, WriteFault};
+use base_outputs::{Output, WriteFault};
 use std::io::Write;
 
 /// Puts the bank's canonical file into an output. It allocates nothing.

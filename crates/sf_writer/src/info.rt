@@ -1,6 +1,6 @@
 //! The list `INFO`: the version and the texts (SoundFont 2.04, section 5).
 ghost use Rattle.std.specs.Prelude.{◌≡◌, ◌+◌, ◌<◌, ◌≤◌, ◌%◌, ◌^◌, ◌==◌, ◌++◌, ◌∷◌, [], flat_map, length, replicate, if◌then◌else◌};
-ghost use Rattle.outputs.specs.Output.{Puts};
+ghost use Rattle.base_outputs.specs.Output.{Puts};
 ghost use Rattle.riff_chunks.specs.Spelling.{chunk, spell};
 ghost use Rattle.bank_format.specs.Canon.{info, version};
 ghost use Rattle.bank_format.specs.Ids.{IFIL, INFO};
@@ -10,7 +10,7 @@ ghost use Rattle.sf_writer.specs.Lists.{list_bytes};
 
 use crate::chunks::{HEAD_SIZE, put_chunk, put_form_head};
 use bank_core::{Bank, InfoId};
-use outputs::Output;
+use base_outputs::Output;
 use riff_chunks::{ChunkWriter, LIST_ID};
 use std::io::Write;
 
@@ -144,7 +144,7 @@ fn put_text<W: Write>(output: &mut Output<'_, W>, bank: &Bank<'_>, which: InfoId
 }
 
 // Puts the chunks of these texts; empty texts are omitted.
-#[tactic(auto, using(outputs::proofs::OutputLaws::putting_start, outputs::proofs::OutputLaws::putting_end))]
+#[tactic(auto, using(base_outputs::proofs::OutputLaws::putting_start, base_outputs::proofs::OutputLaws::putting_end))]
 fn put_texts<W: Write>(output: &mut Output<'_, W>, bank: &Bank<'_>, texts: &[InfoId])
     ensures { Puts W.contents output.old output.new
         (spell (flat_map (optional_chunk bank.now) texts.now)) }
@@ -155,7 +155,7 @@ fn put_texts<W: Write>(output: &mut Output<'_, W>, bank: &Bank<'_>, texts: &[Inf
 }
 
 // Puts the chunk of a text; nothing if the text is empty.
-#[tactic(auto, using(crate::proofs::TextLaws::texts, outputs::proofs::OutputLaws::puts_nothing))]
+#[tactic(auto, using(crate::proofs::TextLaws::texts, base_outputs::proofs::OutputLaws::puts_nothing))]
 fn put_optional_text<W: Write>(output: &mut Output<'_, W>, bank: &Bank<'_>, which: InfoId)
     ensures { Puts W.contents output.old output.new (spell (optional_chunk bank.now which)) }
 {

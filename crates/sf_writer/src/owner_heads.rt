@@ -1,6 +1,6 @@
 //! The lists `phdr` and `inst`: the headers of presets and of instruments (SoundFont 2.04, sections 7.2 and 7.6).
 ghost use Rattle.std.specs.Prelude.{◌≡◌, ◌<◌, ◌^◌, length, flat_map, slice_index_or};
-ghost use Rattle.outputs.specs.Output.{Puts};
+ghost use Rattle.base_outputs.specs.Output.{Puts};
 ghost use Rattle.hydra_records.specs.Spelling.{preset_head_bytes, instrument_head_bytes};
 ghost use Rattle.bank_format.specs.Ids.{PHDR, INST};
 ghost use Rattle.bank_format.specs.Tables.{heads_from, tables_of};
@@ -9,8 +9,8 @@ ghost use Rattle.sf_writer.specs.Lists.{table_bytes};
 use bank_core::Bank;
 use bank_format::RecordedHead;
 use bank_parts::Owners;
+use base_outputs::Output;
 use hydra_records::Spelled;
-use outputs::Output;
 use riff_chunks::ChunkWriter;
 use std::io::Write;
 

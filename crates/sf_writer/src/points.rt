@@ -1,6 +1,6 @@
 //! The list `sdta`: the points of all samples (SoundFont 2.04, section 6).
 ghost use Rattle.std.specs.Prelude.{◌≡◌, ◌++◌, length, flat_map};
-ghost use Rattle.outputs.specs.Output.{Puts};
+ghost use Rattle.base_outputs.specs.Output.{Puts};
 ghost use Rattle.riff_chunks.specs.Spelling.{spell};
 ghost use Rattle.sample_view.specs.Words.{word_bytes};
 ghost use Rattle.bank_format.specs.Canon.{sdta};
@@ -10,7 +10,7 @@ ghost use Rattle.sf_writer.specs.Lists.{list_bytes};
 
 use crate::chunks::put_form_head;
 use bank_core::{Bank, Sample};
-use outputs::Output;
+use base_outputs::Output;
 use riff_chunks::{ChunkWriter, LIST_ID};
 use sample_view::Points;
 use std::io::Write;
@@ -38,7 +38,7 @@ fn put_smpl<W: Write>(output: &mut Output<'_, W>, bank: &Bank<'_>, size: u32)
 }
 
 // Puts the points of each sample, and the zero points after them.
-#[tactic(auto, using(outputs::proofs::OutputLaws::putting_start, outputs::proofs::OutputLaws::putting_end))]
+#[tactic(auto, using(base_outputs::proofs::OutputLaws::putting_start, base_outputs::proofs::OutputLaws::putting_end))]
 fn put_samples<W: Write>(output: &mut Output<'_, W>, samples: &[Sample<'_>])
     ensures { Puts W.contents output.old output.new
         (flat_map word_bytes (flat_map points_written samples.now)) }
@@ -57,7 +57,7 @@ fn put_sample<W: Write>(output: &mut Output<'_, W>, sample: &Sample<'_>)
 }
 
 // Puts points as slices of the file that they were read from, so that long ones are not copied.
-#[tactic(auto, using(outputs::proofs::OutputLaws::putting_start, outputs::proofs::OutputLaws::putting_end))]
+#[tactic(auto, using(base_outputs::proofs::OutputLaws::putting_start, base_outputs::proofs::OutputLaws::putting_end))]
 fn put_points<W: Write>(output: &mut Output<'_, W>, points: &Points<'_>)
     ensures { Puts W.contents output.old output.new (flat_map word_bytes points.now) }
 {

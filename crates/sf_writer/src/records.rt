@@ -1,6 +1,6 @@
 //! The list `pdta`: the nine lists of records (SoundFont 2.04, section 7).
 ghost use Rattle.std.specs.Prelude.{◌≡◌};
-ghost use Rattle.outputs.specs.Output.{Puts};
+ghost use Rattle.base_outputs.specs.Output.{Puts};
 ghost use Rattle.riff_chunks.specs.Spelling.{spell};
 ghost use Rattle.bank_format.specs.Canon.{pdta};
 ghost use Rattle.bank_format.specs.Ids.{PDTA};
@@ -14,7 +14,7 @@ use crate::sample_heads::put_shdr;
 use crate::sizes::Sizes;
 use crate::zone_lists::put_zone_lists;
 use bank_core::Bank;
-use outputs::Output;
+use base_outputs::Output;
 use riff_chunks::LIST_ID;
 use std::io::Write;
 

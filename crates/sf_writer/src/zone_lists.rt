@@ -1,7 +1,7 @@
 //! The bag, modulator and generator lists of a level (SoundFont 2.04, sections 7.3 to 7.5 for presets, 7.7 to 7.9 for
 //! instruments).
 ghost use Rattle.std.specs.Prelude.{◌≡◌, length, map, flat_map};
-ghost use Rattle.outputs.specs.Output.{Puts};
+ghost use Rattle.base_outputs.specs.Output.{Puts};
 ghost use Rattle.riff_chunks.specs.Spelling.{spell};
 ghost use Rattle.hydra_records.specs.Spelling.{bag_bytes, modulator_bytes, generator_bytes};
 ghost use Rattle.bank_format.specs.Tables.{all_bags};
@@ -11,10 +11,10 @@ ghost use Rattle.sf_writer.specs.Sizes.{AreZoneSizes};
 
 use crate::sizes::ZoneSizes;
 use bank_parts::{OwnerHead, Owners};
+use base_outputs::Output;
 use generators::Level;
 use hydra_records::{Bag, Generator, Spelled};
 use modulators::Modulator;
-use outputs::Output;
 use riff_chunks::ChunkWriter;
 use std::io::Write;
 
@@ -37,7 +37,7 @@ pub(crate) fn put_zone_lists<H: OwnerHead, W: Write>(
 }
 
 // Each bag counts the generators and modulators of the bags before it.
-#[tactic(auto, using(outputs::proofs::OutputLaws::putting_start, outputs::proofs::OutputLaws::putting_end))]
+#[tactic(auto, using(base_outputs::proofs::OutputLaws::putting_start, base_outputs::proofs::OutputLaws::putting_end))]
 fn put_bag_records<W: Write>(output: &mut Output<'_, W>, bags: &[(u16, u16)])
     ensures { Puts W.contents output.old output.new (flat_map bag_bytes (map bag_of bags.now)) }
 {
@@ -46,7 +46,7 @@ fn put_bag_records<W: Write>(output: &mut Output<'_, W>, bags: &[(u16, u16)])
     }
 }
 
-#[tactic(auto, using(outputs::proofs::OutputLaws::putting_start, outputs::proofs::OutputLaws::putting_end))]
+#[tactic(auto, using(base_outputs::proofs::OutputLaws::putting_start, base_outputs::proofs::OutputLaws::putting_end))]
 fn put_mod_records<W: Write>(output: &mut Output<'_, W>, mods: &[Modulator])
     ensures { Puts W.contents output.old output.new (flat_map modulator_bytes mods.now) }
 {
@@ -56,7 +56,7 @@ fn put_mod_records<W: Write>(output: &mut Output<'_, W>, mods: &[Modulator])
 }
 
 // The last generator of each zone is its target.
-#[tactic(auto, using(outputs::proofs::OutputLaws::putting_start, outputs::proofs::OutputLaws::putting_end))]
+#[tactic(auto, using(base_outputs::proofs::OutputLaws::putting_start, base_outputs::proofs::OutputLaws::putting_end))]
 fn put_gen_records<W: Write>(output: &mut Output<'_, W>, gens: &[(u16, u16)])
     ensures { Puts W.contents output.old output.new (flat_map generator_bytes (map generator_of gens.now)) }
 {

@@ -14,19 +14,19 @@ use Rattle.bank_format.specs.ReadSteps.{fault_of, ReadsAs}
 use Rattle.bank_format.proofs.RoundTrip.{reads-again}
 use Rattle.bank_format.proofs.ReadValid.{read_valid, read_fits}
 use Rattle.edit_script.specs.declared.parsing.Line.{Line}
-use Rattle.line_tokens.specs.declared.fault.ScriptFault.{ScriptFault}
+use Rattle.script_tokens.specs.declared.fault.ScriptFault.{ScriptFault}
 use Rattle.edit_script.specs.Script.{script_of}
 use Rattle.edit_script.proofs.LineLaws.{printed_spell}
-use Rattle.bank_listing.specs.declared.listing.Details.{Details}
-use Rattle.bank_listing.specs.Listing.{listing}
-use Rattle.bank_listing.specs.Details.{detailed_listing}
-use Rattle.sfbank_program.specs.declared.run_fault.RunFault.{RunFault}
-use Rattle.sfbank_program.specs.declared.run_fault.RunFault.TheVariants as run
-use Rattle.sfbank_program.specs.declared.run_fault.Which.TheVariants.{Out}
+use Rattle.show_listing.specs.declared.listing.Details.{Details}
+use Rattle.show_listing.specs.Listing.{listing}
+use Rattle.show_listing.specs.Details.{detailed_listing}
+use Rattle.program_files.specs.declared.run_fault.RunFault.{RunFault}
+use Rattle.program_files.specs.declared.run_fault.RunFault.TheVariants as run
+use Rattle.program_files.specs.declared.run_fault.Which.TheVariants.{Out}
 use Rattle.sfbank.specs.Outcome.{after_script, after_reading, bank_in, counts_in, outcome, canon_outcome}
 use Rattle.sfbank.specs.Outcome.{show_outcome, show_details_outcome, without_undo, IsEmptyEdit, IsFixed}
 use Rattle.sfbank.specs.Written.{GoesOut, RunsAlone}
-use Rattle.sfbank_program.specs.RunFaults.{in_run}
+use Rattle.program_files.specs.RunFaults.{in_run}
 use Rattle.sfbank.proofs.Restores.{reading_done}
 
 -- ---- a file that can't be read

@@ -17,16 +17,16 @@ use Rattle.bank_edits.specs.Runs.{AllTaken, undo_list}
 use Rattle.edit_script.specs.declared.parsing.Line.{Line}
 use Rattle.edit_script.specs.Script.{script_of}
 use Rattle.edit_script.specs.Printing.{texts_of}
-use Rattle.bank_text.specs.declared.samples.SamplePoints.{SamplePoints}
-use Rattle.bank_text.specs.declared.samples.SamplePoints.TheVariants.{Kept}
-use Rattle.bank_text.specs.Listed.{empty}
-use Rattle.bank_text.specs.Printed.{bank_script, IsScript}
-use Rattle.bank_text.proofs.Taken.{sound_empty}
-use Rattle.bank_text.proofs.PrintedLaws.{text_gives, text_tells}
-use Rattle.sfbank_program.specs.declared.run_fault.RunFault.{RunFault}
-use Rattle.sfbank_program.specs.declared.run_fault.RunFault.TheVariants as run
-use Rattle.sfbank_program.specs.declared.run_fault.Which.TheVariants.{Out}
-use Rattle.sfbank_program.specs.RunFaults.{in_run}
+use Rattle.script_of_bank.specs.declared.samples.SamplePoints.{SamplePoints}
+use Rattle.script_of_bank.specs.declared.samples.SamplePoints.TheVariants.{Kept}
+use Rattle.script_of_bank.specs.Listed.{empty}
+use Rattle.script_of_bank.specs.Printed.{bank_script, IsScript}
+use Rattle.script_of_bank.proofs.Taken.{sound_empty}
+use Rattle.script_of_bank.proofs.PrintedLaws.{text_gives, text_tells}
+use Rattle.program_files.specs.declared.run_fault.RunFault.{RunFault}
+use Rattle.program_files.specs.declared.run_fault.RunFault.TheVariants as run
+use Rattle.program_files.specs.declared.run_fault.Which.TheVariants.{Out}
+use Rattle.program_files.specs.RunFaults.{in_run}
 use Rattle.sfbank.specs.Outcome.{Done, edits_of, RefusedLine, first_refused, both_texts, unless_refused}
 use Rattle.sfbank.specs.Outcome.{after_script, after_reading, bank_in, outcome, canon_outcome, play_outcome}
 use Rattle.sfbank.specs.Written.{GoesOut, RunsAlone}

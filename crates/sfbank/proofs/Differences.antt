@@ -19,13 +19,13 @@ use Rattle.bank_edits.specs.Runs.{undo_list}
 use Rattle.edit_script.specs.Script.{script_of}
 use Rattle.edit_script.specs.Printing.{texts_of, numbered}
 use Rattle.edit_script.proofs.LineLaws.{printed_spell}
-use Rattle.bank_text.specs.Printed.{IsScript}
-use Rattle.bank_text.specs.Whole.{Leads, edits_between}
-use Rattle.bank_text.proofs.PrintedLaws.{replaces}
-use Rattle.sfbank_program.specs.declared.run_fault.RunFault.{RunFault}
-use Rattle.sfbank_program.specs.declared.run_fault.RunFault.TheVariants as run
-use Rattle.sfbank_program.specs.declared.run_fault.Which.TheVariants.{Out}
-use Rattle.sfbank_program.specs.RunFaults.{in_run}
+use Rattle.script_of_bank.specs.Printed.{IsScript}
+use Rattle.script_of_bank.specs.Whole.{Leads, edits_between}
+use Rattle.script_of_bank.proofs.PrintedLaws.{replaces}
+use Rattle.program_files.specs.declared.run_fault.RunFault.{RunFault}
+use Rattle.program_files.specs.declared.run_fault.RunFault.TheVariants as run
+use Rattle.program_files.specs.declared.run_fault.Which.TheVariants.{Out}
+use Rattle.program_files.specs.RunFaults.{in_run}
 use Rattle.sfbank.specs.Outcome.{Done, edits_of, after_script, after_reading, bank_in, outcome}
 use Rattle.sfbank.specs.Written.{GoesOut}
 use Rattle.sfbank.specs.Differences.{Pair, after_file, if_same, of_one_version, banks_in, pair_of, IsDifference}

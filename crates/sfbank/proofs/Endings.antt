@@ -1,9 +1,9 @@
 -- How a run ends: before its first byte, or with its texts.
 use Rattle.std.proofs.Common.{◌≡◌, ℕ, List, Option, Result, Ok, Err}
 use Rattle.std.proofs.KnownBytes.{Keeps-refl}
-use Rattle.sfbank_program.specs.declared.run_fault.RunFault.{RunFault}
-use Rattle.sfbank_program.specs.declared.run_fault.RunFault.TheVariants as run
-use Rattle.sfbank_program.specs.declared.run_fault.Which.TheVariants.{Out, Undo}
+use Rattle.program_files.specs.declared.run_fault.RunFault.{RunFault}
+use Rattle.program_files.specs.declared.run_fault.RunFault.TheVariants as run
+use Rattle.program_files.specs.declared.run_fault.Which.TheVariants.{Out, Undo}
 use Rattle.sfbank.specs.Outcome.{Done}
 use Rattle.sfbank.specs.Written.{Writers, Delivers, Runs, FailsBefore}
 

@@ -10,22 +10,22 @@ use Rattle.bank_format.specs.Reading.{Content}
 use Rattle.bank_format.specs.Steps as reading
 use Rattle.bank_format.specs.ReadSteps.{fault_of, ReadsAs}
 use Rattle.edit_forms.specs.declared.edit.Edit.{Edit}
-use Rattle.line_tokens.specs.declared.fault.ScriptFault.{ScriptFault}
-use Rattle.line_tokens.specs.Pool.{pool_bytes}
-use Rattle.line_tokens.specs.Pool as scripts
+use Rattle.script_tokens.specs.declared.fault.ScriptFault.{ScriptFault}
+use Rattle.script_tokens.specs.Pool.{pool_bytes}
+use Rattle.script_tokens.specs.Pool as scripts
 use Rattle.edit_script.specs.declared.parsing.Line.{Line}
 use Rattle.edit_script.specs.Script.{script_of}
 use Rattle.edit_script.specs.Printing.{texts_of}
-use Rattle.sfbank_program.specs.declared.run_fault.RunFault.{RunFault}
-use Rattle.sfbank_program.specs.declared.run_fault.RunFault.TheVariants as run
+use Rattle.program_files.specs.declared.run_fault.RunFault.{RunFault}
+use Rattle.program_files.specs.declared.run_fault.RunFault.TheVariants as run
 use Rattle.sfbank.specs.Outcome.{Done, edits_of, RefusedLine, first_refused, both_texts, unless_refused}
 use Rattle.sfbank.specs.Outcome.{first_not_neutral, if_neutral, after_script, after_neutral_script, after_reading}
 use Rattle.sfbank.specs.Outcome.{bank_in, outcome}
 use Rattle.sfbank.specs.Written.{FailsBefore}
 use Rattle.sfbank.specs.Planned.{AllApplied, AllOf, StopsAtLine, first_other, after_lines, outcome_of}
-use Rattle.command_words.specs.declared.words.Forms.{Forms}
-use Rattle.command_words.specs.declared.words.Forms.TheVariants.{Every, Neutral}
-use Rattle.sfbank_program.specs.RunFaults.{in_run}
+use Rattle.program_commands.specs.declared.words.Forms.{Forms}
+use Rattle.program_commands.specs.declared.words.Forms.TheVariants.{Every, Neutral}
+use Rattle.program_files.specs.RunFaults.{in_run}
 
 -- ---- the file's fault
 

@@ -9,11 +9,11 @@ use Rattle.bank_format.specs.declared.fault.ReadFault.{ReadFault}
 use Rattle.bank_format.specs.Reading.{Content}
 use Rattle.bank_format.specs.Steps.{Fails}
 use Rattle.bank_format.specs.ReadSteps.{fault_of, ReadsAs}
-use Rattle.zone_map.specs.Picture.{picture}
-use Rattle.sfbank_program.specs.declared.run_fault.RunFault.{RunFault}
-use Rattle.sfbank_program.specs.declared.run_fault.RunFault.TheVariants as run
-use Rattle.sfbank_program.specs.declared.run_fault.Which.TheVariants.{Out}
-use Rattle.sfbank_program.specs.RunFaults.{in_run}
+use Rattle.show_zone_map.specs.Picture.{picture}
+use Rattle.program_files.specs.declared.run_fault.RunFault.{RunFault}
+use Rattle.program_files.specs.declared.run_fault.RunFault.TheVariants as run
+use Rattle.program_files.specs.declared.run_fault.Which.TheVariants.{Out}
+use Rattle.program_files.specs.RunFaults.{in_run}
 use Rattle.sfbank.specs.Outcome.{after_reading, bank_in}
 use Rattle.sfbank.specs.Written.{GoesOut, RunsAlone}
 use Rattle.sfbank.specs.Maps.{has_owner, missing, if_there, map_outcome}

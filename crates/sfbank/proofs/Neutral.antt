@@ -16,20 +16,20 @@ use Rattle.bank_edits.specs.EditChanges.{inverse}
 use Rattle.bank_edits.specs.Runs.{AllTaken, after_all, undo_list}
 use Rattle.bank_edits.proofs.Law.{undone}
 use Rattle.bank_edits.proofs.RunLaw.{all_undone}
-use Rattle.line_tokens.specs.declared.fault.ScriptFault.{ScriptFault}
+use Rattle.script_tokens.specs.declared.fault.ScriptFault.{ScriptFault}
 use Rattle.edit_script.specs.declared.parsing.Line.{Line}
 use Rattle.edit_script.specs.Script.{script_of}
 use Rattle.edit_script.specs.Printing.{numbered}
 use Rattle.edit_script.proofs.FitLaws.{script_fits}
 use Rattle.edit_script.proofs.LineLaws.{printed_spell}
-use Rattle.note_list.specs.declared.fault.NoteFault.{NoteFault}
-use Rattle.note_list.specs.Notes.{Numbers, notes_of}
+use Rattle.script_notes.specs.declared.fault.NoteFault.{NoteFault}
+use Rattle.script_notes.specs.Notes.{Numbers, notes_of}
 use Rattle.mixer.specs.Render.{render}
-use Rattle.neutral_edits.specs.Neutral.{is_neutral}
-use Rattle.neutral_edits.proofs.EventLaws.{neutral_render}
-use Rattle.neutral_edits.proofs.UndoneLaws.{neutral_back}
+use Rattle.sound_neutral_edits.specs.Neutral.{is_neutral}
+use Rattle.sound_neutral_edits.proofs.EventLaws.{neutral_render}
+use Rattle.sound_neutral_edits.proofs.UndoneLaws.{neutral_back}
 use Rattle.wave_file.specs.Wave.{wave}
-use Rattle.command_words.specs.declared.words.Forms.TheVariants.{Every, Neutral}
+use Rattle.program_commands.specs.declared.words.Forms.TheVariants.{Every, Neutral}
 use Rattle.sfbank.specs.Outcome.{Done, edits_of, unless_neutral, first_not_neutral, if_neutral, after_script}
 use Rattle.sfbank.specs.Outcome.{after_neutral_script, after_reading, bank_in, outcome, neutral_outcome, after_notes}
 use Rattle.sfbank.specs.Outcome.{play_outcome, IsNeutrallyUndone, IsRunOfEdits, SoundsTheSame}

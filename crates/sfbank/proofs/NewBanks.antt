@@ -4,8 +4,8 @@ use Rattle.bank_parts.specs.Sound.{IsSound}
 use Rattle.bank_format.specs.Canon.{canon}
 use Rattle.bank_format.specs.Reading.{Content}
 use Rattle.bank_format.proofs.RoundTrip.{reads-again}
-use Rattle.bank_text.specs.Listed.{empty}
-use Rattle.bank_text.proofs.Taken.{empty_are, empty_fit}
+use Rattle.script_of_bank.specs.Listed.{empty}
+use Rattle.script_of_bank.proofs.Taken.{empty_are, empty_fit}
 use Rattle.sfbank.specs.NewBanks.{IsNew}
 use Rattle.sfbank.proofs.Alone.{canon_text}
 

@@ -24,17 +24,17 @@ use Rattle.edit_script.specs.declared.parsing.Line.{Line}
 use Rattle.edit_script.specs.Script.{script_of}
 use Rattle.edit_script.specs.Printing.{texts_of, numbered, AllFit}
 use Rattle.edit_script.proofs.LineLaws.{printed_spell}
-use Rattle.line_tokens.specs.declared.fault.ScriptFault.{ScriptFault}
+use Rattle.script_tokens.specs.declared.fault.ScriptFault.{ScriptFault}
 use Rattle.wave_file.specs.SampleWave.{sample_wave}
 use Rattle.wave_file.specs.declared.fault.WaveFault.{WaveFault}
 use Rattle.wave_file.specs.declared.recording.Recording.{Recording}
 use Rattle.wave_file.specs.ReadSteps.{recording_in}
 use Rattle.wave_file.specs.Imports.{import_edits}
 use Rattle.wave_file.proofs.FitLaws.{recording_fits, imports_fit}
-use Rattle.sfbank_program.specs.declared.run_fault.RunFault.{RunFault}
-use Rattle.sfbank_program.specs.declared.run_fault.RunFault.TheVariants as run
-use Rattle.sfbank_program.specs.declared.run_fault.Which.TheVariants.{Out}
-use Rattle.sfbank_program.specs.RunFaults.{in_run}
+use Rattle.program_files.specs.declared.run_fault.RunFault.{RunFault}
+use Rattle.program_files.specs.declared.run_fault.RunFault.TheVariants as run
+use Rattle.program_files.specs.declared.run_fault.Which.TheVariants.{Out}
+use Rattle.program_files.specs.RunFaults.{in_run}
 use Rattle.sfbank.specs.Outcome.{Done, edits_of, after_script, after_reading, bank_in, outcome}
 use Rattle.sfbank.specs.Recordings.{wave_of, wave_outcome, edits_into, after_recording, import_outcome, IsScripted}
 use Rattle.sfbank.specs.Recordings.{IsImportUndone}

@@ -15,20 +15,20 @@ use Rattle.bank_format.specs.ReadSteps.{fault_of, ReadsAs}
 use Rattle.bank_format.proofs.RoundTrip.{reads-again}
 use Rattle.bank_format.proofs.ReadValid.{read_valid, read_fits}
 use Rattle.edit_script.specs.declared.parsing.Line.{Line}
-use Rattle.line_tokens.specs.declared.fault.ScriptFault.{ScriptFault}
-use Rattle.line_tokens.specs.Pool as texts
+use Rattle.script_tokens.specs.declared.fault.ScriptFault.{ScriptFault}
+use Rattle.script_tokens.specs.Pool as texts
 use Rattle.edit_script.specs.Script.{script_of}
-use Rattle.note_list.specs.declared.fault.NoteFault.{NoteFault}
-use Rattle.note_list.specs.Notes.{Numbers, notes_of}
+use Rattle.script_notes.specs.declared.fault.NoteFault.{NoteFault}
+use Rattle.script_notes.specs.Notes.{Numbers, notes_of}
 use Rattle.mixer.specs.Render.{render, IsRendered}
 use Rattle.wave_file.specs.Wave.{wave, FitsWave}
-use Rattle.sfbank_program.specs.declared.run_fault.RunFault.{RunFault}
-use Rattle.sfbank_program.specs.declared.run_fault.RunFault.TheVariants as run
-use Rattle.sfbank_program.specs.declared.run_fault.Which.TheVariants.{Out}
+use Rattle.program_files.specs.declared.run_fault.RunFault.{RunFault}
+use Rattle.program_files.specs.declared.run_fault.RunFault.TheVariants as run
+use Rattle.program_files.specs.declared.run_fault.Which.TheVariants.{Out}
 use Rattle.sfbank.specs.Outcome.{Done, after_script, after_reading, bank_in, outcome, canon_outcome, after_notes}
 use Rattle.sfbank.specs.Outcome.{play_outcome, SoundsAgain, SoundsInCanon}
 use Rattle.sfbank.specs.Written.{GoesOut, RunsAlone}
-use Rattle.sfbank_program.specs.RunFaults.{in_run}
+use Rattle.program_files.specs.RunFaults.{in_run}
 use Rattle.sfbank.proofs.Alone.{not_read, sent_text}
 use Rattle.sfbank.proofs.Restores.{reading_done, restores}
 

@@ -1,9 +1,9 @@
 -- A text that was delivered.
 use Rattle.std.proofs.Common.{ℕ, List, Option, Result, Ok, Err, refl}
-use Rattle.outputs.specs.declared.writing.WriteFault.{WriteFault}
-use Rattle.outputs.specs.Writing as writing
-use Rattle.sfbank_program.specs.declared.run_fault.RunFault.{RunFault}
-use Rattle.sfbank_program.specs.declared.run_fault.Which.{Which}
+use Rattle.base_outputs.specs.declared.writing.WriteFault.{WriteFault}
+use Rattle.base_outputs.specs.Writing as writing
+use Rattle.program_files.specs.declared.run_fault.RunFault.{RunFault}
+use Rattle.program_files.specs.declared.run_fault.Which.{Which}
 use Rattle.sfbank.specs.Written.{GoesOut, IsTold}
 
 pub text_goes_out : {U : Type 0} (which : Which) (old new : Option (List ℕ)) (text : List ℕ)

@@ -3,9 +3,9 @@ use Rattle.std.proofs.Common.{◌≡◌, ◌++◌, ℕ, List, [], ◌∷◌, Opt
 use Rattle.std.specs.Prelude.{MatchOption}
 use Rattle.std.specs.Borrow.{MutBor}
 use Rattle.std.specs.Io.KnownBytes.{Appends, Keeps}
-use Rattle.outputs.specs.declared.writing.WriteFault.{WriteFault}
-use Rattle.outputs.specs.declared.output.Output.{Output}
-use Rattle.outputs.specs.Output.{Begins, IsOnItsWay, StoppedIn}
+use Rattle.base_outputs.specs.declared.writing.WriteFault.{WriteFault}
+use Rattle.base_outputs.specs.declared.output.Output.{Output}
+use Rattle.base_outputs.specs.Output.{Begins, IsOnItsWay, StoppedIn}
 
 no_front : (gone held : List ℕ) → [] ≡ gone ++ held → gone ≡ []
 no_front [] held e = cc

@@ -3,10 +3,10 @@ use Rattle.std.specs.Prelude.{◌≡◌, ◌↔◌, ℕ, List, None, Result, Ok}
 use Rattle.hydra_records.specs.Records.{AreBytes}
 use Rattle.bank_format.specs.Canon.{canon}
 use Rattle.bank_format.specs.ReadSteps.{fault_of}
-use Rattle.bank_text.specs.declared.samples.SamplePoints.{SamplePoints}
-use Rattle.bank_text.specs.declared.samples.SamplePoints.TheVariants.{Kept}
-use Rattle.bank_text.specs.Printed.{bank_script}
-use Rattle.sfbank_program.specs.declared.run_fault.RunFault.{RunFault}
+use Rattle.script_of_bank.specs.declared.samples.SamplePoints.{SamplePoints}
+use Rattle.script_of_bank.specs.declared.samples.SamplePoints.TheVariants.{Kept}
+use Rattle.script_of_bank.specs.Printed.{bank_script}
+use Rattle.program_files.specs.declared.run_fault.RunFault.{RunFault}
 use Rattle.sfbank.specs.Outcome.{Done, after_reading, bank_in, outcome, canon_outcome, play_outcome}
 use Rattle.sfbank.specs.NewBanks.{new_file}
 

@@ -6,9 +6,9 @@ use Rattle.bank_changes.specs.declared.members.Owner.TheVariants.{Preset, Inst}
 use Rattle.bank_format.specs.ReadSteps.{fault_of}
 use Rattle.edit_forms.specs.declared.cause.Cause.{Cause}
 use Rattle.edit_forms.specs.declared.cause.Cause.TheVariants.{NoSuchPreset, NoSuchInstrument}
-use Rattle.zone_map.specs.Picture.{picture}
-use Rattle.sfbank_program.specs.declared.run_fault.RunFault.{RunFault}
-use Rattle.sfbank_program.specs.declared.run_fault.RunFault.TheVariants as run
+use Rattle.show_zone_map.specs.Picture.{picture}
+use Rattle.program_files.specs.declared.run_fault.RunFault.{RunFault}
+use Rattle.program_files.specs.declared.run_fault.RunFault.TheVariants as run
 use Rattle.sfbank.specs.Outcome.{after_reading, bank_in}
 
 -- the owner is one of the bank's presets or instruments

@@ -2,8 +2,8 @@
 use Rattle.std.specs.Prelude.{◌≡◌, ℕ, List, None, Result, Ok}
 use Rattle.bank_format.specs.Canon.{canon}
 use Rattle.bank_format.specs.ReadSteps.{fault_of}
-use Rattle.bank_text.specs.Listed.{empty}
-use Rattle.sfbank_program.specs.declared.run_fault.RunFault.{RunFault}
+use Rattle.script_of_bank.specs.Listed.{empty}
+use Rattle.program_files.specs.declared.run_fault.RunFault.{RunFault}
 use Rattle.sfbank.specs.Outcome.{bank_in, canon_outcome}
 
 -- the canonical file of the empty bank of a minor version

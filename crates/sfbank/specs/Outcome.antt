@@ -12,19 +12,19 @@ use Rattle.edit_refusals.specs.declared.refusal.Refusal.{Refusal}
 use Rattle.edit_refusals.specs.Edits.{raw, refusal}
 use Rattle.bank_edits.specs.Runs.{after_all, undo_list}
 use Rattle.edit_script.specs.declared.parsing.Line.{Line}
-use Rattle.line_tokens.specs.declared.fault.ScriptFault.{ScriptFault}
+use Rattle.script_tokens.specs.declared.fault.ScriptFault.{ScriptFault}
 use Rattle.edit_script.specs.Script.{script_of}
 use Rattle.edit_script.specs.Printing.{texts_of}
-use Rattle.bank_listing.specs.declared.listing.Details.{Details}
-use Rattle.bank_listing.specs.Listing.{listing}
-use Rattle.bank_listing.specs.Details.{detailed_listing}
-use Rattle.note_list.specs.declared.fault.NoteFault.{NoteFault}
-use Rattle.note_list.specs.Notes.{Numbers, notes_of}
+use Rattle.show_listing.specs.declared.listing.Details.{Details}
+use Rattle.show_listing.specs.Listing.{listing}
+use Rattle.show_listing.specs.Details.{detailed_listing}
+use Rattle.script_notes.specs.declared.fault.NoteFault.{NoteFault}
+use Rattle.script_notes.specs.Notes.{Numbers, notes_of}
 use Rattle.mixer.specs.Render.{render}
-use Rattle.neutral_edits.specs.Neutral.{is_neutral}
+use Rattle.sound_neutral_edits.specs.Neutral.{is_neutral}
 use Rattle.wave_file.specs.Wave.{wave}
-use Rattle.sfbank_program.specs.declared.run_fault.RunFault.{RunFault}
-use Rattle.sfbank_program.specs.declared.run_fault.RunFault.TheVariants as run
+use Rattle.program_files.specs.declared.run_fault.RunFault.{RunFault}
+use Rattle.program_files.specs.declared.run_fault.RunFault.TheVariants as run
 
 -- both texts of a run that succeeds
 pub record Done : Type 0 where

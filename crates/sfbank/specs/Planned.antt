@@ -4,13 +4,13 @@ use Rattle.bank_parts.specs.declared.parts.Parts.{Parts}
 use Rattle.edit_forms.specs.declared.edit.Edit.{Edit}
 use Rattle.bank_edits.specs.Runs.{after_all, undo_list}
 use Rattle.edit_script.specs.declared.parsing.Line.{Line}
-use Rattle.sfbank_program.specs.declared.run_fault.RunFault.{RunFault}
-use Rattle.sfbank_program.specs.declared.run_fault.RunFault.TheVariants as run
+use Rattle.program_files.specs.declared.run_fault.RunFault.{RunFault}
+use Rattle.program_files.specs.declared.run_fault.RunFault.TheVariants as run
 use Rattle.bank_format.specs.ReadSteps.{fault_of}
-use Rattle.line_tokens.specs.declared.fault.ScriptFault.{ScriptFault}
+use Rattle.script_tokens.specs.declared.fault.ScriptFault.{ScriptFault}
 use Rattle.edit_script.specs.Script.{script_of}
-use Rattle.command_words.specs.declared.words.Forms.{Forms}
-use Rattle.command_words.specs.declared.words.Forms.TheVariants.{Every, Neutral}
+use Rattle.program_commands.specs.declared.words.Forms.{Forms}
+use Rattle.program_commands.specs.declared.words.Forms.TheVariants.{Every, Neutral}
 use Rattle.sfbank.specs.Outcome.{Done, edits_of, RefusedLine, first_refused, first_not_neutral, after_script}
 use Rattle.sfbank.specs.Outcome.{after_neutral_script, after_reading, bank_in}
 

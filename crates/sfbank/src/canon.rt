@@ -3,8 +3,8 @@ ghost use Rattle.sfbank.specs.Outcome.{canon_outcome, IsEmptyEdit, IsFixed};
 ghost use Rattle.sfbank.specs.Written.{RunsAlone};
 
 use crate::deliver::deliver_bank;
+use program_files::RunFault;
 use sf_reader::read;
-use sfbank_program::RunFault;
 use std::alloc::Global;
 use std::io::Write;
 

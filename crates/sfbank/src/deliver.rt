@@ -1,36 +1,36 @@
 //! Writes each text of a run whole, and flushes it.
 ghost use Rattle.std.specs.Prelude.{◌≡◌, ◌≤◌, Ok, length};
-ghost use Rattle.outputs.specs.Output.{Puts};
+ghost use Rattle.base_outputs.specs.Output.{Puts};
 ghost use Rattle.bank_format.specs.Canon.{canon};
-ghost use Rattle.bank_text.specs.Printed.{bank_script};
-ghost use Rattle.bank_text.specs.Whole.{edits_between};
-ghost use Rattle.bank_listing.specs.Listing.{listing};
-ghost use Rattle.bank_listing.specs.Details.{detailed_listing};
+ghost use Rattle.script_of_bank.specs.Printed.{bank_script};
+ghost use Rattle.script_of_bank.specs.Whole.{edits_between};
+ghost use Rattle.show_listing.specs.Listing.{listing};
+ghost use Rattle.show_listing.specs.Details.{detailed_listing};
 ghost use Rattle.edit_script.specs.Printing.{texts_of};
 ghost use Rattle.sf_base.specs.declared.limits.TheConstants.{POINTS};
 ghost use Rattle.wave_file.specs.SampleWave.{sample_wave};
-ghost use Rattle.zone_map.specs.Picture.{picture};
+ghost use Rattle.show_zone_map.specs.Picture.{picture};
 ghost use Rattle.wave_file.specs.Wave.{FitsWave, wave};
 ghost use Rattle.live_sessions.specs.Saved.{undo_text};
-ghost use Rattle.sfbank_program.specs.declared.run_fault.Which.TheVariants.{Out, Undo};
+ghost use Rattle.program_files.specs.declared.run_fault.Which.TheVariants.{Out, Undo};
 ghost use Rattle.sfbank.specs.Written.{Delivers, GoesOut, RunsAlone, IsTold};
 ghost use Rattle.sfbank.specs.Plans.{planned};
 
 use crate::plan::Plan;
 use bank_core::{Bank, Owner, Sample};
 use bank_format::Counts;
-use bank_listing::{Details, put_details, put_listing};
-use bank_text::{SamplePoints, put_bank_text, put_replacement};
+use base_outputs::{Output, WriteFault};
 use edit_forms::Edit;
 use edit_script::put_edit;
 use live_sessions::put_undo;
-use outputs::{Output, WriteFault};
+use program_files::{RunFault, Which};
+use script_of_bank::{SamplePoints, put_bank_text, put_replacement};
 use sf_writer::put_bank;
-use sfbank_program::{RunFault, Which};
+use show_listing::{Details, put_details, put_listing};
+use show_zone_map::put_map;
 use std::alloc::Global;
 use std::io::Write;
 use wave_file::{put_sample_wave, put_wave};
-use zone_map::put_map;
 
 /// Writes the bank's file to `out`, then the undo text to `undo`. Allocates nothing.
 pub(crate) fn deliver<W: Write, V: Write>(

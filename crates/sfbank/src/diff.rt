@@ -4,8 +4,8 @@ ghost use Rattle.sfbank.specs.Differences.{Pairs, RunsDifference, WritesNothing,
 use crate::deliver::{deliver_edits, deliver_replacement};
 use crate::short::short_difference;
 use bank_core::Bank;
+use program_files::{RunFault, Which};
 use sf_reader::read;
-use sfbank_program::{RunFault, Which};
 use std::alloc::Global;
 use std::io::Write;
 

@@ -6,11 +6,11 @@ ghost use Rattle.sfbank.specs.Written.{Runs};
 
 use crate::deliver::deliver;
 use crate::plan::make_plan;
-use command_words::Forms;
+use base_progress::{Progress, Unheard};
 use edit_script::pool_of;
-use progress::{Progress, Unheard};
+use program_commands::Forms;
+use program_files::RunFault;
 use sf_reader::read;
-use sfbank_program::RunFault;
 use std::alloc::Global;
 use std::io::Write;
 
@@ -37,7 +37,7 @@ pub fn edit_run<W: Write, V: Write>(
     edit_run_with_progress(alloc, file, script, out, undo, &mut Unheard)
 }
 
-/// Does what `edit_run` does, and reports to `progress` as lines are done.
+/// Does what `edit_run` does, and reports to `base_progress` as lines are done.
 pub fn edit_run_with_progress<W: Write, V: Write, P: Progress>(
     alloc: Global,
     file: &[u8],

@@ -10,15 +10,15 @@ ghost use Rattle.sfbank.specs.Written.{Plans, Runs};
 use crate::deliver::deliver;
 use crate::plan::{Plan, apply_all};
 use bank_core::Bank;
+use base_progress::Unheard;
 use edit_forms::Edit;
 use edit_script::Line;
-use progress::Unheard;
-use wave_file::{Recording, Sides, import_edits, read_recording};
+use program_files::RunFault;
 use sf_base::OutOfMemory;
 use sf_reader::read;
-use sfbank_program::RunFault;
 use std::alloc::Global;
 use std::io::Write;
+use wave_file::{Recording, Sides, import_edits, read_recording};
 
 /// Reads the file and the WAVE file, appends the recording to the bank's samples, and writes the edited bank to `out`
 /// and the undo script to `undo`. Both writers are flushed. A mono recording becomes one sample, a stereo recording a

@@ -1,14 +1,14 @@
 //! An empty bank.
 ghost use Rattle.std.specs.Prelude.{◌≡◌, IfOk};
-ghost use Rattle.bank_text.specs.Listed.{empty, empty_texts};
+ghost use Rattle.script_of_bank.specs.Listed.{empty, empty_texts};
 ghost use Rattle.sfbank.specs.NewBanks.{IsNew, new_outcome};
 ghost use Rattle.sfbank.specs.Written.{RunsAlone};
 
 use crate::deliver::deliver_bank;
 use bank_core::{Bank, Owners, Parts, Texts};
-use linked_members::LinkedMembers;
+use bank_linked_members::LinkedMembers;
+use program_files::RunFault;
 use sf_base::{Lent, OutOfMemory};
-use sfbank_program::RunFault;
 use std::alloc::Global;
 use std::io::Write;
 

@@ -2,7 +2,7 @@
 ghost use Rattle.std.specs.Prelude.{◌≡◌, ◌∷◌, List, reverse, Ok, MatchResult, IfOk, IfErr};
 ghost use Rattle.bank_edits.specs.EditChanges.{IsDone};
 ghost use Rattle.edit_script.specs.declared.parsing.Line.{Line};
-ghost use Rattle.line_tokens.specs.Pool.{pool_bytes};
+ghost use Rattle.script_tokens.specs.Pool.{pool_bytes};
 ghost use Rattle.edit_script.specs.Script.{script_of};
 ghost use Rattle.sfbank.specs.Outcome.{first_not_neutral, first_refused};
 ghost use Rattle.sfbank.specs.Written.{Plans};
@@ -11,13 +11,13 @@ ghost use Rattle.sfbank.specs.Plans.{planned};
 
 use bank_core::Bank;
 use bank_edits::apply;
-use command_words::Forms;
+use base_progress::{Progress, Work};
 use edit_forms::Edit;
 use edit_refusals::Refusal;
 use edit_script::{Line, parse};
-use neutral_edits::is_neutral;
-use progress::{Progress, Work};
-use sfbank_program::RunFault;
+use program_commands::Forms;
+use program_files::RunFault;
+use sound_neutral_edits::is_neutral;
 use std::alloc::Global;
 
 /// The edited bank, and the inverses of its edits, the last edit's first. They borrow from the bank's file and from
@@ -35,7 +35,7 @@ impl Drop for Plan<'_> {
 }
 
 /// Runs a script whose edits must be of these forms on a bank. `pool` holds the script's literals. Reports to
-/// `progress`, and writes nothing.
+/// `base_progress`, and writes nothing.
 pub(crate) fn make_plan<'a, P: Progress>(
     alloc: Global,
     mut bank: Bank<'a>,
@@ -74,7 +74,7 @@ fn all_neutral(lines: &[Line<'_>]) -> Result<(), RunFault>
     Ok(())
 }
 
-/// Applies the edits in order, and returns their inverses, the last edit's first. Reports to `progress`.
+/// Applies the edits in order, and returns their inverses, the last edit's first. Reports to `base_progress`.
 pub(crate) fn apply_all<'a, P: Progress>(
     alloc: Global,
     bank: &mut Bank<'a>,

@@ -3,11 +3,11 @@ ghost use Rattle.sfbank.specs.Outcome.{play_outcome, SoundsInCanon};
 ghost use Rattle.sfbank.specs.Written.{RunsAlone};
 
 use crate::deliver::deliver_wave;
+use base_progress::{Progress, Unheard};
 use mixer::render_with_progress;
-use note_list::parse_notes;
-use progress::{Progress, Unheard};
+use program_files::RunFault;
+use script_notes::parse_notes;
 use sf_reader::read;
-use sfbank_program::RunFault;
 use std::alloc::Global;
 use std::io::Write;
 
@@ -30,7 +30,7 @@ pub fn play_run<W: Write>(
     play_run_with_progress(alloc, file, notes, out, &mut Unheard)
 }
 
-/// Does what `play_run` does, and reports to `progress` as frames are rendered.
+/// Does what `play_run` does, and reports to `base_progress` as frames are rendered.
 pub fn play_run_with_progress<W: Write, P: Progress>(
     alloc: Global,
     file: &[u8],

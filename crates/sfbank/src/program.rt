@@ -1,5 +1,5 @@
 //! The program, from its arguments to its exit status.
-ghost use Rattle.sfbank_program.specs.Telling.{Ends};
+ghost use Rattle.program_files.specs.Telling.{Ends};
 
 mod apply;
 mod canon;
@@ -17,9 +17,10 @@ mod show;
 mod wave;
 
 use apply::apply;
+use base_outputs::Output;
+use base_progress::Progress;
 use canon::canon;
 use clap::error::ErrorKind;
-use command_words::{Request, request_of};
 use diff::diff;
 use endings::at;
 use explain::explain;
@@ -27,11 +28,10 @@ use import::import;
 use live::live;
 use map::map;
 use new::new;
-use outputs::Output;
 use play::play;
-use progress::Progress;
+use program_commands::{Request, request_of};
+use program_files::{Fault, RunFault, STANDARD_OUTPUT, Watched, Which, tell};
 use script::script;
-use sfbank_program::{Fault, RunFault, STANDARD_OUTPUT, Watched, Which, tell};
 use show::show;
 use std::alloc::{AllocError, Global};
 use std::convert::AsStr;
@@ -89,7 +89,7 @@ fn arguments<R: Env + AllocGlobal>(rt: &R) -> Result<Vec<String>, Fault<'static>
 /// | 6 | an allocation failed |
 ///
 /// `live` reads its lines from `input`. The texts of `show` and `explain`, the answers of `live`, help and the version
-/// are written to `output`. `apply` and `play` report to `progress`.
+/// are written to `output`. `apply` and `play` report to `base_progress`.
 ///
 /// If the status is not 0, one line (for arguments that clap rejects, its whole text) is written to `errors`, except
 /// where the reader of an output closed it early. If `is_terminal`, which means that `errors` is a terminal, a second

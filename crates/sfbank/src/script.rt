@@ -3,9 +3,9 @@ ghost use Rattle.sfbank.specs.BankScripts.{IsRemade, script_outcome};
 ghost use Rattle.sfbank.specs.Written.{RunsAlone};
 
 use crate::deliver::deliver_script;
-use bank_text::SamplePoints;
+use program_files::RunFault;
+use script_of_bank::SamplePoints;
 use sf_reader::read;
-use sfbank_program::RunFault;
 use std::alloc::Global;
 use std::io::Write;
 

@@ -1,13 +1,13 @@
 //! Finds which of two scripts is shorter, without writing them.
 ghost use Rattle.std.specs.Prelude.{◌≡◌, [], IsTrue, IfOk, IfSome, IsSomeAnd};
-ghost use Rattle.bank_text.specs.Whole.{Leads};
+ghost use Rattle.script_of_bank.specs.Whole.{Leads};
 
 use crate::deliver::put_edits;
 use bank_core::Bank;
-use bank_difference::difference;
-use bank_text::put_replacement;
+use base_outputs::Output;
+use diff_banks::difference;
 use edit_forms::Edit;
-use outputs::Output;
+use script_of_bank::put_replacement;
 use sf_base::OutOfMemory;
 use std::alloc::Global;
 use std::io;

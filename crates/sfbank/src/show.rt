@@ -3,9 +3,9 @@ ghost use Rattle.sfbank.specs.Outcome.{show_outcome, show_details_outcome};
 ghost use Rattle.sfbank.specs.Written.{RunsAlone};
 
 use crate::deliver::{deliver_details, deliver_listing};
-use bank_listing::Details;
+use program_files::RunFault;
 use sf_reader::read;
-use sfbank_program::RunFault;
+use show_listing::Details;
 use std::alloc::Global;
 use std::io::Write;
 

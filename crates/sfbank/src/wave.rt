@@ -4,8 +4,8 @@ ghost use Rattle.sfbank.specs.Written.{RunsAlone};
 
 use crate::deliver::deliver_sample;
 use edit_refusals::Cause;
+use program_files::RunFault;
 use sf_reader::read;
-use sfbank_program::RunFault;
 use std::alloc::Global;
 use std::io::Write;
 

@@ -5,7 +5,7 @@ use Rattle.std.proofs.lemmas.Int.{ints}
 use Rattle.std.proofs.lemmas.Nat.{div-add-mod', mod_below, mul-le}
 use Rattle.std.specs.Int.{w16, w32}
 use Rattle.std.specs.Int.Signed.{shr_z}
-use Rattle.voice_levels.proofs.LevelLaws.{product_within, shifted_down}
+use Rattle.sound_envelopes.proofs.LevelLaws.{product_within, shifted_down}
 use Rattle.sound_tables.specs.Floor.{floor_div}
 use Rattle.voices.specs.Levels.{side, fine_of}
 

@@ -6,8 +6,8 @@ use Rattle.std.proofs.lemmas.Bool.Decides.{nat_tests}
 use Rattle.zone_select.specs.declared.parameters.VoiceParameters.{VoiceParameters}
 use Rattle.voices.specs.Place.{place, is_looping, is_loop_left, is_over}
 use Rattle.voices.specs.declared.courses.Course.{Course}
-use Rattle.voice_levels.specs.Envelope.{envelope}
-use Rattle.voice_levels.proofs.PhaseLaws.{even_later}
+use Rattle.sound_envelopes.specs.Envelope.{envelope}
+use Rattle.sound_envelopes.proofs.PhaseLaws.{even_later}
 use Rattle.voices.specs.Course.{IsCourse}
 use Rattle.zone_select.specs.Playable.{IsPlayable}
 use Rattle.voices.proofs.PlaceLaws.{place_inside, place_straight}

@@ -8,8 +8,8 @@ use Rattle.std.specs.Int.Signed.{shr_z}
 use Rattle.std.proofs.Common.{SFits, ◌∙◌}
 use Rattle.sound_tables.specs.Floor.{floor_div, above_zero}
 use Rattle.sound_tables.proofs.FloorLaws.{floor_div_is}
-use Rattle.voice_levels.proofs.LevelLaws.{part_within, whole_part, part_up, part_down, cases_sign, times_more}
-use Rattle.voice_levels.proofs.LevelLaws.{from_zero}
+use Rattle.sound_envelopes.proofs.LevelLaws.{part_within, whole_part, part_up, part_down, cases_sign, times_more}
+use Rattle.sound_envelopes.proofs.LevelLaws.{from_zero}
 use Rattle.voices.specs.Levels.{side}
 use Rattle.voices.specs.Points.{between, weighed}
 

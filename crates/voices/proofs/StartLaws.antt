@@ -1,7 +1,7 @@
 -- A pair that the note selects has a voice.
 use Rattle.std.proofs.Common.{◌≡◌, ℕ, Option, Some, None, slice_get, ap, ◌∙◌}
 use Rattle.std.specs.Option.{option_map, option_and_then}
-use Rattle.note_list.specs.Notes.{Numbers}
+use Rattle.script_notes.specs.Notes.{Numbers}
 use Rattle.bank_parts.specs.declared.parts.Sample.{Sample}
 use Rattle.bank_parts.specs.declared.parts.Parts.{Parts}
 use Rattle.zone_select.specs.declared.parameters.VoiceParameters.{VoiceParameters}

@@ -6,8 +6,8 @@ use Rattle.zone_select.specs.declared.parameters.VoiceParameters.{VoiceParameter
 use Rattle.voices.specs.declared.slices.Slice.{Slice}
 use Rattle.voices.specs.declared.courses.Course.{Course}
 use Rattle.voices.specs.Place.{place, is_over}
-use Rattle.voice_levels.specs.Envelope.{held, envelope}
-use Rattle.voice_levels.specs.Even.{IsEven}
+use Rattle.sound_envelopes.specs.Envelope.{held, envelope}
+use Rattle.sound_envelopes.specs.Even.{IsEven}
 
 -- a slice of these points: each point in its range is in it
 pub record IsInHand (points : List ℕ) (slice : Slice) : Type 0 where

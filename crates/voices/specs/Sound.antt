@@ -4,11 +4,11 @@ use Rattle.sound_tables.specs.Tables.{gain_of}
 use Rattle.sound_tables.specs.Floor.{above_zero}
 use Rattle.zone_select.specs.declared.parameters.VoiceParameters.{VoiceParameters}
 use Rattle.zone_select.specs.Select.{Voice}
-use Rattle.voice_levels.specs.Levels.{scaled_by}
+use Rattle.sound_envelopes.specs.Levels.{scaled_by}
 use Rattle.voices.specs.Levels.{side}
 use Rattle.voices.specs.Place.{place, is_looping, is_over}
 use Rattle.voices.specs.Points.{point_of}
-use Rattle.voice_levels.specs.Envelope.{envelope}
+use Rattle.sound_envelopes.specs.Envelope.{envelope}
 
 -- a voice, and the number of its next frame
 pub record Live : Type 0 where

@@ -1,7 +1,7 @@
 -- The voice of a pair of zones at its first frame, and why it isn't started.
 use Rattle.std.specs.Prelude.{ℕ, ◌≡◌, Option, None, IsSome}
 use Rattle.std.specs.Option.{option_map}
-use Rattle.note_list.specs.Notes.{Numbers}
+use Rattle.script_notes.specs.Notes.{Numbers}
 use Rattle.bank_parts.specs.declared.parts.Parts.{Parts}
 use Rattle.zone_select.specs.Select.{Voice}
 use Rattle.zone_select.specs.Pairs.{voice_by}

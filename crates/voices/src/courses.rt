@@ -1,15 +1,15 @@
 //! State that a voice keeps between calls, so that it need not be computed again.
 ghost use Rattle.std.specs.Prelude.{◌≡◌, ◌+◌, ◌≤◌, ◌<◌, ℕ, List, true};
 ghost use Rattle.sound_tables.specs.Tables.{gain_of};
-ghost use Rattle.voice_levels.specs.Even.{IsEven};
+ghost use Rattle.sound_envelopes.specs.Even.{IsEven};
 ghost use Rattle.voices.specs.Course.{IsCourse, IsInHand};
-ghost use Rattle.voice_levels.specs.Envelope.{held, envelope};
+ghost use Rattle.sound_envelopes.specs.Envelope.{held, envelope};
 ghost use Rattle.voices.specs.Place.{place};
 
 use crate::places::{is_over_by, place_at};
 use crate::slices::Slice;
+use sound_envelopes::{Level, held_at};
 use sound_tables::{MOST_PHASE_INCREMENT, UNITY_GAIN, gain};
-use voice_levels::{Level, held_at};
 use zone_select::VoiceParameters;
 
 // The state of a voice at its next frame.

@@ -9,8 +9,8 @@ use crate::places::{ONE_POINT, advanced, is_looping_at};
 use crate::sampled::point_of_place;
 use crate::sides::panned;
 use sample_view::Points;
+use sound_envelopes::{attenuated, envelope_at};
 use sound_tables::gain;
-use voice_levels::{attenuated, envelope_at};
 use zone_select::VoiceParameters;
 
 // The share of the left side, in 1000ths.

@@ -1,12 +1,12 @@
 //! Runs of frames, computed in stages over short stretches: the points, the envelope and attenuation, and both sides.
 ghost use Rattle.std.specs.Prelude.{◌≡◌, ℕ, ◌+◌, ◌*◌, ◌/◌, ◌%◌, ◌^◌, ◌≤◌, ◌<◌, ◌≤ℤ◌, ◌+ℤ◌, pos, negsuc, true, false, cond, EachIndex, length, nat_eq, slice_index, slice_index_or};
 ghost use Rattle.sound_tables.specs.Tables.{gain_of};
-ghost use Rattle.voice_levels.specs.Levels.{scaled_by};
+ghost use Rattle.sound_envelopes.specs.Levels.{scaled_by};
 ghost use Rattle.voices.specs.Levels.{side, turn_of};
 ghost use Rattle.voices.specs.Place.{is_over, place};
-ghost use Rattle.voice_levels.specs.Even.{IsEven};
+ghost use Rattle.sound_envelopes.specs.Even.{IsEven};
 ghost use Rattle.voices.specs.Course.{IsCourse};
-ghost use Rattle.voice_levels.specs.Envelope.{held, envelope};
+ghost use Rattle.sound_envelopes.specs.Envelope.{held, envelope};
 ghost use Rattle.zone_select.specs.Playable.{IsPlayable};
 ghost use Rattle.voices.specs.Sound.{sound_at, heard_at};
 ghost use Rattle.voices.specs.Within.{AllWithin};
@@ -18,8 +18,8 @@ use crate::sides::{HALF, WHOLE, fine_part, finely_panned, halved};
 use crate::slices::fill_points;
 use crate::workspace::{LONGEST, Stages};
 use sample_view::Points;
+use sound_envelopes::soften;
 use sound_tables::MOST_PHASE_INCREMENT;
-use voice_levels::soften;
 use zone_select::VoiceParameters;
 
 // How many frames from `t` on, at most `most`, form one stretch, which ends at the latest where the note ends. The

@@ -5,7 +5,7 @@ ghost use Rattle.voices.specs.Starts.{started, IsStartFault};
 
 use crate::voice::Voice;
 use bank_core::Bank;
-use note_list::Note;
+use script_notes::Note;
 use sf_base::OutOfMemory;
 use std::alloc::Global;
 use thiserror::Error;

@@ -76,7 +76,7 @@ impl<'a> Voice<'a> {
     /// Returns the next frame, left and right, each from -32768 to 32767.
     ///
     /// A voice that is over returns silence and doesn't advance.
-    #[tactic(auto, using(voice_levels::proofs::PhaseLaws::even_later))]
+    #[tactic(auto, using(sound_envelopes::proofs::PhaseLaws::even_later))]
     pub fn next_frame(&mut self) -> (i32, i32)
         ensures left { result.0 ≡ snd self.old.value true self.old.age }
         ensures right { result.1 ≡ snd self.old.value false self.old.age }

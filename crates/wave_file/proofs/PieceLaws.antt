@@ -2,9 +2,9 @@
 use Rattle.std.proofs.Common.{◌≡◌, List, ◌++◌, Option, ℕ, take, drop, take-append-drop, sym, ap, subst, ◌∙◌}
 use Rattle.std.specs.List.{flat_map}
 use Rattle.std.proofs.lemmas.Grind.{flat_map-append}
-use Rattle.outputs.specs.declared.output.Output.{Output}
-use Rattle.outputs.specs.Output.{Puts}
-use Rattle.outputs.proofs.OutputLaws.{Putting, putting_step}
+use Rattle.base_outputs.specs.declared.output.Output.{Output}
+use Rattle.base_outputs.specs.Output.{Puts}
+use Rattle.base_outputs.proofs.OutputLaws.{Putting, putting_step}
 
 parted : {X : Type 0} (f : X → List ℕ) (n : ℕ) (rest : List X)
     → flat_map f rest ≡ flat_map f (take n rest) ++ flat_map f (drop n rest)

@@ -1,7 +1,7 @@
 //! The WAVE file of a sample: 16-bit mono, with a `smpl` chunk for its loop and pitch.
 ghost use Rattle.std.specs.Prelude.{◌≡◌, ◌+◌, ◌*◌, ◌≤◌, length};
 ghost use Rattle.std.specs.List.{flat_map};
-ghost use Rattle.outputs.specs.Output.{Puts};
+ghost use Rattle.base_outputs.specs.Output.{Puts};
 ghost use Rattle.riff_chunks.specs.Spelling.{chunk};
 ghost use Rattle.sample_view.specs.Words.{word_bytes};
 ghost use Rattle.sf_base.specs.declared.limits.TheConstants.{POINTS};
@@ -10,7 +10,7 @@ ghost use Rattle.wave_file.specs.SampleWave.{SAMPLER, numbers, mono_format, fram
 
 use crate::sampler_pitch::{pitch_fraction, unity_note};
 use bank_parts::Sample;
-use outputs::Output;
+use base_outputs::Output;
 use riff_chunks::ChunkWriter;
 use sample_view::Points;
 use std::io::Write;
@@ -107,7 +107,7 @@ fn frame_time(rate: u32) -> u32
 }
 
 // Puts an infinite forward loop, if the sample has a loop.
-#[tactic(auto, unfolding(crate::specs::SampleWave::loop_bytes), using(outputs::proofs::OutputLaws::puts_nothing))]
+#[tactic(auto, unfolding(crate::specs::SampleWave::loop_bytes), using(base_outputs::proofs::OutputLaws::puts_nothing))]
 fn put_loop<W: Write>(looped: Option<(u32, u32)>, output: &mut Output<'_, W>)
     ensures { Puts W.contents output.old output.new (loop_bytes looped) }
 {
@@ -117,7 +117,7 @@ fn put_loop<W: Write>(looped: Option<(u32, u32)>, output: &mut Output<'_, W>)
 }
 
 // Puts the sampler data: the key and the correction.
-#[tactic(auto, unfolding(crate::specs::SampleWave::held_pitch), using(outputs::proofs::OutputLaws::puts_then))]
+#[tactic(auto, unfolding(crate::specs::SampleWave::held_pitch), using(base_outputs::proofs::OutputLaws::puts_then))]
 fn put_held_pitch<W: Write>(sample: &Sample<'_>, output: &mut Output<'_, W>)
     ensures { Puts W.contents output.old output.new (held_pitch sample.now.key sample.now.correction) }
 {
@@ -126,7 +126,7 @@ fn put_held_pitch<W: Write>(sample: &Sample<'_>, output: &mut Output<'_, W>)
 }
 
 // Puts 32-bit numbers, little-endian.
-#[tactic(auto, using(outputs::proofs::OutputLaws::putting_start, outputs::proofs::OutputLaws::putting_end))]
+#[tactic(auto, using(base_outputs::proofs::OutputLaws::putting_start, base_outputs::proofs::OutputLaws::putting_end))]
 fn put_numbers<W: Write>(values: &[u32], output: &mut Output<'_, W>)
     ensures { Puts W.contents output.old output.new (numbers values.now) }
 {
@@ -136,7 +136,7 @@ fn put_numbers<W: Write>(values: &[u32], output: &mut Output<'_, W>)
 }
 
 // Puts points slice by slice: a long slice bypasses the buffer of the output.
-#[tactic(auto, using(outputs::proofs::OutputLaws::putting_start, outputs::proofs::OutputLaws::putting_end))]
+#[tactic(auto, using(base_outputs::proofs::OutputLaws::putting_start, base_outputs::proofs::OutputLaws::putting_end))]
 fn put_points<W: Write>(points: &Points<'_>, output: &mut Output<'_, W>)
     ensures { Puts W.contents output.old output.new (flat_map word_bytes points.now) }
 {

@@ -1,12 +1,12 @@
 //! The bytes of a WAVE file, in the order of the file.
 ghost use Rattle.std.specs.Prelude.{◌≤◌};
 ghost use Rattle.std.specs.List.{flat_map};
-ghost use Rattle.outputs.specs.Output.{Puts};
-ghost use Rattle.outputs.specs.Writing.{Writes};
+ghost use Rattle.base_outputs.specs.Output.{Puts};
+ghost use Rattle.base_outputs.specs.Writing.{Writes};
 ghost use Rattle.wave_file.specs.Wave.{FitsWave, wave, head, format, sample_bytes};
 
+use base_outputs::{Output, WriteFault};
 use byteorder::{ByteOrder, LittleEndian};
-use outputs::{Output, WriteFault};
 use std::io::Write;
 
 /// Frames per second.

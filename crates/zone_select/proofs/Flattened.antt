@@ -7,9 +7,9 @@ use Rattle.std.specs.Option.{option_map_or}
 use Rattle.std.proofs.lemmas.List.Concat.{flat_map-append}
 use Rattle.std.proofs.lemmas.List.Sorted.{IsPermutation-refl, IsPermutation-sym, IsPermutation-trans}
 use Rattle.std.proofs.lemmas.List.Sorted.{IsPermutation-append_left, IsPermutation-append_comm}
-use Rattle.numbered_lists.specs.Moved.{moved}
-use Rattle.numbered_lists.proofs.Lists.{insert-remove}
-use Rattle.zone_ranges.specs.Splits.{parted, merged}
+use Rattle.base_numbered_lists.specs.Moved.{moved}
+use Rattle.base_numbered_lists.proofs.Lists.{insert-remove}
+use Rattle.bank_zone_ranges.specs.Splits.{parted, merged}
 
 module _ {Z : Type 0} where
   exchange : (a b c : List Z) → IsPermutation (a ++ (b ++ c)) (b ++ (a ++ c))

@@ -3,7 +3,7 @@ use Rattle.std.specs.Prelude.{ℕ, List, [], Option, slice_get}
 use Rattle.std.specs.List.{find}
 use Rattle.std.specs.List.Sorted.{IsPermutation}
 use Rattle.std.specs.Option.{option_map_or, option_map}
-use Rattle.note_list.specs.Notes.{Numbers}
+use Rattle.script_notes.specs.Notes.{Numbers}
 use Rattle.bank_parts.specs.declared.parts.Head.{Head}
 use Rattle.bank_parts.specs.declared.parts.WithZones.{WithZones}
 use Rattle.bank_parts.specs.declared.parts.Parts.{Parts}

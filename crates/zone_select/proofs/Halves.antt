@@ -3,14 +3,14 @@ use Rattle.std.proofs.Common.{◌≡◌, ℕ, ◌-◌, ◌<◌, ◌≤◌, Bool,
 use Rattle.std.proofs.Common.{sym, ap, subst, ◌∙◌, inl, inr, arith, append-nil}
 use Rattle.std.proofs.lemmas.Bool.{cases_lt}
 use Rattle.std.proofs.lemmas.Bool.Decides.{nat_tests}
-use Rattle.note_list.specs.Notes.{Numbers}
+use Rattle.script_notes.specs.Notes.{Numbers}
 use Rattle.bank_parts.specs.declared.parts.GlobalZone.{GlobalZone}
 use Rattle.bank_parts.specs.declared.parts.Zone.{Zone}
-use Rattle.zone_ranges.specs.declared.axes.Axis.{Axis}
-use Rattle.zone_ranges.specs.declared.axes.Axis.TheVariants.{Key, Vel}
-use Rattle.zone_ranges.specs.Ranges.{low_end, high_end, range_from, range_of}
-use Rattle.zone_ranges.specs.Splits.{lower_part, upper_part}
-use Rattle.zone_ranges.proofs.SplitLaws.{IsSplitAt, low_is_small}
+use Rattle.bank_zone_ranges.specs.declared.axes.Axis.{Axis}
+use Rattle.bank_zone_ranges.specs.declared.axes.Axis.TheVariants.{Key, Vel}
+use Rattle.bank_zone_ranges.specs.Ranges.{low_end, high_end, range_from, range_of}
+use Rattle.bank_zone_ranges.specs.Splits.{lower_part, upper_part}
+use Rattle.bank_zone_ranges.proofs.SplitLaws.{IsSplitAt, low_is_small}
 use Rattle.zone_select.specs.Ranges.{within, holds}
 use Rattle.zone_select.specs.Taken.{Taken, taken}
 use Rattle.zone_select.proofs.RangeLaws.{taken-with, range-with, other-with, within_ends}

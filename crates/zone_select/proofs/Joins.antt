@@ -3,17 +3,17 @@ use Rattle.std.proofs.Common.{◌≡◌, ◌≢◌, ℕ, ◌+◌, ◌≤◌, con
 use Rattle.std.proofs.Common.{ap, subst, ◌∙◌, inl, inr, arith}
 use Rattle.std.proofs.lemmas.Bool.{cases_lt}
 use Rattle.std.proofs.lemmas.Bool.Decides.{nat_tests}
-use Rattle.note_list.specs.Notes.{Numbers}
+use Rattle.script_notes.specs.Notes.{Numbers}
 use Rattle.bank_parts.specs.declared.parts.GlobalZone.{GlobalZone}
 use Rattle.bank_parts.specs.declared.parts.Zone.{Zone}
-use Rattle.zone_ranges.specs.declared.axes.Axis.{Axis}
-use Rattle.zone_ranges.specs.declared.axes.Axis.TheVariants.{Key, Vel}
-use Rattle.zone_ranges.specs.declared.axes.Keep.{Keep}
-use Rattle.zone_ranges.specs.declared.axes.Keep.TheVariants as keeping
-use Rattle.zone_ranges.specs.Ranges.{range_operator, low_end, high_end, whole_range, inherited_range, range_of}
-use Rattle.zone_ranges.specs.Splits.{joint_range, joined}
-use Rattle.zone_ranges.specs.Undone.{own_amount}
-use Rattle.zone_ranges.proofs.SplitLaws.{IsInherited, AreJoined, low_is_small}
+use Rattle.bank_zone_ranges.specs.declared.axes.Axis.{Axis}
+use Rattle.bank_zone_ranges.specs.declared.axes.Axis.TheVariants.{Key, Vel}
+use Rattle.bank_zone_ranges.specs.declared.axes.Keep.{Keep}
+use Rattle.bank_zone_ranges.specs.declared.axes.Keep.TheVariants as keeping
+use Rattle.bank_zone_ranges.specs.Ranges.{range_operator, low_end, high_end, whole_range, inherited_range, range_of}
+use Rattle.bank_zone_ranges.specs.Splits.{joint_range, joined}
+use Rattle.bank_zone_ranges.specs.Undone.{own_amount}
+use Rattle.bank_zone_ranges.proofs.SplitLaws.{IsInherited, AreJoined, low_is_small}
 use Rattle.zone_select.specs.Ranges.{within, holds}
 use Rattle.zone_select.specs.Taken.{Taken, taken}
 use Rattle.zone_select.proofs.RangeLaws.{taken-with, taken-without, range-with, range-without, other-with}

@@ -13,7 +13,7 @@ use Rattle.generators.specs.Defaults.{default_of}
 use Rattle.generators.specs.Levels.{is_allowed}
 use Rattle.sound_tables.specs.Floor.{floor_div, floor_mod}
 use Rattle.sound_tables.proofs.FloorLaws.{floor_div_is}
-use Rattle.note_list.specs.Notes.{Numbers}
+use Rattle.script_notes.specs.Notes.{Numbers}
 use Rattle.bank_parts.specs.declared.parts.Sample.{Sample}
 use Rattle.zone_select.specs.Taken.{Taken}
 use Rattle.zone_select.specs.Amounts.{amount, sum_of, linear_part, linear_sources, key_of, velocity_of, root_of}

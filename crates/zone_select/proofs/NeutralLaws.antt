@@ -6,10 +6,10 @@ use Rattle.std.specs.Option.{option_map}
 use Rattle.std.proofs.lemmas.Bool.Decides.{nat_tests}
 use Rattle.std.proofs.lemmas.List.{length-map}
 use Rattle.std.proofs.lemmas.Option.{slice_get-map}
-use Rattle.numbered_lists.specs.declared.renumbering.Renumbering.TheVariants.{Insertion, Removal, Move}
-use Rattle.numbered_lists.specs.Moved.{moved}
-use Rattle.numbered_lists.specs.Renumbered.{renumbered}
-use Rattle.numbered_lists.proofs.Following.{insertion_followed, removal_followed, move_followed}
+use Rattle.base_numbered_lists.specs.declared.renumbering.Renumbering.TheVariants.{Insertion, Removal, Move}
+use Rattle.base_numbered_lists.specs.Moved.{moved}
+use Rattle.base_numbered_lists.specs.Renumbered.{renumbered}
+use Rattle.base_numbered_lists.proofs.Following.{insertion_followed, removal_followed, move_followed}
 use Rattle.generators.specs.declared.level.Level.{Level}
 use Rattle.generators.specs.declared.level.Level.TheVariants as level
 use Rattle.bank_parts.specs.declared.parts.Head.{Head}
@@ -20,13 +20,13 @@ use Rattle.bank_parts.specs.declared.parts.Parts.{Parts}
 use Rattle.bank_parts.specs.Owners.{with_head}
 use Rattle.bank_parts.specs.Renumbered.{sample_renumbered}
 use Rattle.bank_parts.specs.Valid.{IsZone, IsOwner, IsPreset, IsInstrument, AreGenerators}
-use Rattle.zone_ranges.specs.declared.axes.Axis.{Axis}
-use Rattle.zone_ranges.specs.declared.axes.Keep.{Keep}
-use Rattle.zone_ranges.specs.Ranges.{low_end, high_end, whole_range, own_range}
-use Rattle.zone_ranges.specs.Splits.{zones_split, zones_joined, splits_at, joins_at}
-use Rattle.zone_ranges.proofs.SplitLaws.{split_at, joined_at}
-use Rattle.zone_ranges.proofs.PartLaws.{own_holds}
-use Rattle.zone_ranges.proofs.There.{there_split, there_joined}
+use Rattle.bank_zone_ranges.specs.declared.axes.Axis.{Axis}
+use Rattle.bank_zone_ranges.specs.declared.axes.Keep.{Keep}
+use Rattle.bank_zone_ranges.specs.Ranges.{low_end, high_end, whole_range, own_range}
+use Rattle.bank_zone_ranges.specs.Splits.{zones_split, zones_joined, splits_at, joins_at}
+use Rattle.bank_zone_ranges.proofs.SplitLaws.{split_at, joined_at}
+use Rattle.bank_zone_ranges.proofs.PartLaws.{own_holds}
+use Rattle.bank_zone_ranges.proofs.There.{there_split, there_joined}
 use Rattle.bank_changes.specs.declared.members.Owner.TheVariants as owner
 use Rattle.bank_changes.specs.Samples.{named}
 use Rattle.bank_changes.specs.Points.{of_kind}

@@ -4,8 +4,8 @@ use Rattle.std.proofs.Common.{Option, Some, None, IsSome, slice_get, refl, sym, 
 use Rattle.std.specs.Prelude.{is_some}
 use Rattle.std.specs.List.{Contains, flat_map, find, range_with_len}
 use Rattle.std.specs.Option.{option_map, option_map_or, option_and_then}
-use Rattle.numbered_lists.proofs.Lists.{slice_get-within, slice_get-found}
-use Rattle.note_list.specs.Notes.{Numbers}
+use Rattle.base_numbered_lists.proofs.Lists.{slice_get-within, slice_get-found}
+use Rattle.script_notes.specs.Notes.{Numbers}
 use Rattle.bank_parts.specs.declared.parts.Head.{Head}
 use Rattle.bank_parts.specs.declared.parts.GlobalZone.{GlobalZone}
 use Rattle.bank_parts.specs.declared.parts.Zone.{Zone}

@@ -10,10 +10,10 @@ use Rattle.generators.proofs.MapLaws.{get-insert_any, get-remove_any}
 use Rattle.generators.proofs.Order.{untied}
 use Rattle.bank_parts.specs.declared.parts.GlobalZone.{GlobalZone}
 use Rattle.bank_parts.specs.declared.parts.Zone.{Zone}
-use Rattle.zone_ranges.specs.declared.axes.Axis.{Axis}
-use Rattle.zone_ranges.specs.declared.axes.Axis.TheVariants.{Key, Vel}
-use Rattle.zone_ranges.specs.Ranges.{range_operator, range_from, inherited_range, range_of, with_range, without_range}
-use Rattle.zone_ranges.proofs.SplitLaws.{low_of_range, high_of_range, own_with, own_without}
+use Rattle.bank_zone_ranges.specs.declared.axes.Axis.{Axis}
+use Rattle.bank_zone_ranges.specs.declared.axes.Axis.TheVariants.{Key, Vel}
+use Rattle.bank_zone_ranges.specs.Ranges.{range_operator, range_from, inherited_range, range_of, with_range, without_range}
+use Rattle.bank_zone_ranges.proofs.SplitLaws.{low_of_range, high_of_range, own_with, own_without}
 use Rattle.zone_select.specs.Ranges.{within}
 use Rattle.zone_select.specs.Taken.{setting, Taken, taken}
 

@@ -6,7 +6,7 @@ use Rattle.std.specs.Option.{option_map_or, option_map}
 use Rattle.std.proofs.lemmas.Bool.{leb-true, leb-false}
 use Rattle.std.proofs.lemmas.Option.{get_or_from_slice_get, slice_get_within, slice_get_cases}
 use Rattle.std.proofs.lemmas.List.Sums.{get_or-le-sum_by}
-use Rattle.note_list.specs.Notes.{Numbers}
+use Rattle.script_notes.specs.Notes.{Numbers}
 use Rattle.bank_parts.specs.declared.parts.Zone.{Zone}
 use Rattle.bank_parts.specs.declared.parts.WithZones.{WithZones}
 use Rattle.bank_parts.specs.declared.parts.Parts.{Parts}
@@ -17,8 +17,8 @@ use Rattle.bank_changes.specs.declared.members.Owner.TheVariants as owner
 use Rattle.bank_parts.specs.Owners.{zone_count_at}
 use Rattle.bank_changes.specs.Members.{own_zone_count}
 use Rattle.bank_changes.specs.Zones.{range_of_zone}
-use Rattle.zone_ranges.specs.declared.axes.Axis.TheVariants.{Key, Vel}
-use Rattle.zone_ranges.specs.Ranges.{low_end, high_end, range_of, range_at}
+use Rattle.bank_zone_ranges.specs.declared.axes.Axis.TheVariants.{Key, Vel}
+use Rattle.bank_zone_ranges.specs.Ranges.{low_end, high_end, range_of, range_at}
 use Rattle.zone_select.specs.Ranges.{holds, within}
 use Rattle.zone_select.specs.Pairs.{holds_at, held}
 use Rattle.zone_select.specs.Left.{zones_in, owner_holds, owner_held}

@@ -6,14 +6,14 @@ use Rattle.std.specs.List.{flat_map}
 use Rattle.std.specs.List.Sorted.{IsPermutation}
 use Rattle.std.specs.Option.{option_map_or}
 use Rattle.std.proofs.lemmas.List.Sorted.{IsPermutation-refl, IsPermutation-append}
-use Rattle.numbered_lists.specs.Moved.{moved}
-use Rattle.note_list.specs.Notes.{Numbers}
+use Rattle.base_numbered_lists.specs.Moved.{moved}
+use Rattle.script_notes.specs.Notes.{Numbers}
 use Rattle.bank_parts.specs.declared.parts.GlobalZone.{GlobalZone}
 use Rattle.bank_parts.specs.declared.parts.Zone.{Zone}
-use Rattle.zone_ranges.specs.declared.axes.Axis.{Axis}
-use Rattle.zone_ranges.specs.declared.axes.Keep.{Keep}
-use Rattle.zone_ranges.specs.Splits.{lower_part, upper_part, parted, zones_split, joined, merged, zones_joined}
-use Rattle.zone_ranges.proofs.SplitLaws.{IsSplitAt}
+use Rattle.bank_zone_ranges.specs.declared.axes.Axis.{Axis}
+use Rattle.bank_zone_ranges.specs.declared.axes.Keep.{Keep}
+use Rattle.bank_zone_ranges.specs.Splits.{lower_part, upper_part, parted, zones_split, joined, merged, zones_joined}
+use Rattle.bank_zone_ranges.proofs.SplitLaws.{IsSplitAt}
 use Rattle.zone_select.specs.Ranges.{holds}
 use Rattle.zone_select.specs.Taken.{Taken, taken}
 use Rattle.zone_select.specs.Select.{voices_of}

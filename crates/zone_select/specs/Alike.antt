@@ -1,7 +1,7 @@
 -- Banks that give each note the same voices, and banks whose pairs of zones correspond.
 use Rattle.std.specs.Prelude.{◌≡◌, ℕ, List, map}
 use Rattle.std.specs.List.Sorted.{IsPermutation}
-use Rattle.note_list.specs.Notes.{Numbers}
+use Rattle.script_notes.specs.Notes.{Numbers}
 use Rattle.bank_parts.specs.declared.parts.Parts.{Parts}
 use Rattle.zone_select.specs.Select.{selected}
 use Rattle.zone_select.specs.Pairs.{pairs, voice_by}

@@ -13,7 +13,7 @@ use Rattle.modulators.specs.Modulators.{same_identity, default_velocity}
 use Rattle.modulators.specs.Linear.{linear_value}
 use Rattle.sound_tables.specs.Floor.{floor_div, floor_mod, above_zero}
 use Rattle.sound_tables.specs.Tables.{frames_of, velocity_attenuation_of, step_of}
-use Rattle.note_list.specs.Notes.{Numbers}
+use Rattle.script_notes.specs.Notes.{Numbers}
 use Rattle.bank_parts.specs.declared.parts.Sample.{Sample}
 use Rattle.zone_select.specs.declared.parameters.VoiceParameters.{VoiceParameters}
 use Rattle.zone_select.specs.Taken.{Taken}

@@ -9,7 +9,7 @@ use Rattle.bank_changes.specs.declared.members.Place.TheVariants as place
 use Rattle.modulators.specs.declared.modulator.Modulator.{Modulator}
 use Rattle.bank_changes.specs.Members.{amount_of, mods_of, target_of}
 use Rattle.bank_parts.specs.declared.parts.Parts.{Parts}
-use Rattle.note_list.specs.Notes.{Numbers}
+use Rattle.script_notes.specs.Notes.{Numbers}
 use Rattle.zone_select.specs.declared.amounts.PairAt.{PairAt}
 use Rattle.zone_select.specs.declared.chosen.ChosenAt.{ChosenAt}
 use Rattle.zone_select.specs.Taken.{Taken}

@@ -9,8 +9,8 @@ use Rattle.bank_parts.specs.declared.parts.WithZones.{WithZones}
 use Rattle.bank_parts.specs.declared.parts.Parts.{Parts}
 use Rattle.bank_parts.specs.Owners.{targets}
 use Rattle.bank_parts.specs.Valid.{IsValid}
-use Rattle.zone_ranges.specs.declared.axes.Axis.{Axis}
-use Rattle.zone_ranges.specs.declared.axes.Keep.{Keep}
+use Rattle.bank_zone_ranges.specs.declared.axes.Axis.{Axis}
+use Rattle.bank_zone_ranges.specs.declared.axes.Keep.{Keep}
 use Rattle.bank_changes.specs.declared.members.Owner.{Owner}
 use Rattle.bank_changes.specs.Samples.{sample_renamed, sample_added, sample_removed, sample_moved}
 use Rattle.bank_changes.specs.Points.{kind_set}

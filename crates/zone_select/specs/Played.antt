@@ -1,7 +1,7 @@
 -- A pair is among the pairs of a note exactly if it has a voice.
 use Rattle.std.specs.Prelude.{◌↔◌, ℕ, IsSome}
 use Rattle.std.specs.List.{Contains}
-use Rattle.note_list.specs.Notes.{Numbers}
+use Rattle.script_notes.specs.Notes.{Numbers}
 use Rattle.bank_parts.specs.declared.parts.Parts.{Parts}
 use Rattle.bank_parts.specs.Valid.{IsValid}
 use Rattle.zone_select.specs.Pairs.{pairs, chosen_by, voice_by}

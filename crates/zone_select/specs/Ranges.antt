@@ -1,10 +1,10 @@
 -- Which notes a zone contains.
 use Rattle.std.specs.Prelude.{ℕ, Bool, nat_le, ◌&&◌}
-use Rattle.note_list.specs.Notes.{Numbers}
+use Rattle.script_notes.specs.Notes.{Numbers}
 use Rattle.bank_parts.specs.declared.parts.GlobalZone.{GlobalZone}
 use Rattle.bank_parts.specs.declared.parts.Zone.{Zone}
-use Rattle.zone_ranges.specs.declared.axes.Axis.TheVariants.{Key, Vel}
-use Rattle.zone_ranges.specs.Ranges.{low_end, high_end, range_of}
+use Rattle.bank_zone_ranges.specs.declared.axes.Axis.TheVariants.{Key, Vel}
+use Rattle.bank_zone_ranges.specs.Ranges.{low_end, high_end, range_of}
 
 -- a number is in a range
 abbrev pub within : ℕ → ℕ → Bool

@@ -8,7 +8,7 @@ use crate::amounts::PairAt;
 use crate::pairs::first_called;
 use crate::zones::holds;
 use bank_core::{Bank, Owner};
-use note_list::Note;
+use script_notes::Note;
 
 // Two zones that a note selects, and the number of the instrument zone's sample.
 #[derive(Debug, Clone, Copy, PartialEq, Eq)]

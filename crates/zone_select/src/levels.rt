@@ -12,7 +12,7 @@ use crate::pitches::velocity;
 use bank_core::Bank;
 use generators::operators::{INITIAL_ATTENUATION, PAN, SUSTAIN_VOL_ENV};
 use modulators::DEFAULT_VELOCITY;
-use note_list::Note;
+use script_notes::Note;
 use sound_tables::{frames, velatt};
 
 // The attenuation of a voice in centibels: that of its zones plus that of its velocity.

@@ -9,7 +9,7 @@ use crate::amounts::{PairAt, amount, modulator_amount};
 use crate::pitches::{key, velocity};
 use bank_core::Bank;
 use modulators::{Modulator, linear_value};
-use note_list::Note;
+use script_notes::Note;
 
 /// The sources of linear modulators: velocity or key, increasing or decreasing, unipolar or bipolar.
 const LINEAR_SOURCES: [u16; 8] = [2, 3, 258, 259, 514, 515, 770, 771];

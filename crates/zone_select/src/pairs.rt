@@ -9,7 +9,7 @@ ghost use Rattle.zone_select.specs.Left.{inside_held, pairs_left};
 
 use crate::zones::next_held;
 use bank_core::{Bank, List, Owner};
-use note_list::Note;
+use script_notes::Note;
 use std::marker::Model;
 
 /// Iterates over the pairs of zones that a note selects, in ascending order: the number of the preset's zone, then that

@@ -17,7 +17,7 @@ use bank_parts::Sample;
 use generators::operators::{
     ATTACK_VOL_ENV, DECAY_VOL_ENV, DELAY_VOL_ENV, HOLD_VOL_ENV, RELEASE_VOL_ENV,
 };
-use note_list::Note;
+use script_notes::Note;
 
 /// The parameters of a voice, besides the points of its sample (SoundFont 2.04, sections 8.1.2 and 9). Points are
 /// counted from the sample's first; times are frames of 1/44100 second.

@@ -11,7 +11,7 @@ use bank_parts::Sample;
 use generators::operators::{
     COARSE_TUNE, FINE_TUNE, KEYNUM, OVERRIDING_ROOT_KEY, SCALE_TUNING, VELOCITY,
 };
-use note_list::Note;
+use script_notes::Note;
 use sound_tables::step;
 
 /// The root key of a sample that has none: middle C.

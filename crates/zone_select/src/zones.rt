@@ -1,11 +1,11 @@
 //! The zones of an owner that contain a note.
 ghost use Rattle.std.specs.Prelude.{◌≡◌, ◌<◌, ◌≤◌, ◌∷◌, ◌+◌, [], MatchOption, IfSome};
-ghost use Rattle.note_list.specs.Notes.{Numbers};
+ghost use Rattle.script_notes.specs.Notes.{Numbers};
 ghost use Rattle.zone_select.specs.Left.{zones_in, owner_holds, owner_held};
 
 use bank_core::{Bank, Owner};
-use note_list::Note;
-use zone_ranges::Axis;
+use bank_zone_ranges::Axis;
+use script_notes::Note;
 
 /// Returns how many zones a preset or an instrument has; 0 if it doesn't exist.
 pub fn zones_in(bank: &Bank<'_>, owner: Owner) -> u32

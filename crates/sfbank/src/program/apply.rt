@@ -2,9 +2,9 @@
 use super::checks::{apart, no_bank};
 use super::endings::end_both_at;
 use crate::edit::run_script;
-use command_words::ApplyPaths;
-use progress::Progress;
-use sfbank_program::{Fault, OutputFile, read_file};
+use base_progress::Progress;
+use program_commands::ApplyPaths;
+use program_files::{Fault, OutputFile, read_file};
 use std::rt::Files;
 
 /// Runs the script on the bank. Both files are read whole first, so OUT may be the bank's own file.

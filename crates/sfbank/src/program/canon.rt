@@ -1,8 +1,8 @@
 //! The command `canon`.
 use super::endings::end_at;
 use crate::canon::canon_run;
-use command_words::CanonPaths;
-use sfbank_program::{Fault, Sink, read_file};
+use program_commands::CanonPaths;
+use program_files::{Fault, Sink, read_file};
 use std::io::Write;
 use std::rt::Files;
 

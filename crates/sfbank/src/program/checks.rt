@@ -1,6 +1,6 @@
 //! Checks of output paths, before anything is read.
 
-use sfbank_program::{Fault, check_apart, check_no_bank};
+use program_files::{Fault, check_apart, check_no_bank};
 use std::rt::Files;
 
 /// Rejects an output that is the same file as one of the others.

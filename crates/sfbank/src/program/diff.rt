@@ -2,8 +2,8 @@
 use super::checks::no_bank;
 use super::endings::end_at;
 use crate::diff::diff_run;
-use command_words::DiffPaths;
-use sfbank_program::{Fault, Sink, read_file};
+use program_commands::DiffPaths;
+use program_files::{Fault, Sink, read_file};
 use std::io::Write;
 use std::rt::Files;
 

@@ -1,6 +1,6 @@
 //! Ends a command by the result of its run: finishes the output files, and adds paths to faults.
 
-use sfbank_program::{Fault, OutputFile, RunFault, Sink, Which, end_both};
+use program_files::{Fault, OutputFile, RunFault, Sink, Which, end_both};
 use std::io::Write;
 use std::rt::Files;
 

@@ -1,7 +1,7 @@
 //! The command `explain`.
 use super::endings::at;
-use fault_explanations::{explain as explained, write_explanation};
-use sfbank_program::{Fault, RunFault, STANDARD_OUTPUT, Which};
+use program_explanations::{explain as explained, write_explanation};
+use program_files::{Fault, RunFault, STANDARD_OUTPUT, Which};
 use std::io::Write;
 
 /// Writes the meaning of a fault or cause number to the standard output.

@@ -2,8 +2,8 @@
 use super::checks::{apart, no_bank};
 use super::endings::end_both_at;
 use crate::import::import_run;
-use command_words::{ImportPaths, recording_name};
-use sfbank_program::{Fault, OutputFile, read_file};
+use program_commands::{ImportPaths, recording_name};
+use program_files::{Fault, OutputFile, read_file};
 use std::rt::Files;
 
 /// Imports a WAVE file into the bank, named after the file. Both files are read whole first, so OUT may be the bank's

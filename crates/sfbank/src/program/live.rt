@@ -8,11 +8,11 @@ use super::checks::{apart, no_bank};
 use super::endings::at;
 use crate::deliver::{deliver_bank, deliver_undo};
 use bank_core::Bank;
-use command_words::LivePaths;
 use edit_forms::Edit;
 use live_lines::Paths;
 use live_sessions::{InputLines, LiveFault, SaveFault, Saves, live_run};
-use sfbank_program::{
+use program_commands::LivePaths;
+use program_files::{
     Fault, InputFault, OutputCheck, OutputFile, RunFault, STANDARD_OUTPUT, Which, check_apart,
     check_no_bank, end_both, read_file,
 };

@@ -2,8 +2,8 @@
 use super::checks::no_bank;
 use super::endings::end_at;
 use crate::new::new_run;
-use command_words::NewBank;
-use sfbank_program::{Fault, Sink};
+use program_commands::NewBank;
+use program_files::{Fault, Sink};
 use std::io::Write;
 use std::rt::Files;
 

@@ -2,9 +2,9 @@
 use super::checks::{apart, no_bank};
 use super::endings::end_at;
 use crate::play::play_run_with_progress;
-use command_words::PlayPaths;
-use progress::Progress;
-use sfbank_program::{Fault, Sink, read_file};
+use base_progress::Progress;
+use program_commands::PlayPaths;
+use program_files::{Fault, Sink, read_file};
 use std::io::Write;
 use std::rt::Files;
 

@@ -1,13 +1,13 @@
 //! The command `script`.
 ghost use Rattle.std.specs.Prelude.{◌≡◌, if◌then◌else◌};
-ghost use Rattle.bank_text.specs.declared.samples.SamplePoints.TheVariants.{Kept, LeftOut};
+ghost use Rattle.script_of_bank.specs.declared.samples.SamplePoints.TheVariants.{Kept, LeftOut};
 
 use super::checks::no_bank;
 use super::endings::end_at;
 use crate::script::script_run;
-use bank_text::SamplePoints;
-use command_words::ScriptPaths;
-use sfbank_program::{Fault, Sink, read_file};
+use program_commands::ScriptPaths;
+use program_files::{Fault, Sink, read_file};
+use script_of_bank::SamplePoints;
 use std::io::Write;
 use std::rt::Files;
 

@@ -1,9 +1,9 @@
 //! The command `show`.
 use super::endings::at;
 use crate::show::{show_details_run, show_run};
-use bank_listing::Details;
-use command_words::ShowPaths;
-use sfbank_program::{Fault, STANDARD_OUTPUT, read_file};
+use program_commands::ShowPaths;
+use program_files::{Fault, STANDARD_OUTPUT, read_file};
+use show_listing::Details;
 use std::io::Write;
 use std::rt::Files;
 

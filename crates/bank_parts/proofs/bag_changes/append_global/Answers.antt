@@ -1,6 +1,6 @@
 use Rattle.std.proofs.Common.{◌≡◌, length, ap, arith}
 use Rattle.std.specs.FinMap.{len-entries}
-use Rattle.numbered_lists.proofs.Lists.{slice_get-found}
+use Rattle.base_numbered_lists.proofs.Lists.{slice_get-found}
 use Rattle.flat_records.specs.Bags.{Bag}
 use Rattle.bank_parts.specs.Counts.{records_of_global, records_sum}
 use Rattle.bank_parts.specs.Bagged.{global_bags, global_bag}

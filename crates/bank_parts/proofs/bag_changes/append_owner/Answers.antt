@@ -1,5 +1,5 @@
 use Rattle.std.proofs.Common.{◌≡◌, ◌++◌, map, sym, subst, arith}
-use Rattle.numbered_lists.specs.Moved.{changed}
+use Rattle.base_numbered_lists.specs.Moved.{changed}
 use Rattle.bank_parts.specs.Counts.{records_of_owner, records_of_global}
 use Rattle.bank_parts.specs.Bagged.{zone_bag, global_bags}
 use Rattle.bank_parts.specs.Room.{HasRoom, records_of_zones}

@@ -1,5 +1,5 @@
 use Rattle.std.proofs.Common.{◌-◌, length, sym, arith}
-use Rattle.numbered_lists.proofs.Lists.{slice_get-within}
+use Rattle.base_numbered_lists.proofs.Lists.{slice_get-within}
 use Rattle.bank_parts.proofs.ReadLaws.{amount-at}
 use Rattle.bank_parts.proofs.reading.last_amount.Goals as goal
 

@@ -1,6 +1,6 @@
 use Rattle.std.proofs.Common.{drop}
 use Rattle.std.specs.List.{flat_map}
-use Rattle.outputs.proofs.OutputLaws.{Putting}
+use Rattle.base_outputs.proofs.OutputLaws.{Putting}
 use Rattle.edit_script.proofs.PutLaws.{braced_text}
 use Rattle.edit_script.proofs.edits.put_all_braced.Given as goal
 

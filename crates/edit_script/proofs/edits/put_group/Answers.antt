@@ -1,6 +1,6 @@
 use Rattle.std.proofs.Common.{codes}
 use Rattle.std.specs.List.{flat_map}
-use Rattle.line_tokens.proofs.PrintLaws.{puts_line}
+use Rattle.script_tokens.proofs.PrintLaws.{puts_line}
 use Rattle.script_grammar.specs.Operands.{pieces_of}
 use Rattle.edit_script.specs.Grammar.{braced}
 use Rattle.edit_script.specs.Printing.{text_of}

@@ -1,6 +1,6 @@
-use Rattle.line_tokens.proofs.PrintLaws.{puts_line}
+use Rattle.script_tokens.proofs.PrintLaws.{puts_line}
 use Rattle.script_grammar.specs.Operands.{pieces_of}
-use Rattle.step_script.specs.Grammar.{word_of, operands}
+use Rattle.script_steps.specs.Grammar.{word_of, operands}
 use Rattle.edit_script.specs.Printing.{text_of}
 use Rattle.edit_script.proofs.edits.put_one.Goals as goal
 

@@ -1,9 +1,9 @@
 use Rattle.std.proofs.Common.{◌∙◌, sym, ap}
-use Rattle.line_tokens.specs.Said.{Left, all_said_over}
-use Rattle.line_tokens.specs.Tokens.{tokens_of}
+use Rattle.script_tokens.specs.Said.{Left, all_said_over}
+use Rattle.script_tokens.specs.Tokens.{tokens_of}
 use Rattle.edit_script.specs.Grammar.{edit}
 use Rattle.edit_script.specs.Script.{with_edit}
-use Rattle.line_tokens.proofs.PoolLaws.{pool_at_end}
+use Rattle.script_tokens.proofs.PoolLaws.{pool_at_end}
 use Rattle.edit_script.proofs.ScriptLaws.{says_nothing, one_more, not_read, not_both}
 use Rattle.edit_script.proofs.parsing.add_edit.Goals as goal
 

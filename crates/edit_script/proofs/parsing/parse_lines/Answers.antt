@@ -1,10 +1,10 @@
 use Rattle.std.proofs.Common.{◌∙◌, ◌+◌, length, ap, refl, arith}
 use Rattle.std.proofs.lemmas.Result.{err_from_is_err_and}
-use Rattle.line_tokens.specs.Said.{all_said_over, lines_said_over}
-use Rattle.line_tokens.specs.Tokens.{tokens_of}
+use Rattle.script_tokens.specs.Said.{all_said_over, lines_said_over}
+use Rattle.script_tokens.specs.Tokens.{tokens_of}
 use Rattle.edit_script.specs.Script.{edit_of, edits_in}
-use Rattle.line_tokens.proofs.PoolLaws.{lines_said_on, lines_said_end}
-use Rattle.line_tokens.proofs.GatherLaws.{step_fails, lines_on, lines_stop, lines_over, length-lines_of}
+use Rattle.script_tokens.proofs.PoolLaws.{lines_said_on, lines_said_end}
+use Rattle.script_tokens.proofs.GatherLaws.{step_fails, lines_on, lines_stop, lines_over, length-lines_of}
 use Rattle.edit_script.proofs.parsing.parse_lines.Goals as goal
 
 pub loop-line-init : goal.loop-line-init

@@ -1,7 +1,7 @@
 use Rattle.std.proofs.Common.{◌≡◌, ◌≤◌, ◌+◌, length}
-use Rattle.line_tokens.specs.Lines.{lines_of}
-use Rattle.line_tokens.specs.Said.{lines_said_over}
-use Rattle.line_tokens.specs.Pool.{gather}
+use Rattle.script_tokens.specs.Lines.{lines_of}
+use Rattle.script_tokens.specs.Said.{lines_said_over}
+use Rattle.script_tokens.specs.Pool.{gather}
 use Rattle.edit_script.specs.Script.{edit_of, edits_in}
 use Rattle.edit_script.proofs.parsing.parse_lines.Given as goal
 

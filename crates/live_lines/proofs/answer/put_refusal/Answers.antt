@@ -1,5 +1,5 @@
 use Rattle.std.proofs.Common.{codes}
-use Rattle.line_tokens.proofs.PrintLaws.{puts_line}
+use Rattle.script_tokens.proofs.PrintLaws.{puts_line}
 use Rattle.live_lines.specs.Answers.{reason_pieces}
 use Rattle.live_lines.proofs.answer.put_refusal.Goals as goal
 

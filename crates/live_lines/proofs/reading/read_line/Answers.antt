@@ -1,6 +1,6 @@
 use Rattle.std.proofs.Common.{◌∙◌, sym, ap}
-use Rattle.line_tokens.specs.Said.{Left, said_in}
-use Rattle.line_tokens.proofs.GatherLaws.{step_fails}
+use Rattle.script_tokens.specs.Said.{Left, said_in}
+use Rattle.script_tokens.proofs.GatherLaws.{step_fails}
 use Rattle.live_lines.specs.Requests.{some_request}
 use Rattle.live_lines.proofs.LineLaws.{says_same}
 use Rattle.live_lines.proofs.RequestLaws.{asks_nothing, line_asks, not_both}

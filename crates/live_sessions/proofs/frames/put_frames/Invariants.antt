@@ -1,6 +1,6 @@
 use Rattle.std.proofs.Common.{◌≡◌}
 use Rattle.std.specs.List.{flat_map}
-use Rattle.outputs.proofs.OutputLaws.{Putting}
+use Rattle.base_outputs.proofs.OutputLaws.{Putting}
 use Rattle.mixer.specs.Events.{after_block, block}
 use Rattle.wave_file.specs.Wave.{sample_bytes}
 use Rattle.live_sessions.proofs.frames.put_frames.Given as goal

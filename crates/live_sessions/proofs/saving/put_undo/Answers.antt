@@ -1,5 +1,5 @@
 use Rattle.std.proofs.Common.{◌-◌, take, arith}
-use Rattle.outputs.proofs.OutputLaws.{putting_step}
+use Rattle.base_outputs.proofs.OutputLaws.{putting_step}
 use Rattle.edit_script.specs.Printing.{text_of}
 use Rattle.live_sessions.specs.Saved.{undo_text}
 use Rattle.live_sessions.proofs.Backward.{next_back}

@@ -1,5 +1,5 @@
 use Rattle.std.proofs.Common.{◌≤◌, length, take}
-use Rattle.outputs.proofs.OutputLaws.{Putting}
+use Rattle.base_outputs.proofs.OutputLaws.{Putting}
 use Rattle.live_sessions.specs.Saved.{undo_text}
 use Rattle.live_sessions.proofs.saving.put_undo.Given as goal
 

@@ -1,4 +1,4 @@
-use Rattle.outputs.proofs.OutputLaws.{puts_then}
+use Rattle.base_outputs.proofs.OutputLaws.{puts_then}
 use Rattle.live_sessions.proofs.telling.put_text.Goals as goal
 
 pub returns : goal.returns

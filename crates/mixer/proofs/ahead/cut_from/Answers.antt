@@ -1,7 +1,7 @@
 use Rattle.std.proofs.Common.{◌*◌, ◌/◌, ◌<◌, pos, ◌+ℤ◌, length, sym, subst, ◌∙◌, arith}
 use Rattle.std.proofs.lemmas.Grind.{common_steps}
 use Rattle.voices.specs.Within.{IsWithin}
-use Rattle.voice_levels.proofs.WriteLaws.{in_piece}
+use Rattle.sound_envelopes.proofs.WriteLaws.{in_piece}
 use Rattle.mixer.specs.Heard.{cut}
 use Rattle.mixer.proofs.ahead.cut_from.Goals as goal
 

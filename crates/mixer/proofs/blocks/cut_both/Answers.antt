@@ -1,7 +1,7 @@
 use Rattle.std.proofs.Common.{rules, ◌≡◌, ◌+ℤ◌, ◌/◌, ℤ, pos, arith, get_or, to_z, of_z, SFits}
 use Rattle.std.proofs.lemmas.Int.{ints, clamps}
 use Rattle.std.specs.Int.{w16, w32}
-use Rattle.voice_levels.proofs.WriteLaws.{below_set}
+use Rattle.sound_envelopes.proofs.WriteLaws.{below_set}
 use Rattle.mixer.specs.Heard.{cut}
 use Rattle.mixer.proofs.blocks.cut_both.Goals as goal
 

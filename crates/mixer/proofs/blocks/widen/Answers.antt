@@ -1,7 +1,7 @@
 use Rattle.std.proofs.Common.{rules, ◌≡◌, ◌+ℤ◌, ◌/◌, ℤ, pos, arith, get_or, to_z, of_z, SFits}
 use Rattle.std.proofs.lemmas.Int.{ints}
 use Rattle.std.specs.Int.{w32, w128}
-use Rattle.voice_levels.proofs.WriteLaws.{below_set, after_set}
+use Rattle.sound_envelopes.proofs.WriteLaws.{below_set, after_set}
 use Rattle.mixer.proofs.blocks.widen.Goals as goal
 
 pub overflow_add-totals-in-loop-i : goal.overflow_add-totals-in-loop-i

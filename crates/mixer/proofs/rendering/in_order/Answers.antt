@@ -1,6 +1,6 @@
 use Rattle.std.proofs.Common.{◌≡◌, ◌∙◌, ap, rules}
 use Rattle.std.proofs.lemmas.List.Sorted.{IsNonDecreasingBy-from_sort_by_key, answers_always}
-use Rattle.note_list.specs.Notes.{Numbers}
+use Rattle.script_notes.specs.Notes.{Numbers}
 use Rattle.mixer.specs.Order as order
 use Rattle.mixer.proofs.Orders.{sorted_is}
 use Rattle.mixer.proofs.rendering.in_order.Goals as goal

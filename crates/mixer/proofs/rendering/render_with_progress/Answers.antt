@@ -1,5 +1,5 @@
 use Rattle.std.proofs.Common.{arith, ◌≡◌, ◌*◌, ◌/◌, ◌∙◌, ℕ, List, length, ap, sym, subst}
-use Rattle.note_list.specs.Notes.{Numbers}
+use Rattle.script_notes.specs.Notes.{Numbers}
 use Rattle.mixer.specs.Render as whole
 use Rattle.mixer.specs.Order as order
 use Rattle.mixer.specs.Order.{IsRising, StartWithin}

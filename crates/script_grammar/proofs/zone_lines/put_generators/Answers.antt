@@ -1,4 +1,4 @@
-use Rattle.outputs.proofs.OutputLaws.{putting_member}
+use Rattle.base_outputs.proofs.OutputLaws.{putting_member}
 use Rattle.script_grammar.proofs.ZonePutLaws.{generator_text}
 use Rattle.script_grammar.proofs.zone_lines.put_generators.Goals as goal
 

@@ -1,6 +1,6 @@
 use Rattle.std.proofs.Common.{drop}
 use Rattle.std.specs.List.{flat_map}
-use Rattle.outputs.proofs.OutputLaws.{Putting}
+use Rattle.base_outputs.proofs.OutputLaws.{Putting}
 use Rattle.script_grammar.proofs.ZonePutLaws.{generator_text}
 use Rattle.script_grammar.proofs.zone_lines.put_generators.Given as goal
 

@@ -2,7 +2,7 @@ use Rattle.std.proofs.Common.{◌≡◌, Ok, Err, List, [], subst, ◌∷◌, re
 use Rattle.std.proofs.lemmas.Result.{err_from_is_err_and}
 use Rattle.bank_parts.specs.declared.parts.GlobalZone.{GlobalZone}
 use Rattle.bank_parts.specs.declared.parts.Zone.{Zone}
-use Rattle.line_tokens.specs.Parts.{Part, ◌>>=◌, pure}
+use Rattle.script_tokens.specs.Parts.{Part, ◌>>=◌, pure}
 use Rattle.script_grammar.specs.Memory.{ReadsOrWants}
 use Rattle.script_grammar.specs.Items.{no_content}
 use Rattle.script_grammar.specs.Zones.{zone_behind, zones_left, first_behind}

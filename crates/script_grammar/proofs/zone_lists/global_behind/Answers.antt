@@ -1,5 +1,5 @@
 use Rattle.std.proofs.lemmas.Result.{err_from_is_err_and}
-use Rattle.line_tokens.specs.Parts.{word}
+use Rattle.script_tokens.specs.Parts.{word}
 use Rattle.script_grammar.specs.Zones.{global_zones, global_behind}
 use Rattle.script_grammar.proofs.MemoryLaws.{first_fails, then_reads}
 use Rattle.script_grammar.proofs.zone_lists.global_behind.Goals as goal

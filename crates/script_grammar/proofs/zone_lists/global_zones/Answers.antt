@@ -2,7 +2,7 @@ use Rattle.std.proofs.Common.{Ok, Err, List, [], subst, refl}
 use Rattle.std.proofs.lemmas.Result.{err_from_is_err_and}
 use Rattle.bank_parts.specs.declared.parts.GlobalZone.{GlobalZone}
 use Rattle.bank_parts.specs.declared.parts.Zone.{Zone}
-use Rattle.line_tokens.specs.Parts.{Part, ◌>>=◌, pure}
+use Rattle.script_tokens.specs.Parts.{Part, ◌>>=◌, pure}
 use Rattle.script_grammar.specs.Memory.{ReadsOrWants}
 use Rattle.script_grammar.specs.Items.{items}
 use Rattle.script_grammar.specs.Zones.{zones_left, global_zones}

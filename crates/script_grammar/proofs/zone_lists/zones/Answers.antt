@@ -1,6 +1,6 @@
 use Rattle.std.proofs.Common.{◌∙◌, refl, sym}
 use Rattle.std.proofs.lemmas.Result.{err_from_is_err_and}
-use Rattle.line_tokens.specs.Parts.{◌>>=◌}
+use Rattle.script_tokens.specs.Parts.{◌>>=◌}
 use Rattle.script_grammar.specs.Zones.{opened, zones_behind, zones}
 use Rattle.script_grammar.proofs.ItemLaws.{none_said, some_said}
 use Rattle.script_grammar.proofs.MemoryLaws.{first_fails, then_reads, reads_as}

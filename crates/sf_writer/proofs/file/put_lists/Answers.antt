@@ -1,4 +1,4 @@
-use Rattle.outputs.proofs.OutputLaws.{puts_row, puts_then}
+use Rattle.base_outputs.proofs.OutputLaws.{puts_row, puts_then}
 use Rattle.sf_writer.proofs.FileLaws.{lists-is}
 use Rattle.sf_writer.proofs.file.put_lists.Goals as goal
 

@@ -1,4 +1,4 @@
-use Rattle.outputs.proofs.OutputLaws.{puts_row, puts_then}
+use Rattle.base_outputs.proofs.OutputLaws.{puts_row, puts_then}
 use Rattle.sf_writer.proofs.TextLaws.{info-parts}
 use Rattle.sf_writer.proofs.info.put_chunks.Goals as goal
 

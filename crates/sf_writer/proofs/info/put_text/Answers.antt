@@ -1,7 +1,7 @@
 use Rattle.std.proofs.Common.{ap}
 use Rattle.riff_chunks.specs.Spelling.{chunk}
 use Rattle.bank_format.specs.Texts.{text_body}
-use Rattle.outputs.proofs.OutputLaws.{puts_as, puts_then}
+use Rattle.base_outputs.proofs.OutputLaws.{puts_as, puts_then}
 use Rattle.sf_writer.specs.Info.{text_id}
 use Rattle.sf_writer.proofs.ChunkLaws.{put_even}
 use Rattle.sf_writer.proofs.TextLaws.{text_body-even}

@@ -1,7 +1,7 @@
 use Rattle.std.proofs.Common.{drop}
 use Rattle.std.specs.List.{flat_map}
 use Rattle.riff_chunks.specs.Spelling.{spell}
-use Rattle.outputs.proofs.OutputLaws.{Putting}
+use Rattle.base_outputs.proofs.OutputLaws.{Putting}
 use Rattle.sf_writer.specs.Info.{optional_chunk}
 use Rattle.sf_writer.proofs.info.put_texts.Given as goal
 

@@ -1,6 +1,6 @@
 use Rattle.std.proofs.Common.{◌≡◌, ◌∙◌, ◌+◌, length, sym, ap, arith}
 use Rattle.bank_parts.proofs.FlatListLaws.{first_bags_size}
-use Rattle.outputs.proofs.OutputLaws.{puts_as, putting_from, putting_step, putting_last}
+use Rattle.base_outputs.proofs.OutputLaws.{puts_as, putting_from, putting_step, putting_last}
 use Rattle.sf_writer.proofs.OwnerHeadLaws.{heads-start, heads-next, heads-last}
 use Rattle.sf_writer.proofs.owner_heads.put_heads.Goals as goal
 

@@ -2,7 +2,7 @@ use Rattle.std.proofs.Common.{drop}
 use Rattle.std.specs.List.{flat_map}
 use Rattle.bank_format.specs.Tables.{heads_from}
 use Rattle.bank_format.specs.FlatTables.{headers_of}
-use Rattle.outputs.proofs.OutputLaws.{Putting}
+use Rattle.base_outputs.proofs.OutputLaws.{Putting}
 use Rattle.sf_writer.proofs.owner_heads.put_heads.Given as goal
 
 abbrev pub invariant-loop-i : goal.invariant-loop-i

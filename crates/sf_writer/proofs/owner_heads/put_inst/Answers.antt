@@ -1,6 +1,6 @@
 use Rattle.std.proofs.Common.{refl}
 use Rattle.bank_format.specs.Ids.{INST}
-use Rattle.outputs.proofs.OutputLaws.{puts_as}
+use Rattle.base_outputs.proofs.OutputLaws.{puts_as}
 use Rattle.sf_writer.proofs.ChunkLaws.{put_even}
 use Rattle.sf_writer.proofs.OwnerHeadLaws.{inst-lent, inst-even}
 use Rattle.sf_writer.proofs.owner_heads.put_inst.Goals as goal

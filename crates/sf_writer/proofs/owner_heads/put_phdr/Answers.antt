@@ -1,6 +1,6 @@
 use Rattle.std.proofs.Common.{refl}
 use Rattle.bank_format.specs.Ids.{PHDR}
-use Rattle.outputs.proofs.OutputLaws.{puts_as}
+use Rattle.base_outputs.proofs.OutputLaws.{puts_as}
 use Rattle.sf_writer.proofs.ChunkLaws.{put_even}
 use Rattle.sf_writer.proofs.OwnerHeadLaws.{phdr-lent, phdr-even}
 use Rattle.sf_writer.proofs.owner_heads.put_phdr.Goals as goal

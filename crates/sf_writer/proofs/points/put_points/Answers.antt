@@ -1,4 +1,4 @@
-use Rattle.outputs.proofs.OutputLaws.{putting_step}
+use Rattle.base_outputs.proofs.OutputLaws.{putting_step}
 use Rattle.sf_writer.proofs.ChunkLaws.{flat_map-next}
 use Rattle.sf_writer.proofs.points.put_points.Goals as goal
 

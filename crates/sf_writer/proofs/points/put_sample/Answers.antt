@@ -1,4 +1,4 @@
-use Rattle.outputs.proofs.OutputLaws.{puts_row}
+use Rattle.base_outputs.proofs.OutputLaws.{puts_row}
 use Rattle.sf_writer.proofs.PointLaws.{sample-parts}
 use Rattle.sf_writer.proofs.points.put_sample.Goals as goal
 

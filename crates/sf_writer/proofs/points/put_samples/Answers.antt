@@ -1,4 +1,4 @@
-use Rattle.outputs.proofs.OutputLaws.{putting_step}
+use Rattle.base_outputs.proofs.OutputLaws.{putting_step}
 use Rattle.sf_writer.proofs.ChunkLaws.{spelled-read}
 use Rattle.sf_writer.proofs.points.put_samples.Goals as goal
 

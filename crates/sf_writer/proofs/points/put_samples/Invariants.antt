@@ -1,7 +1,7 @@
 use Rattle.std.proofs.Common.{drop}
 use Rattle.std.specs.List.{flat_map}
 use Rattle.sample_view.specs.Words.{word_bytes}
-use Rattle.outputs.proofs.OutputLaws.{Putting}
+use Rattle.base_outputs.proofs.OutputLaws.{Putting}
 use Rattle.bank_format.specs.Tables.{points_written}
 use Rattle.sf_writer.proofs.points.put_samples.Given as goal
 

@@ -3,7 +3,7 @@ use Rattle.std.specs.List.{flat_map}
 use Rattle.sample_view.specs.Words.{word_bytes}
 use Rattle.bank_format.specs.Ids.{SMPL}
 use Rattle.bank_format.specs.Tables.{all_points, points_written}
-use Rattle.outputs.proofs.OutputLaws.{puts_as}
+use Rattle.base_outputs.proofs.OutputLaws.{puts_as}
 use Rattle.sf_writer.proofs.ChunkLaws.{put_even}
 use Rattle.sf_writer.proofs.PointLaws.{all_points-even, sdta-is}
 use Rattle.sf_writer.proofs.points.put_smpl.Goals as goal

@@ -2,7 +2,7 @@ use Rattle.std.proofs.Common.{ap}
 use Rattle.generators.specs.declared.level.Level.TheVariants as level
 use Rattle.riff_chunks.specs.Spelling.{spell}
 use Rattle.bank_format.specs.Tables.{all_bags}
-use Rattle.outputs.proofs.OutputLaws.{puts_as, puts_row, puts_then}
+use Rattle.base_outputs.proofs.OutputLaws.{puts_as, puts_row, puts_then}
 use Rattle.sf_writer.specs.Lists.{zone_lists}
 use Rattle.sf_writer.proofs.RecordLaws.{pdta-is}
 use Rattle.sf_writer.proofs.records.put_lists.Goals as goal

@@ -1,6 +1,6 @@
 use Rattle.std.proofs.Common.{◌≡◌, ◌+◌, length, ap, sym, arith}
 use Rattle.bank_parts.specs.Valid.{point_total}
-use Rattle.outputs.proofs.OutputLaws.{puts_as, putting_from, putting_step, putting_last}
+use Rattle.base_outputs.proofs.OutputLaws.{puts_as, putting_from, putting_step, putting_last}
 use Rattle.sf_writer.proofs.PointLaws.{point_total-next}
 use Rattle.sf_writer.proofs.RecordLaws.{heads-start, heads-next, heads-last}
 use Rattle.sf_writer.proofs.sample_heads.put_heads.Goals as goal

@@ -3,7 +3,7 @@ use Rattle.std.specs.List.{flat_map}
 use Rattle.hydra_records.specs.Spelling.{sample_head_bytes}
 use Rattle.bank_parts.specs.Valid.{point_total}
 use Rattle.bank_format.specs.Tables.{tables_of}
-use Rattle.outputs.proofs.OutputLaws.{Putting}
+use Rattle.base_outputs.proofs.OutputLaws.{Putting}
 use Rattle.sf_writer.proofs.RecordLaws.{heads_left}
 use Rattle.sf_writer.proofs.sample_heads.put_heads.Given as goal
 

@@ -1,6 +1,6 @@
 use Rattle.hydra_records.specs.Spelling.{bag_bytes}
 use Rattle.bank_format.specs.FlatTables.{bag_of}
-use Rattle.outputs.proofs.OutputLaws.{putting_step}
+use Rattle.base_outputs.proofs.OutputLaws.{putting_step}
 use Rattle.sf_writer.proofs.FlatLaws.{records_at}
 use Rattle.sf_writer.proofs.zone_lists.put_bag_records.Goals as goal
 

@@ -1,4 +1,4 @@
-use Rattle.outputs.proofs.OutputLaws.{putting_step}
+use Rattle.base_outputs.proofs.OutputLaws.{putting_step}
 use Rattle.sf_writer.proofs.FlatLaws.{mods_at}
 use Rattle.sf_writer.proofs.zone_lists.put_mod_records.Goals as goal
 

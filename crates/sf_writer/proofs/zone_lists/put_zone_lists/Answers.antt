@@ -1,5 +1,5 @@
 use Rattle.std.proofs.Common.{◌∙◌, ap}
-use Rattle.outputs.proofs.OutputLaws.{puts_as, puts_row, puts_then}
+use Rattle.base_outputs.proofs.OutputLaws.{puts_as, puts_row, puts_then}
 use Rattle.sf_writer.specs.Lists.{bag_id, mod_id, gen_id}
 use Rattle.sf_writer.proofs.ChunkLaws.{put_even}
 use Rattle.sf_writer.proofs.FlatLaws.{bags-lent, mods-lent, gens-lent}

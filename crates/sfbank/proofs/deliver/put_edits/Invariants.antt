@@ -1,5 +1,5 @@
 use Rattle.std.proofs.Common.{drop}
-use Rattle.outputs.proofs.OutputLaws.{Putting}
+use Rattle.base_outputs.proofs.OutputLaws.{Putting}
 use Rattle.edit_script.specs.Printing.{texts_of}
 use Rattle.sfbank.proofs.deliver.put_edits.Given as goal
 

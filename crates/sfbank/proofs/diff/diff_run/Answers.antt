@@ -1,6 +1,6 @@
 use Rattle.std.proofs.Common.{◌≡◌, ◌∙◌, []}
 use Rattle.edit_script.specs.Printing.{texts_of}
-use Rattle.bank_text.specs.Whole.{Leads, edits_between}
+use Rattle.script_of_bank.specs.Whole.{Leads, edits_between}
 use Rattle.sfbank.specs.Differences.{Pair}
 use Rattle.sfbank.proofs.Differences.{printed_leads, replacement_is, sends_difference, writes_nothing, ends_in_memory}
 use Rattle.sfbank.proofs.Restores.{are_bytes}

@@ -3,7 +3,7 @@ use Rattle.std.proofs.lemmas.Result.{err_from_is_err_and}
 use Rattle.wave_file.specs.Imports.{import_edits}
 use Rattle.sfbank.specs.Plans.{planned}
 use Rattle.sfbank.specs.Recordings.{import_outcome}
-use Rattle.sfbank_program.specs.declared.run_fault.RunFault.TheVariants as run
+use Rattle.program_files.specs.declared.run_fault.RunFault.TheVariants as run
 use Rattle.sfbank.proofs.Endings.{ends_early, ends_with}
 use Rattle.sfbank.proofs.Recordings.{import_not_read, no_recording, import_edited}
 use Rattle.sfbank.proofs.import.import.Goals as goal

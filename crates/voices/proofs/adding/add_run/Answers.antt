@@ -5,7 +5,7 @@ use Rattle.zone_select.specs.Select.{Voice}
 use Rattle.voices.specs.Course.{IsCourse}
 use Rattle.voices.specs.Sound.{snd}
 use Rattle.voices.specs.Runs.{IsAdded}
-use Rattle.voice_levels.proofs.WriteLaws.{below_piece, after_piece, in_piece}
+use Rattle.sound_envelopes.proofs.WriteLaws.{below_piece, after_piece, in_piece}
 use Rattle.voices.proofs.RunLaws.{heard_added, later_added}
 use Rattle.voices.proofs.adding.add_run.Goals as goal
 

@@ -7,7 +7,7 @@ use Rattle.std.proofs.lemmas.Grind.{common_steps}
 use Rattle.voices.specs.Levels.{side}
 use Rattle.voices.specs.Runs.{IsAdded}
 use Rattle.voices.proofs.SideLaws.{side_within}
-use Rattle.voice_levels.proofs.WriteLaws.{below_set, after_set}
+use Rattle.sound_envelopes.proofs.WriteLaws.{below_set, after_set}
 use Rattle.voices.proofs.RunLaws.{added, is_added, left_side, right_side}
 use Rattle.voices.proofs.runs.add_both_sides.Goals as goal
 

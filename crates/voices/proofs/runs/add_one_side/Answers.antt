@@ -6,7 +6,7 @@ use Rattle.std.proofs.lemmas.Bool.{cases_lt}
 use Rattle.std.proofs.lemmas.Bool.Decides.{nat_tests}
 use Rattle.std.specs.Int.{w16}
 use Rattle.voices.specs.Runs.{IsAdded}
-use Rattle.voice_levels.proofs.WriteLaws.{after_set}
+use Rattle.sound_envelopes.proofs.WriteLaws.{after_set}
 use Rattle.voices.proofs.RunLaws.{added, is_added, silent_added}
 use Rattle.voices.proofs.runs.add_one_side.Goals as goal
 

@@ -1,7 +1,7 @@
 use Rattle.std.proofs.Common.{◌+◌, ℤ, arith, ap, ◌∙◌}
 use Rattle.sound_tables.specs.Tables.{gain_of}
-use Rattle.voice_levels.specs.Levels.{scaled_by}
-use Rattle.voice_levels.specs.Envelope.{envelope}
+use Rattle.sound_envelopes.specs.Levels.{scaled_by}
+use Rattle.sound_envelopes.specs.Envelope.{envelope}
 use Rattle.voices.specs.Sound.{sound_at}
 use Rattle.voices.proofs.runs.fill_by_stages.Goals as goal
 

@@ -5,7 +5,7 @@ use Rattle.std.proofs.lemmas.List.{places}
 use Rattle.zone_select.specs.Select.{Voice}
 use Rattle.voices.specs.Course.{IsCourse}
 use Rattle.voices.specs.Sound.{heard_at}
-use Rattle.voice_levels.proofs.WriteLaws.{below_piece, below_front}
+use Rattle.sound_envelopes.proofs.WriteLaws.{below_piece, below_front}
 use Rattle.voices.proofs.RunLaws.{heard_is, heard_over}
 use Rattle.voices.proofs.OverLaws.{course_stays}
 use Rattle.voices.proofs.runs.fill_run.Goals as goal

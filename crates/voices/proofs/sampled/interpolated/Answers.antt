@@ -5,7 +5,7 @@ use Rattle.std.proofs.lemmas.Nat.{mod_below}
 use Rattle.std.specs.Int.{w16, w32, int_wrap}
 use Rattle.std.specs.Int.Signed.{shr_z}
 use Rattle.voices.specs.Points.{between, weighed}
-use Rattle.voice_levels.proofs.LevelLaws.{shifted_down}
+use Rattle.sound_envelopes.proofs.LevelLaws.{shifted_down}
 use Rattle.voices.proofs.SideLaws.{weighed_is, weighed_within, between_within, by_slope}
 use Rattle.voices.proofs.sampled.interpolated.Goals as goal
 

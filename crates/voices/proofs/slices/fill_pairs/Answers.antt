@@ -4,7 +4,7 @@ use Rattle.std.proofs.lemmas.Grind.{common_steps}
 use Rattle.voices.specs.Place.{place, is_looping}
 use Rattle.voices.specs.Points.{point_of}
 use Rattle.voices.specs.Runs.{limit, gone_on, pair_says}
-use Rattle.voice_levels.proofs.WriteLaws.{below_front}
+use Rattle.sound_envelopes.proofs.WriteLaws.{below_front}
 use Rattle.voices.proofs.RunLaws.{place_near, place_on, gone_near, gone_part}
 use Rattle.voices.proofs.OverLaws.{is_looped_at}
 use Rattle.voices.proofs.slices.fill_pairs.Goals as goal

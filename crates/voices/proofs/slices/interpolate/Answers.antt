@@ -3,7 +3,7 @@ use Rattle.std.proofs.lemmas.Int.{ints}
 use Rattle.std.proofs.lemmas.Nat.{and_mask}
 use Rattle.std.specs.Int.{w16, w32}
 use Rattle.voices.specs.Runs.{pair_says}
-use Rattle.voice_levels.proofs.WriteLaws.{below_set}
+use Rattle.sound_envelopes.proofs.WriteLaws.{below_set}
 use Rattle.voices.proofs.slices.interpolate.Goals as goal
 
 pub loop-k-preserved : goal.loop-k-preserved

@@ -3,7 +3,7 @@ use Rattle.std.proofs.lemmas.Grind.{common_steps}
 use Rattle.std.proofs.lemmas.Nat.{mul-le}
 use Rattle.sample_view.specs.Words.{words}
 use Rattle.voices.specs.Runs.{pair_at}
-use Rattle.voice_levels.proofs.WriteLaws.{below_set}
+use Rattle.sound_envelopes.proofs.WriteLaws.{below_set}
 use Rattle.voices.proofs.slices.read_fours.Goals as goal
 
 -- four more frames before the end

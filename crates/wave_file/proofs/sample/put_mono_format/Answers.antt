@@ -1,5 +1,5 @@
 use Rattle.std.proofs.Common.{refl}
-use Rattle.outputs.proofs.OutputLaws.{puts_as, puts_then}
+use Rattle.base_outputs.proofs.OutputLaws.{puts_as, puts_then}
 use Rattle.riff_chunks.specs.Spelling.{pad, chunk}
 use Rattle.wave_file.specs.Wave.{FORMAT}
 use Rattle.wave_file.specs.SampleWave.{mono_format}

@@ -1,6 +1,6 @@
 use Rattle.std.proofs.Common.{get_or}
 use Rattle.byteorder.specs.Endian.{little_bytes}
-use Rattle.outputs.proofs.OutputLaws.{puts_as, putting_member}
+use Rattle.base_outputs.proofs.OutputLaws.{puts_as, putting_member}
 use Rattle.wave_file.proofs.sample.put_numbers.Goals as goal
 
 pub loop-number-preserved : goal.loop-number-preserved

@@ -1,5 +1,5 @@
 use Rattle.std.proofs.Common.{drop}
-use Rattle.outputs.proofs.OutputLaws.{Putting}
+use Rattle.base_outputs.proofs.OutputLaws.{Putting}
 use Rattle.wave_file.specs.SampleWave.{numbers}
 use Rattle.wave_file.proofs.sample.put_numbers.Given as goal
 

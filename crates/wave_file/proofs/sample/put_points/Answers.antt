@@ -2,7 +2,7 @@ use Rattle.std.proofs.Common.{List, ℕ}
 use Rattle.std.specs.Borrow.{Bor}
 use Rattle.std.specs.List.{flat_map}
 use Rattle.std.proofs.lemmas.List.{at_drop_more}
-use Rattle.outputs.proofs.OutputLaws.{putting_step}
+use Rattle.base_outputs.proofs.OutputLaws.{putting_step}
 use Rattle.wave_file.proofs.sample.put_points.Goals as goal
 
 pub loop-piece-preserved : goal.loop-piece-preserved

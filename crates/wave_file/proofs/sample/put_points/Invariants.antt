@@ -1,6 +1,6 @@
 use Rattle.std.proofs.Common.{drop}
 use Rattle.sample_view.specs.Pieces.{joined_bytes}
-use Rattle.outputs.proofs.OutputLaws.{Putting}
+use Rattle.base_outputs.proofs.OutputLaws.{Putting}
 use Rattle.wave_file.proofs.sample.put_points.Given as goal
 
 -- the remaining slices are still to be put

@@ -1,6 +1,6 @@
 use Rattle.std.proofs.Common.{arith}
 use Rattle.sample_view.proofs.WordLaws.{length-word_bytes}
-use Rattle.outputs.proofs.OutputLaws.{puts_as, puts_then}
+use Rattle.base_outputs.proofs.OutputLaws.{puts_as, puts_then}
 use Rattle.wave_file.specs.Wave.{RIFF, WAVE, DATA}
 use Rattle.wave_file.proofs.SampleLaws.{length-content, put-parts}
 use Rattle.wave_file.proofs.sample.put_sample_wave.Goals as goal

@@ -1,5 +1,5 @@
 use Rattle.std.proofs.Common.{ℕ, ◌++◌, ap, sym, ◌∙◌}
-use Rattle.outputs.proofs.OutputLaws.{puts_row, puts_then}
+use Rattle.base_outputs.proofs.OutputLaws.{puts_row, puts_then}
 use Rattle.riff_chunks.specs.Spelling.{chunk_head}
 use Rattle.wave_file.specs.SampleWave.{SAMPLER, sampler}
 use Rattle.wave_file.proofs.SampleLaws.{chunk-even, sampler-even}

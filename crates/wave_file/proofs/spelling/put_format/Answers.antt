@@ -1,5 +1,5 @@
 use Rattle.std.proofs.Common.{refl}
-use Rattle.outputs.proofs.OutputLaws.{puts_as, puts_then}
+use Rattle.base_outputs.proofs.OutputLaws.{puts_as, puts_then}
 use Rattle.wave_file.specs.Wave.{format, FORMAT}
 use Rattle.wave_file.proofs.spelling.put_format.Goals as goal
 

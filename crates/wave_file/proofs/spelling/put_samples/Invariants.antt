@@ -1,6 +1,6 @@
 use Rattle.std.proofs.Common.{length}
 use Rattle.std.specs.List.{flat_map}
-use Rattle.outputs.proofs.OutputLaws.{Putting}
+use Rattle.base_outputs.proofs.OutputLaws.{Putting}
 use Rattle.wave_file.specs.Wave.{sample_bytes}
 use Rattle.wave_file.proofs.spelling.put_samples.Given as goal
 

@@ -1,7 +1,7 @@
 use Rattle.std.proofs.Common.{◌∙◌, ap}
 use Rattle.bank_changes.specs.Members.{own_zone_count}
 use Rattle.bank_changes.specs.Zones.{range_of_zone}
-use Rattle.zone_ranges.specs.declared.axes.Axis.TheVariants.{Key, Vel}
+use Rattle.bank_zone_ranges.specs.declared.axes.Axis.TheVariants.{Key, Vel}
 use Rattle.zone_select.specs.Ranges.{within}
 use Rattle.zone_select.proofs.ZoneLaws.{zone_told, contains_is, first_fails, both_hold, counted}
 use Rattle.zone_select.proofs.zones.holds.Goals as goal

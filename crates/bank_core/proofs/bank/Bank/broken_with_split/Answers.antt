@@ -1,7 +1,7 @@
 use Rattle.std.proofs.Common.{◌≡◌, ◌∙◌, sym, ap}
 use Rattle.bank_parts.specs.Counts.{all_counted}
 use Rattle.bank_validity.specs.Limits.{broken}
-use Rattle.zone_ranges.specs.Splits.{split_records}
+use Rattle.bank_zone_ranges.specs.Splits.{split_records}
 use Rattle.bank_changes.proofs.SplitLaws.{split, split_zone_is, totals-zone_split}
 use Rattle.bank_core.proofs.KeptTotals.{no_limit_before}
 use Rattle.bank_core.proofs.bank.Bank.broken_with_split.Goals as goal

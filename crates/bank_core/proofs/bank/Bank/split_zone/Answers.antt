@@ -1,6 +1,6 @@
 use Rattle.std.proofs.Common.{◌≡◌}
 use Rattle.bank_parts.specs.Counts.{all_counted}
-use Rattle.zone_ranges.specs.Splits.{split_records}
+use Rattle.bank_zone_ranges.specs.Splits.{split_records}
 use Rattle.bank_changes.specs.Members.{level_of}
 use Rattle.bank_changes.proofs.SplitLaws.{split, split_zone_is, totals-zone_split}
 use Rattle.bank_changes.proofs.TotalsLaws.{records_grow}

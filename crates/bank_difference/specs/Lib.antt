@@ -1,2 +1,0 @@
-pub use Rattle.bank_text.specs.Whole
-pub mod Drafts

@@ -1,6 +1,0 @@
-use Rattle.outputs.proofs.OutputLaws.{puts_as}
-use Rattle.bank_text.proofs.DownLaws.{resets_lines}
-use Rattle.bank_text.proofs.replacement.put_resets.Goals as goal
-
-pub returns : goal.returns
-returns g c = puts_as _ _ (resets_lines c.args.bank.now.texts) c.put_each_reset.ensures

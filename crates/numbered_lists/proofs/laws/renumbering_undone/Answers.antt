@@ -1,5 +1,0 @@
-use Rattle.numbered_lists.proofs.Lists.{map-undone}
-use Rattle.numbered_lists.proofs.laws.renumbering_undone.Goals as goal
-
-pub returns : goal.returns
-returns g c = λ xs f k. map-undone f k xs

@@ -1,0 +1,146 @@
+-- The operands of each request, and when the words of a command ask for it.
+use Rattle.std.specs.Prelude.{◌≡◌, ◌<◌, ◌^◌, ℕ, Bool, true, false, List, [], ◌∷◌, codes}
+use Rattle.std.specs.Prelude.{Option, Some, None, IfSome, IsSome}
+use Rattle.std.specs.Str.Parse.{IsNumeral, digits_value, without_leading_plus}
+use Rattle.clap.specs.Words.{App, Row, Text, first_of, found_of, is_simple, one_of, rows_of, subcommand_of}
+use Rattle.clap.specs.declared.parser.matches.ArgMatches.{ArgMatches}
+use Rattle.bank_changes.specs.declared.members.Owner.{Owner}
+use Rattle.bank_changes.specs.declared.members.Owner.TheVariants.{Preset, Inst}
+use Rattle.program_commands.specs.declared.words.Request.{Request}
+use Rattle.program_commands.specs.declared.words.Request.TheVariants.{Apply, Canon, Diff, Explain, Import, Live, Map}
+use Rattle.program_commands.specs.declared.words.Request.TheVariants.{New, Play, Script, Show, Wave}
+use Rattle.program_commands.specs.declared.words.Forms.{Forms}
+use Rattle.program_commands.specs.declared.words.Forms.TheVariants.{Every, Neutral}
+
+-- an operand of a request with its name and its value: a word, a number with its width in bits, or a flag
+pub data Operand : Type 0 where
+  Word : Text → Text → Operand
+  Number : Text → ℕ → ℕ → Operand
+  Flag : Text → Bool → Operand
+
+-- whether only neutral forms are accepted
+abbrev pub is_neutral : Forms → Bool
+is_neutral Every = false
+is_neutral Neutral = true
+
+-- the word for the level of an owner
+abbrev pub level_word : Owner → Text
+level_word (Preset n) = codes "preset"
+level_word (Inst n) = codes "inst"
+
+-- the number of an owner at its level
+abbrev pub owner_number : Owner → ℕ
+owner_number (Preset n) = n
+owner_number (Inst n) = n
+
+-- the operands that name an owner
+abbrev pub owner_operands : Owner → List Operand
+owner_operands owner = Word (codes "LEVEL") (level_word owner) ∷ Number (codes "N") 32 (owner_number owner) ∷ []
+
+-- the operands of each request
+abbrev pub operands_of : Request → List Operand
+operands_of (Apply paths) =
+    Word (codes "IN") paths.input.now
+    ∷ Word (codes "SCRIPT") paths.script.now
+    ∷ Word (codes "OUT") paths.out.now
+    ∷ Word (codes "UNDO") paths.undo.now
+    ∷ Flag (codes "neutral") (is_neutral paths.forms)
+    ∷ Flag (codes "force") paths.force
+    ∷ []
+operands_of (Canon paths) = Word (codes "IN") paths.input.now ∷ Word (codes "OUT") paths.out.now ∷ []
+operands_of (Diff paths) =
+    Word (codes "A") paths.first.now
+    ∷ Word (codes "B") paths.second.now
+    ∷ Word (codes "OUT") paths.out.now
+    ∷ Flag (codes "force") paths.force
+    ∷ []
+operands_of (Explain n) = Number (codes "N") 32 n ∷ []
+operands_of (Import paths) =
+    Word (codes "IN") paths.input.now
+    ∷ Word (codes "WAVE") paths.wave.now
+    ∷ Word (codes "OUT") paths.out.now
+    ∷ Word (codes "UNDO") paths.undo.now
+    ∷ Flag (codes "force") paths.force
+    ∷ []
+operands_of (Live paths) =
+    Word (codes "IN") paths.input.now ∷ Word (codes "PCM") paths.pcm.now ∷ Flag (codes "force") paths.force ∷ []
+operands_of (Map paths) =
+    Word (codes "IN") paths.input.now
+    ∷ Word (codes "LEVEL") (level_word paths.owner)
+    ∷ Number (codes "N") 32 (owner_number paths.owner)
+    ∷ Word (codes "OUT") paths.out.now
+    ∷ Flag (codes "force") paths.force
+    ∷ []
+operands_of (New bank) =
+    Word (codes "OUT") bank.out.now ∷ Number (codes "minor") 16 bank.minor ∷ Flag (codes "force") bank.force ∷ []
+operands_of (Play paths) =
+    Word (codes "IN") paths.input.now
+    ∷ Word (codes "NOTES") paths.notes.now
+    ∷ Word (codes "OUT") paths.out.now
+    ∷ Flag (codes "force") paths.force
+    ∷ []
+operands_of (Script paths) =
+    Word (codes "IN") paths.input.now
+    ∷ Word (codes "OUT") paths.out.now
+    ∷ Flag (codes "no-points") paths.no_points
+    ∷ Flag (codes "force") paths.force
+    ∷ []
+operands_of (Show paths) =
+    Word (codes "IN") paths.input.now ∷ Flag (codes "zones") paths.zones ∷ Flag (codes "uses") paths.uses ∷ []
+operands_of (Wave paths) =
+    Word (codes "IN") paths.input.now
+    ∷ Number (codes "S") 32 paths.sample
+    ∷ Word (codes "OUT") paths.out.now
+    ∷ Flag (codes "force") paths.force
+    ∷ []
+
+-- the command of each request
+abbrev pub command_of : Request → Text
+command_of (Apply paths) = codes "apply"
+command_of (Canon paths) = codes "canon"
+command_of (Diff paths) = codes "diff"
+command_of (Explain n) = codes "explain"
+command_of (Import paths) = codes "import"
+command_of (Live paths) = codes "live"
+command_of (Map paths) = codes "map"
+command_of (New bank) = codes "new"
+command_of (Play paths) = codes "play"
+command_of (Script paths) = codes "script"
+command_of (Show paths) = codes "show"
+command_of (Wave paths) = codes "wave"
+
+-- what clap found for a command, under the names of its operands
+abbrev pub rows_in : ArgMatches → List Row
+rows_in matches = rows_of (found_of matches)
+
+-- the words give the operand its value: a number may begin with a plus, and a flag that is not given is false
+abbrev pub IsGiven : List Row → Operand → Type 0
+IsGiven rows (Word name text) = first_of name rows ≡ Some text
+IsGiven rows (Number name bits n) =
+    (text : Text)
+    × (one_of name rows ≡ Some text)
+    × IsNumeral 10 (without_leading_plus text)
+    × (n ≡ digits_value 10 (without_leading_plus text))
+    × (n < 2 ^ bits)
+IsGiven rows (Flag name value) =
+    (one_of name rows ≡ Some (codes "true") → value ≡ true)
+    × (one_of name rows ≡ Some (codes "false") → value ≡ false)
+    × (one_of name rows ≡ None → value ≡ false)
+
+-- the words give each operand its value
+abbrev pub AreGiven : List Row → List Operand → Type 0
+AreGiven rows [] = Unit {0}
+AreGiven rows (operand ∷ rest) = IsGiven rows operand × AreGiven rows rest
+
+-- P holds for the value, and there is one wherever P holds for any
+abbrev pub FindsOne : {A : Type 0} → Option A → (A → Type 0) → Type 0
+FindsOne {A} result P = IfSome result P × ((value : A) → P value → IsSome result)
+
+-- the command that was used is that of the request, and gives its operands their values
+abbrev pub AsksFor : Option (Text × List Row) → Request → Type 0
+AsksFor None request = ⊥
+AsksFor (Some used) request = (used.0 ≡ command_of request) × AreGiven used.1 (operands_of request)
+
+-- these words ask a program with these commands for this request, if clap states how it reads such commands
+abbrev pub IsParsedBy : App → List Text → Request → Type 0
+IsParsedBy app words request = is_simple app ≡ true → AsksFor (subcommand_of app words) request

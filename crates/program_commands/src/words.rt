@@ -1,0 +1,368 @@
+//! Reads a request from the words that the program was started with.
+ghost use Rattle.std.specs.Prelude.{◌≡◌, IfOk, codes, map, option_map};
+ghost use Rattle.clap.specs.Words.{app_of, first_of, subcommand_rows_of};
+ghost use Rattle.program_commands.specs.Words.{Number, Flag, is_neutral, owner_operands, operands_of};
+ghost use Rattle.program_commands.specs.Words.{rows_in, AreGiven, AsksFor, FindsOne, IsGiven, IsParsedBy};
+
+use crate::commands::sfbank_command;
+use bank_changes::Owner;
+use clap::error::ErrorKind;
+use clap::{ArgMatches, Command, Error};
+use std::alloc::Global;
+use std::convert::AsStr;
+
+/// What the program was asked to do.
+pub enum Request<'a> {
+    /// Run a script on a bank.
+    Apply(ApplyPaths<'a>),
+    /// Write a bank in its canonical form.
+    Canon(CanonPaths<'a>),
+    /// Write a script that turns one bank into another.
+    Diff(DiffPaths<'a>),
+    /// Explain the fault or refusal with this number.
+    Explain(u32),
+    /// Add a recording to a bank.
+    Import(ImportPaths<'a>),
+    /// Edit and play a bank live.
+    Live(LivePaths<'a>),
+    /// Draw the key and velocity ranges of a preset or an instrument.
+    Map(MapPaths<'a>),
+    /// Write an empty bank.
+    New(NewBank<'a>),
+    /// Play notes on a bank into a WAVE file.
+    Play(PlayPaths<'a>),
+    /// Write a script that makes a bank from an empty one.
+    Script(ScriptPaths<'a>),
+    /// List what a bank has.
+    Show(ShowPaths<'a>),
+    /// Write a sample as a WAVE file.
+    Wave(WavePaths<'a>),
+}
+
+/// The forms of edits that `apply` accepts.
+#[derive(Clone, Copy)]
+pub enum Forms {
+    Every,
+    /// Only those that never change a sound.
+    Neutral,
+}
+
+/// The operands of `apply`.
+#[derive(Clone, Copy)]
+pub struct ApplyPaths<'a> {
+    pub input: &'a str,
+    pub script: &'a str,
+    pub out: &'a str,
+    pub undo: &'a str,
+    pub forms: Forms,
+    /// Whether the undo script may replace a bank.
+    pub force: bool,
+}
+
+/// The operands of `canon`.
+#[derive(Clone, Copy)]
+pub struct CanonPaths<'a> {
+    pub input: &'a str,
+    pub out: &'a str,
+}
+
+/// The operands of `diff`.
+#[derive(Clone, Copy)]
+pub struct DiffPaths<'a> {
+    pub first: &'a str,
+    pub second: &'a str,
+    pub out: &'a str,
+    /// Whether the script may replace a bank.
+    pub force: bool,
+}
+
+/// The operands of `import`.
+#[derive(Clone, Copy)]
+pub struct ImportPaths<'a> {
+    pub input: &'a str,
+    pub wave: &'a str,
+    pub out: &'a str,
+    pub undo: &'a str,
+    /// Whether the undo script may replace a bank.
+    pub force: bool,
+}
+
+/// The operands of `live`.
+#[derive(Clone, Copy)]
+pub struct LivePaths<'a> {
+    pub input: &'a str,
+    pub pcm: &'a str,
+    /// Whether the frames, and the undo script of each save, may replace a bank.
+    pub force: bool,
+}
+
+/// The operands of `map`.
+#[derive(Clone, Copy)]
+pub struct MapPaths<'a> {
+    pub input: &'a str,
+    /// The preset or instrument whose ranges are drawn.
+    pub owner: Owner,
+    pub out: &'a str,
+    /// Whether the picture may replace a bank.
+    pub force: bool,
+}
+
+/// The operands of `new`.
+#[derive(Clone, Copy)]
+pub struct NewBank<'a> {
+    pub out: &'a str,
+    /// The minor version of the format.
+    pub minor: u16,
+    /// Whether the empty bank may replace a bank.
+    pub force: bool,
+}
+
+/// The operands of `play`.
+#[derive(Clone, Copy)]
+pub struct PlayPaths<'a> {
+    pub input: &'a str,
+    pub notes: &'a str,
+    pub out: &'a str,
+    /// Whether the WAVE file may replace a bank.
+    pub force: bool,
+}
+
+/// The operands of `script`.
+#[derive(Clone, Copy)]
+pub struct ScriptPaths<'a> {
+    pub input: &'a str,
+    pub out: &'a str,
+    /// Whether the script leaves out the points of samples.
+    pub no_points: bool,
+    /// Whether the script may replace a bank.
+    pub force: bool,
+}
+
+/// The operands of `show`.
+#[derive(Clone, Copy)]
+pub struct ShowPaths<'a> {
+    pub input: &'a str,
+    /// Whether zones are listed too.
+    pub zones: bool,
+    /// Whether the zones that use each instrument and sample are counted.
+    pub uses: bool,
+}
+
+/// The operands of `wave`.
+#[derive(Clone, Copy)]
+pub struct WavePaths<'a> {
+    pub input: &'a str,
+    /// The sample's number.
+    pub sample: u32,
+    pub out: &'a str,
+    /// Whether the WAVE file may replace a bank.
+    pub force: bool,
+}
+
+/// Returns what the words ask for. The first word is the program's name. For `--help` and `--version` it returns an
+/// error of clap's that has the text to print.
+pub fn request_of<'a, S: AsStr>(alloc: Global, words: &'a [S]) -> Result<Request<'a>, Error> {
+    let mut command = sfbank_command(alloc)?;
+    parse_request(&mut command, words)
+}
+
+fn parse_request<'a, S: AsStr>(
+    command: &mut Command<'a>,
+    words: &'a [S],
+) -> Result<Request<'a>, Error>
+    ensures { IfOk result (λ request. IsParsedBy (app_of command.old) (map S.text words.entry.now) request) }
+{
+    let matches = command.try_get_matches_from_mut(words)?;
+    match request_in(&matches) {
+        Some(request) => Ok(request),
+        None => Err(command.error(ErrorKind::MissingSubcommand, "no command was given")?),
+    }
+}
+
+fn request_in<'a>(matches: &ArgMatches<'a>) -> Option<Request<'a>>
+    ensures { FindsOne result (AsksFor (subcommand_rows_of matches.now)) }
+{
+    let (name, words) = matches.subcommand()?;
+    Some(match name {
+        "apply" => Request::Apply(read_apply(words)?),
+        "canon" => Request::Canon(read_canon(words)?),
+        "diff" => Request::Diff(read_diff(words)?),
+        "explain" => Request::Explain(read_number(words, "N")?),
+        "import" => Request::Import(read_import(words)?),
+        "live" => Request::Live(read_live(words)?),
+        "map" => Request::Map(read_map(words)?),
+        "new" => Request::New(read_new(words)?),
+        "play" => Request::Play(read_play(words)?),
+        "script" => Request::Script(read_script(words)?),
+        "show" => Request::Show(read_show(words)?),
+        "wave" => Request::Wave(read_wave(words)?),
+        _ => return None,
+    })
+}
+
+fn read_apply<'a>(matches: &ArgMatches<'a>) -> Option<ApplyPaths<'a>>
+    ensures { FindsOne result (λ paths. AreGiven (rows_in matches.now) (operands_of (Request.Apply paths))) }
+{
+    Some(ApplyPaths {
+        input: read_word(matches, "IN")?,
+        script: read_word(matches, "SCRIPT")?,
+        out: read_word(matches, "OUT")?,
+        undo: read_word(matches, "UNDO")?,
+        forms: read_forms(matches),
+        force: read_flag(matches, "force"),
+    })
+}
+
+fn read_forms(matches: &ArgMatches<'_>) -> Forms
+    ensures { IsGiven (rows_in matches.now) (Flag (codes "neutral") (is_neutral result)) }
+{
+    if read_flag(matches, "neutral") {
+        Forms::Neutral
+    } else {
+        Forms::Every
+    }
+}
+
+fn read_canon<'a>(matches: &ArgMatches<'a>) -> Option<CanonPaths<'a>>
+    ensures { FindsOne result (λ paths. AreGiven (rows_in matches.now) (operands_of (Request.Canon paths))) }
+{
+    Some(CanonPaths {
+        input: read_word(matches, "IN")?,
+        out: read_word(matches, "OUT")?,
+    })
+}
+
+fn read_diff<'a>(matches: &ArgMatches<'a>) -> Option<DiffPaths<'a>>
+    ensures { FindsOne result (λ paths. AreGiven (rows_in matches.now) (operands_of (Request.Diff paths))) }
+{
+    Some(DiffPaths {
+        first: read_word(matches, "A")?,
+        second: read_word(matches, "B")?,
+        out: read_word(matches, "OUT")?,
+        force: read_flag(matches, "force"),
+    })
+}
+
+fn read_import<'a>(matches: &ArgMatches<'a>) -> Option<ImportPaths<'a>>
+    ensures { FindsOne result (λ paths. AreGiven (rows_in matches.now) (operands_of (Request.Import paths))) }
+{
+    Some(ImportPaths {
+        input: read_word(matches, "IN")?,
+        wave: read_word(matches, "WAVE")?,
+        out: read_word(matches, "OUT")?,
+        undo: read_word(matches, "UNDO")?,
+        force: read_flag(matches, "force"),
+    })
+}
+
+fn read_live<'a>(matches: &ArgMatches<'a>) -> Option<LivePaths<'a>>
+    ensures { FindsOne result (λ paths. AreGiven (rows_in matches.now) (operands_of (Request.Live paths))) }
+{
+    Some(LivePaths {
+        input: read_word(matches, "IN")?,
+        pcm: read_word(matches, "PCM")?,
+        force: read_flag(matches, "force"),
+    })
+}
+
+fn read_map<'a>(matches: &ArgMatches<'a>) -> Option<MapPaths<'a>>
+    ensures { FindsOne result (λ paths. AreGiven (rows_in matches.now) (operands_of (Request.Map paths))) }
+{
+    Some(MapPaths {
+        input: read_word(matches, "IN")?,
+        owner: read_owner(matches)?,
+        out: read_word(matches, "OUT")?,
+        force: read_flag(matches, "force"),
+    })
+}
+
+fn read_owner(matches: &ArgMatches<'_>) -> Option<Owner>
+    ensures { FindsOne result (λ owner. AreGiven (rows_in matches.now) (owner_operands owner)) }
+{
+    let level = read_word(matches, "LEVEL")?;
+    let number = read_number(matches, "N")?;
+    if level == "preset" {
+        Some(Owner::Preset(number))
+    } else if level == "inst" {
+        Some(Owner::Inst(number))
+    } else {
+        None
+    }
+}
+
+fn read_new<'a>(matches: &ArgMatches<'a>) -> Option<NewBank<'a>>
+    ensures { FindsOne result (λ bank. AreGiven (rows_in matches.now) (operands_of (Request.New bank))) }
+{
+    Some(NewBank {
+        out: read_word(matches, "OUT")?,
+        minor: read_minor(matches)?,
+        force: read_flag(matches, "force"),
+    })
+}
+
+fn read_minor(matches: &ArgMatches<'_>) -> Option<u16>
+    ensures { FindsOne result (λ n. IsGiven (rows_in matches.now) (Number (codes "minor") 16 n)) }
+{
+    matches.get_one::<u16>("minor")
+}
+
+fn read_play<'a>(matches: &ArgMatches<'a>) -> Option<PlayPaths<'a>>
+    ensures { FindsOne result (λ paths. AreGiven (rows_in matches.now) (operands_of (Request.Play paths))) }
+{
+    Some(PlayPaths {
+        input: read_word(matches, "IN")?,
+        notes: read_word(matches, "NOTES")?,
+        out: read_word(matches, "OUT")?,
+        force: read_flag(matches, "force"),
+    })
+}
+
+fn read_script<'a>(matches: &ArgMatches<'a>) -> Option<ScriptPaths<'a>>
+    ensures { FindsOne result (λ paths. AreGiven (rows_in matches.now) (operands_of (Request.Script paths))) }
+{
+    Some(ScriptPaths {
+        input: read_word(matches, "IN")?,
+        out: read_word(matches, "OUT")?,
+        no_points: read_flag(matches, "no-points"),
+        force: read_flag(matches, "force"),
+    })
+}
+
+fn read_show<'a>(matches: &ArgMatches<'a>) -> Option<ShowPaths<'a>>
+    ensures { FindsOne result (λ paths. AreGiven (rows_in matches.now) (operands_of (Request.Show paths))) }
+{
+    Some(ShowPaths {
+        input: read_word(matches, "IN")?,
+        zones: read_flag(matches, "zones"),
+        uses: read_flag(matches, "uses"),
+    })
+}
+
+fn read_wave<'a>(matches: &ArgMatches<'a>) -> Option<WavePaths<'a>>
+    ensures { FindsOne result (λ paths. AreGiven (rows_in matches.now) (operands_of (Request.Wave paths))) }
+{
+    Some(WavePaths {
+        input: read_word(matches, "IN")?,
+        sample: read_number(matches, "S")?,
+        out: read_word(matches, "OUT")?,
+        force: read_flag(matches, "force"),
+    })
+}
+
+fn read_word<'a>(matches: &ArgMatches<'a>, name: &str) -> Option<&'a str>
+    ensures { option_map (λ word. word.now) result ≡ first_of name.now (rows_in matches.now) }
+{
+    matches.get_str(name)
+}
+
+fn read_number(matches: &ArgMatches<'_>, name: &str) -> Option<u32>
+    ensures { FindsOne result (λ n. IsGiven (rows_in matches.now) (Number name.now 32 n)) }
+{
+    matches.get_one::<u32>(name)
+}
+
+fn read_flag(matches: &ArgMatches<'_>, name: &str) -> bool
+    ensures { IsGiven (rows_in matches.now) (Flag name.now result) }
+{
+    matches.get_flag(name)
+}

@@ -1,0 +1,503 @@
+//! The explanation of each fault and refusal.
+ghost use Rattle.std.specs.Prelude.{◌≡◌, ◌==◌, ℕ, IfSome, IsSome, find};
+ghost use Rattle.base_outputs.specs.Output.{Puts};
+ghost use Rattle.base_outputs.specs.Writing.{Delivers};
+ghost use Rattle.program_explanations.specs.Explanations.{number_of, name_of, IsOfNumber, explanation_text, line_of};
+ghost use Rattle.program_explanations.specs.declared.explanations.FaultCode.{FaultCode};
+
+use bank_format::ReadFault;
+use bank_validity::Limit;
+use base_outputs::{Output, OutputFault, WriteFault};
+use edit_refusals::{Cause, Refusal};
+use itoa::Buffer;
+use script_notes::NoteFault;
+use script_tokens::ScriptFault;
+use std::io::Write;
+use wave_file::WaveFault;
+
+/// A fault or refusal, which has a number and a name.
+#[derive(Clone, Copy)]
+pub enum FaultCode {
+    /// A fault of a bank file.
+    Reading(ReadFault),
+    /// A fault of a script.
+    Script(ScriptFault),
+    /// A fault of a note list.
+    Notes(NoteFault),
+    /// A fault of a WAVE file.
+    Recording(WaveFault),
+    /// A rejected output.
+    Output(OutputFault),
+    /// A refused edit, undo or redo.
+    Refused(Refusal),
+    /// An edit that is not neutral, where only neutral edits are accepted.
+    NotNeutral,
+    /// Two banks of different minor versions.
+    OtherVersion,
+    /// More frames than a live session can write.
+    TooManyFrames,
+}
+
+/// The explanation of a fault or refusal.
+#[derive(Clone, Copy)]
+pub struct Explanation {
+    /// The number of the fault or refusal.
+    pub number: u8,
+    /// The name of the fault or refusal.
+    pub name: &'static str,
+    /// What it means, in one sentence.
+    pub meaning: &'static str,
+    /// What to do about it.
+    pub what_to_do: &'static str,
+}
+
+/// One fault or refusal for each number. The fields of a variant have any value.
+static ALL: [FaultCode; 61] = [
+    FaultCode::Reading(ReadFault::NotRiff),
+    FaultCode::Reading(ReadFault::NotSfbk),
+    FaultCode::Reading(ReadFault::Truncated),
+    FaultCode::Reading(ReadFault::MissingList),
+    FaultCode::Reading(ReadFault::MissingChunk),
+    FaultCode::Reading(ReadFault::Version),
+    FaultCode::Reading(ReadFault::RecordSize),
+    FaultCode::Reading(ReadFault::NoTerminal),
+    FaultCode::Reading(ReadFault::BagOrder),
+    FaultCode::Reading(ReadFault::IndexOutside),
+    FaultCode::Reading(ReadFault::BadInstrument),
+    FaultCode::Reading(ReadFault::BadSample),
+    FaultCode::Reading(ReadFault::SampleRange),
+    FaultCode::Reading(ReadFault::SampleType),
+    FaultCode::Reading(ReadFault::RomSample),
+    FaultCode::Reading(ReadFault::OddSamples),
+    FaultCode::Reading(ReadFault::TooMany),
+    FaultCode::Refused(Refusal::Of(Cause::NoSuchPreset)),
+    FaultCode::Refused(Refusal::Of(Cause::NoSuchInstrument)),
+    FaultCode::Refused(Refusal::Of(Cause::NoSuchSample)),
+    FaultCode::Refused(Refusal::Of(Cause::NoSuchZone)),
+    FaultCode::Refused(Refusal::Of(Cause::NoSuchModulator)),
+    FaultCode::Refused(Refusal::Of(Cause::BadPlace)),
+    FaultCode::Refused(Refusal::Of(Cause::InUse)),
+    FaultCode::Refused(Refusal::Of(Cause::BadGenerator)),
+    FaultCode::Refused(Refusal::Of(Cause::NotSet)),
+    FaultCode::Refused(Refusal::Of(Cause::BadRange)),
+    FaultCode::Refused(Refusal::Of(Cause::SplitOutside)),
+    FaultCode::Refused(Refusal::Of(Cause::NotJoinable)),
+    FaultCode::Refused(Refusal::Of(Cause::LinkedModulator)),
+    FaultCode::Refused(Refusal::Of(Cause::TooShort)),
+    FaultCode::Refused(Refusal::Of(Cause::LoopCut)),
+    FaultCode::Refused(Refusal::Of(Cause::BadLoop)),
+    FaultCode::Refused(Refusal::Of(Cause::BadText)),
+    FaultCode::Refused(Refusal::Of(Cause::Full(Limit::Points))),
+    FaultCode::Refused(Refusal::OutOfMemory),
+    FaultCode::Refused(Refusal::NothingToUndo),
+    FaultCode::Refused(Refusal::NothingToRedo),
+    FaultCode::Script(ScriptFault::Syntax(1)),
+    FaultCode::Script(ScriptFault::Number(1)),
+    FaultCode::Script(ScriptFault::Literal(1)),
+    FaultCode::Notes(NoteFault::BadNote(1)),
+    FaultCode::Notes(NoteFault::TooManyNotes(1)),
+    FaultCode::Notes(NoteFault::TooLong(1)),
+    FaultCode::Refused(Refusal::GroupRefused(0, Cause::InUse)),
+    FaultCode::NotNeutral,
+    FaultCode::OtherVersion,
+    FaultCode::TooManyFrames,
+    FaultCode::Recording(WaveFault::NotWave),
+    FaultCode::Recording(WaveFault::Truncated),
+    FaultCode::Recording(WaveFault::Compressed),
+    FaultCode::Recording(WaveFault::NoFormat),
+    FaultCode::Recording(WaveFault::SampleBits),
+    FaultCode::Recording(WaveFault::ChannelCount),
+    FaultCode::Recording(WaveFault::NoData),
+    FaultCode::Recording(WaveFault::HalfFrame),
+    FaultCode::Recording(WaveFault::ShortSampler),
+    FaultCode::Recording(WaveFault::UnityNote),
+    FaultCode::Recording(WaveFault::LoopOutside),
+    FaultCode::Output(OutputFault::SameFile),
+    FaultCode::Output(OutputFault::HoldsBank),
+];
+
+impl FaultCode {
+    /// Returns its number.
+    fn number(self) -> u8
+        ensures { result ≡ number_of self }
+    {
+        match self {
+            FaultCode::Reading(fault) => fault.number(),
+            FaultCode::Script(fault) => fault.number(),
+            FaultCode::Notes(fault) => fault.number(),
+            FaultCode::Recording(fault) => fault.number(),
+            FaultCode::Output(fault) => fault.number(),
+            FaultCode::Refused(why) => why.number(),
+            FaultCode::NotNeutral => 50,
+            FaultCode::OtherVersion => 51,
+            FaultCode::TooManyFrames => 52,
+        }
+    }
+
+    /// Returns its name.
+    fn name(self) -> &'static str
+        ensures { result.now ≡ name_of self }
+    {
+        match self {
+            FaultCode::Reading(fault) => fault.name(),
+            FaultCode::Script(fault) => fault.name(),
+            FaultCode::Notes(fault) => fault.name(),
+            FaultCode::Recording(fault) => fault.name(),
+            FaultCode::Output(fault) => fault.name(),
+            FaultCode::Refused(why) => why.name(),
+            FaultCode::NotNeutral => "NotNeutral",
+            FaultCode::OtherVersion => "OtherVersion",
+            FaultCode::TooManyFrames => "TooManyFrames",
+        }
+    }
+
+    /// Returns what it means, and what to do about it.
+    fn texts(self) -> (&'static str, &'static str) {
+        match self {
+            FaultCode::Reading(fault) => of_reading(fault),
+            FaultCode::Script(fault) => of_script(fault),
+            FaultCode::Notes(fault) => of_notes(fault),
+            FaultCode::Recording(fault) => of_recording(fault),
+            FaultCode::Output(fault) => of_output(fault),
+            FaultCode::Refused(why) => of_refusal(why),
+            FaultCode::NotNeutral => (
+                "The edit has none of the thirteen neutral forms.",
+                "Remove the line, or run the script without --neutral.",
+            ),
+            FaultCode::OtherVersion => (
+                "The banks have different minor versions, which no edit changes.",
+                "Rebuild one bank by `sfbank new --minor N` and its script.",
+            ),
+            FaultCode::TooManyFrames => (
+                "A live session writes at most 100,000,000 frames.",
+                "Save the bank, and start another session.",
+            ),
+        }
+    }
+}
+
+/// Returns the explanation of the fault or refusal with this number, or `None` where no fault or refusal has it.
+#[tactic(auto, using(crate::proofs::AllExplained::all_found))]
+pub fn explain(number: u32) -> Option<Explanation>
+    ensures known { IfSome result (λ e. IsOfNumber number e.number e.name.now) }
+    ensures all { (code : FaultCode) → number_of code ≡ number → IsSome result }
+{
+    let code = of_number(&ALL, number)?;
+    let (meaning, what_to_do) = code.texts();
+    Some(Explanation {
+        number: code.number(),
+        name: code.name(),
+        meaning,
+        what_to_do,
+    })
+}
+
+fn of_number(all: &[FaultCode], number: u32) -> Option<FaultCode>
+    ensures first { result ≡ find (λ code. number_of code == number) all.now }
+    ensures passes { IfSome result (λ code. number_of code ≡ number) }
+{
+    all.iter()
+        .copied()
+        .find(|code| code.number() as u32 == number)
+}
+
+/// Writes an explanation in three lines: the number and name, the meaning, and what to do.
+pub fn write_explanation<W: Write>(
+    explanation: &Explanation,
+    out: &mut W,
+) -> Result<u64, WriteFault>
+    ensures { Delivers (W.contents out.old) (W.contents out.new) (explanation_text explanation.now) result }
+{
+    let mut output = Output::to(out);
+    put_explanation(explanation, &mut output);
+    output.deliver()
+}
+
+/// Puts the three lines of an explanation into `output`.
+fn put_explanation<W: Write>(explanation: &Explanation, output: &mut Output<'_, W>)
+    ensures { Puts W.contents output.old output.new (explanation_text explanation.now) }
+{
+    let mut digits = Buffer::new();
+    output.put(digits.format(explanation.number).as_bytes());
+    output.put(b" ");
+    put_line(explanation.name, output);
+    put_line(explanation.meaning, output);
+    put_line(explanation.what_to_do, output);
+}
+
+/// Puts a text and a line feed into `output`.
+#[tactic(auto, using(base_outputs::proofs::OutputLaws::puts_then))]
+fn put_line<W: Write>(text: &str, output: &mut Output<'_, W>)
+    ensures { Puts W.contents output.old output.new (line_of text.now) }
+{
+    output.put(text.as_bytes());
+    output.put(b"\n");
+}
+
+fn of_reading(fault: ReadFault) -> (&'static str, &'static str) {
+    match fault {
+        ReadFault::NotRiff => (
+            "The file does not begin with RIFF, so it is not a SoundFont bank.",
+            "Check the path; unpack the file first if it is packed, such as .sfark.",
+        ),
+        ReadFault::NotSfbk => (
+            "The file is another kind of RIFF file, such as WAVE or DLS.",
+            "Give a SoundFont 2 bank; `sfbank import` adds a WAVE file to one.",
+        ),
+        ReadFault::Truncated => (
+            "A chunk ends after its container: the file is cut off, or a size is wrong.",
+            "Get the file again.",
+        ),
+        ReadFault::MissingList => (
+            "One of the lists INFO, sdta and pdta is missing.",
+            "Get the file again, or export it again.",
+        ),
+        ReadFault::MissingChunk => (
+            "The version, or a list of presets, instruments or samples, is missing.",
+            "Get the file again, or export it again.",
+        ),
+        ReadFault::Version => (
+            "The major version of the bank is not 2.",
+            "Convert it to SoundFont 2; .sf3 banks have major version 3.",
+        ),
+        ReadFault::RecordSize => (
+            "A list of presets, instruments or samples is not a whole number of records long.",
+            "Get the file again, or export it again.",
+        ),
+        ReadFault::NoTerminal => (
+            "A list of presets, instruments or samples lacks its terminal record.",
+            "Get the file again, or export it again.",
+        ),
+        ReadFault::BagOrder => (
+            "A preset, an instrument or a zone begins before the previous one.",
+            "Get the file again, or export it again.",
+        ),
+        ReadFault::IndexOutside => (
+            "A preset, an instrument or a zone begins after the end of its list.",
+            "Get the file again, or export it again.",
+        ),
+        ReadFault::BadInstrument => (
+            "A preset zone names an instrument that the bank does not have.",
+            "Correct the zone in the editor that made the bank.",
+        ),
+        ReadFault::BadSample => (
+            "An instrument zone names a sample that the bank does not have.",
+            "Correct the zone in the editor that made the bank.",
+        ),
+        ReadFault::SampleRange => (
+            "A sample begins or ends outside the sample data.",
+            "Get the file again; it may be cut off.",
+        ),
+        ReadFault::SampleType => (
+            "A sample is compressed, as in .sf3 banks.",
+            "Convert the bank to SoundFont 2 first.",
+        ),
+        ReadFault::RomSample => (
+            "A sample is in the ROM of a sound card, not in the file.",
+            "Remove the sample in the editor that made the bank.",
+        ),
+        ReadFault::OddSamples => (
+            "The sample data has an odd number of bytes; each point has two.",
+            "Get the file again; it may be cut off.",
+        ),
+        ReadFault::TooMany => (
+            "The bank has more records or points than a bank may have.",
+            "Split it into smaller banks.",
+        ),
+    }
+}
+
+fn of_script(fault: ScriptFault) -> (&'static str, &'static str) {
+    match fault {
+        ScriptFault::Syntax(_) => (
+            "A word of the line is wrong, missing or left over.",
+            "Compare the line with its form in SCRIPT.md.",
+        ),
+        ScriptFault::Number(_) => (
+            "A number of the line is malformed, or out of range.",
+            "Compare the line with its form in SCRIPT.md, which has the ranges.",
+        ),
+        ScriptFault::Literal(_) => (
+            "A text in quotes or hex digits after x is malformed, or of a wrong length.",
+            "Names have at most 20 bytes, points two bytes each; see SCRIPT.md.",
+        ),
+    }
+}
+
+fn of_notes(fault: NoteFault) -> (&'static str, &'static str) {
+    match fault {
+        NoteFault::BadNote(_) => (
+            "The line is not six numbers in their ranges.",
+            "Write start, length, bank, preset, key and velocity (NOTES.md).",
+        ),
+        NoteFault::TooManyNotes(_) => (
+            "There are more than 65,535 notes.",
+            "Split the list, and play each part alone.",
+        ),
+        NoteFault::TooLong(_) => (
+            "The note ends after frame 100,000,000, about 37 minutes.",
+            "Split the list, and play each part alone.",
+        ),
+    }
+}
+
+fn of_recording(fault: WaveFault) -> (&'static str, &'static str) {
+    match fault {
+        WaveFault::NotWave => (
+            "The file is not a RIFF file of the form WAVE.",
+            "Convert it, as by `sox IN -b 16 OUT.wav`.",
+        ),
+        WaveFault::Truncated => (
+            "A chunk ends after the file: the file is cut off, or a size is wrong.",
+            "Get the file again, or convert it, as by `sox IN -b 16 OUT.wav`.",
+        ),
+        WaveFault::Compressed => (
+            "The samples are compressed, or floating point.",
+            "Convert it, as by `sox IN -b 16 -e signed-integer OUT.wav`.",
+        ),
+        WaveFault::NoFormat => (
+            "The file has no format chunk of at least 16 bytes.",
+            "Convert it, as by `sox IN -b 16 OUT.wav`.",
+        ),
+        WaveFault::SampleBits => (
+            "The samples do not have 16 bits.",
+            "Convert it, as by `sox IN -b 16 OUT.wav`.",
+        ),
+        WaveFault::ChannelCount => (
+            "The file has neither one channel nor two.",
+            "Select two, as by `sox IN -b 16 OUT.wav remix 1 2`.",
+        ),
+        WaveFault::NoData => (
+            "The file has no data chunk, so no sound.",
+            "Get the file again, or record again.",
+        ),
+        WaveFault::HalfFrame => (
+            "The data ends within a frame.",
+            "Convert it, as by `sox IN -b 16 OUT.wav`.",
+        ),
+        WaveFault::ShortSampler => (
+            "The sampler chunk is too short for its loops.",
+            "Remove the chunk, as by `sox IN -b 16 OUT.wav`, and set key and loop by edits.",
+        ),
+        WaveFault::UnityNote => (
+            "The unity note of the sampler chunk is above 127.",
+            "Remove the chunk, as by `sox IN -b 16 OUT.wav`, and set key and loop by edits.",
+        ),
+        WaveFault::LoopOutside => (
+            "The loop of the sampler chunk is empty, or outside the data.",
+            "Remove the chunk, as by `sox IN -b 16 OUT.wav`, and set key and loop by edits.",
+        ),
+    }
+}
+
+fn of_output(fault: OutputFault) -> (&'static str, &'static str) {
+    match fault {
+        OutputFault::SameFile => (
+            "The output is the same file as an input or another output.",
+            "Give each output its own path; only OUT may be IN.",
+        ),
+        OutputFault::HoldsBank => (
+            "The path holds a bank, which the output would replace.",
+            "Give another path, or add --force to replace the bank.",
+        ),
+    }
+}
+
+fn of_refusal(why: Refusal) -> (&'static str, &'static str) {
+    match why {
+        Refusal::Of(cause) => of_cause(cause),
+        Refusal::OutOfMemory => (
+            "An allocation failed; nothing was changed.",
+            "Close other programs, or use a machine with more memory.",
+        ),
+        Refusal::NothingToUndo => (
+            "All edits of the session are undone already.",
+            "There is nothing to do.",
+        ),
+        Refusal::NothingToRedo => (
+            "No edit was undone, or another edit followed.",
+            "There is nothing to do.",
+        ),
+        Refusal::GroupRefused(..) => (
+            "An edit of the group is refused, so none is made; its index, from 0, and its cause follow.",
+            "Look up the cause by its number, and correct that edit.",
+        ),
+    }
+}
+
+fn of_cause(cause: Cause) -> (&'static str, &'static str) {
+    match cause {
+        Cause::NoSuchPreset => (
+            "The bank has no preset of this number.",
+            "See `sfbank show`; numbers begin at 0.",
+        ),
+        Cause::NoSuchInstrument => (
+            "The bank has no instrument of this number.",
+            "See `sfbank show`; numbers begin at 0.",
+        ),
+        Cause::NoSuchSample => (
+            "The bank has no sample of this number.",
+            "See `sfbank show`; numbers begin at 0.",
+        ),
+        Cause::NoSuchZone => (
+            "The preset or instrument has no zone of this number.",
+            "See `sfbank show --zones`; numbers begin at 0.",
+        ),
+        Cause::NoSuchModulator => (
+            "The zone has no modulator of this number.",
+            "See `sfbank show --zones`; numbers begin at 0.",
+        ),
+        Cause::BadPlace => (
+            "The index is after the end of the list.",
+            "Use at most the number of members; for a move, one less.",
+        ),
+        Cause::InUse => (
+            "A zone uses the member, or another sample links to it.",
+            "Change or remove its users first; `sfbank show --uses` counts them.",
+        ),
+        Cause::BadGenerator => (
+            "The generator is not allowed there (SoundFont 2.04, section 8.1.2), or has its own edits.",
+            "Use set-target for an instrument or a sample; FORMAT.md lists what each level allows.",
+        ),
+        Cause::NotSet => (
+            "The generator is not set there.",
+            "Remove the line: there is nothing to clear.",
+        ),
+        Cause::BadRange => (
+            "The low end of the range is above the high end, or an end is above 127.",
+            "Write LO..HI, from 0 to 127.",
+        ),
+        Cause::SplitOutside => (
+            "The split is not inside the range of the zone.",
+            "Split above the low end and not above the high end.",
+        ),
+        Cause::NotJoinable => (
+            "The zones differ in more than their ranges, or the ranges do not meet.",
+            "Make the zones equal first, or keep both.",
+        ),
+        Cause::LinkedModulator => (
+            "Modulators of the zone are linked by their numbers, which the edit would change.",
+            "Replace the whole zone by remove-zone and add-zone.",
+        ),
+        Cause::TooShort => (
+            "The trim removes more points than the sample has.",
+            "Remove fewer: `sfbank show` has the number of points.",
+        ),
+        Cause::LoopCut => (
+            "The trim removes points of the loop.",
+            "Remove fewer points, or move the loop first by set-loop.",
+        ),
+        Cause::BadLoop => (
+            "The loop is empty, or not inside the sample.",
+            "Let it begin before it ends, and end within the sample.",
+        ),
+        Cause::BadText => (
+            "The text is too long, has a zero byte, or may not be empty.",
+            "Shorten it: SCRIPT.md has the lengths.",
+        ),
+        Cause::Full(_) => (
+            "The bank would have more members, records or points than a file can count.",
+            "Remove what is not needed, or split the bank.",
+        ),
+    }
+}

@@ -1,0 +1,16 @@
+use Rattle.std.proofs.Common.{arith, length-take-le}
+use borrow.Rule.Slice.PartMut.{take_put}
+use Rattle.program_files.proofs.ReadInPlace.{Consumes-in_place}
+use Rattle.program_files.proofs.input.read_at.Goals as goal
+
+pub returns-in-Ok-clause-front : goal.returns-in-Ok-clause-front
+returns-in-Ok-clause-front g c = take_put _ _ c.args.buffer.now _ (omega (arith, c.requires))
+
+pub returns-in-Err-clause-front : goal.returns-in-Err-clause-front
+returns-in-Err-clause-front g c = take_put _ _ c.args.buffer.now _ (omega (arith, c.requires))
+
+pub returns-in-Ok-clause-taken : goal.returns-in-Ok-clause-taken
+returns-in-Ok-clause-taken g c =
+    Consumes-in_place _ _ c.in-Ok.count _ c.read.new.buf _ c.args.at
+    (length-take-le _ c.args.buffer.now (omega (arith, c.requires)))
+    c.in-Ok.ensures.bound.0 c.in-Ok.ensures.bytes.0

@@ -1,0 +1,20 @@
+use Rattle.std.proofs.Common.{◌≡◌, ◌∙◌, ◌+◌, ◌++◌, ap, take, drop, rules, arith}
+use Rattle.std.proofs.lemmas.List.{length-take-le, length-drop, places}
+use Rattle.std.proofs.Math.Seq.{take-add}
+use Rattle.program_files.proofs.input.read_piece.Goals as goal
+
+pub returns-clause-taken : goal.returns-clause-taken
+returns-clause-taken g c =
+    let at = c.len-at.result in
+    let n = c.in_ok-count.count in
+    let xs = c.read_at.new.buffer in
+    let read = c.in_ok-count.ensures in
+    let held : c.truncate.new.self.items ≡ take (at + n) xs = search (rules, places) in
+    let front : take at xs ≡ c.args.bytes.now.items = search (rules, places) in
+    let within = read.within in (
+      take n (drop at xs),
+      held ∙ take-add at n xs ∙ ap (λ f. f ++ take n (drop at xs)) front,
+      length-take-le n (drop at xs) (omega (arith, within, length-drop at xs)),
+      read.taken,
+      read.end,
+    )

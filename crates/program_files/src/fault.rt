@@ -1,0 +1,48 @@
+//! Why a command fails.
+ghost use Rattle.std.specs.Prelude.{◌≡◌};
+ghost use Rattle.program_files.specs.Ending.{unread_if};
+
+use crate::input_fault::InputFault;
+use crate::run_fault::RunFault;
+use base_outputs::OutputFault;
+use std::alloc::AllocError;
+
+/// The path reported for the standard output in a fault.
+pub const STANDARD_OUTPUT: &str = "-";
+
+/// Why a command fails.
+#[derive(Drop)]
+pub enum Fault<'a> {
+    /// clap rejects the arguments, with this text.
+    Words(clap::Error),
+    /// An argument is not valid UTF-8.
+    NotText,
+    /// No fault or cause has this number.
+    Unexplained(u32),
+    /// The input at this path can't be read whole.
+    File(&'a str, InputFault),
+    /// The output at this path is rejected.
+    Output(OutputFault, &'a str),
+    /// The run failed. A write fault is about this path.
+    Run(RunFault, &'a str),
+    /// The reader of an output closed its pipe early, which is not reported.
+    Unread,
+}
+
+impl<'a> Fault<'a> {
+    /// Returns `Unread` for a write fault if the reader of the output closed its pipe, else this fault.
+    pub fn unread_if(self, is_unread: bool) -> Fault<'a>
+        ensures { result ≡ unread_if is_unread self.entry }
+    {
+        match self {
+            Fault::Run(RunFault::Write(_, _), _path) if is_unread => Fault::Unread,
+            fault => fault,
+        }
+    }
+}
+
+impl From<AllocError> for Fault<'_> {
+    fn from(_error: AllocError) -> Self {
+        Fault::Run(RunFault::Memory, STANDARD_OUTPUT)
+    }
+}

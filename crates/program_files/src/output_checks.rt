@@ -1,0 +1,134 @@
+//! Rejects outputs that would destroy a file, before anything is read.
+ghost use Rattle.std.specs.Prelude.{◌≡◌};
+ghost use Rattle.program_files.specs.Ending.{fault_of_check};
+
+use crate::fault::Fault;
+use crate::run_fault::RunFault;
+use crate::target::{Target, folder_of, name_of, target_of};
+use base_outputs::OutputFault;
+use std::alloc::AllocError;
+use std::fs;
+use std::fs::File;
+use std::io::Read;
+use std::os::unix::fs::MetadataExt;
+use std::rt::Files;
+
+/// The bits of `st_mode` that hold the file type (`S_IFMT`), and the type of character devices such as /dev/null, which
+/// store nothing that is written to them.
+const TYPE_BITS: u32 = 0o170000;
+
+const CHARACTER_DEVICE: u32 = 0o020000;
+
+/// The length of the header of a bank: `RIFF`, a length of four bytes, `sfbk`.
+const HEAD: usize = 12;
+
+/// Why an output is rejected or can't be checked.
+#[derive(Clone, Copy, Debug, PartialEq, Eq)]
+pub enum OutputCheck {
+    Rejected(OutputFault),
+    Memory,
+}
+
+impl From<AllocError> for OutputCheck {
+    fn from(_error: AllocError) -> OutputCheck {
+        OutputCheck::Memory
+    }
+}
+
+impl OutputCheck {
+    /// The fault of a command with this output.
+    pub fn at(self, path: &str) -> Fault<'_>
+        ensures { result ≡ fault_of_check self path.entry }
+    {
+        match self {
+            OutputCheck::Rejected(fault) => Fault::Output(fault, path),
+            OutputCheck::Memory => Fault::Run(RunFault::Memory, path),
+        }
+    }
+}
+
+/// Rejects an output that is the same file as one of the others: by links, by hard links, or as a new file in the same
+/// folder. Character devices such as /dev/null are never rejected.
+pub fn check_apart<R: Files + AllocGlobal>(
+    rt: &R,
+    output: &str,
+    others: &[&str],
+) -> Result<(), OutputCheck> {
+    for other in others {
+        if is_one_file(rt, output, other)? {
+            return Err(OutputCheck::Rejected(OutputFault::SameFile));
+        }
+    }
+    Ok(())
+}
+
+/// Rejects an output at a regular file that begins like a bank.
+pub fn check_no_bank<R: Files + AllocGlobal>(rt: &R, output: &str) -> Result<(), OutputCheck> {
+    let Target::Regular(path) = target_of(rt, output)? else {
+        return Ok(());
+    };
+    if begins_as_bank(rt, path.as_str()) {
+        return Err(OutputCheck::Rejected(OutputFault::HoldsBank));
+    }
+    Ok(())
+}
+
+fn is_one_file<R: Files + AllocGlobal>(rt: &R, one: &str, other: &str) -> Result<bool, AllocError> {
+    match (place_of(rt, one), place_of(rt, other)) {
+        (Some(one), Some(other)) => Ok(one == other && !one.is_character_device),
+        (None, None) => is_one_new_file(rt, one, other),
+        _ => Ok(false),
+    }
+}
+
+/// Whether two paths without a file are the same name in the same existing folder, once links are followed. If the
+/// folder does not exist, creating the file is a write fault later.
+fn is_one_new_file<R: Files + AllocGlobal>(
+    rt: &R,
+    one: &str,
+    other: &str,
+) -> Result<bool, AllocError> {
+    match (target_of(rt, one)?, target_of(rt, other)?) {
+        (Target::Nothing(one), Target::Nothing(other)) => {
+            let (one, other) = (one.as_str(), other.as_str());
+            let is_one_name = name_of(one) == name_of(other);
+            Ok(is_one_name && is_one_folder(rt, folder_of(one), folder_of(other)))
+        }
+        _ => Ok(false),
+    }
+}
+
+/// Whether two paths lead to the same existing folder.
+fn is_one_folder<R: Files>(rt: &R, one: &str, other: &str) -> bool {
+    match (place_of(rt, one), place_of(rt, other)) {
+        (Some(one), Some(other)) => one == other,
+        _ => false,
+    }
+}
+
+/// The identity of a file: the same for each of its names.
+#[derive(Clone, Copy, PartialEq, Eq)]
+struct FilePlace {
+    device: u64,
+    number: u64,
+    is_character_device: bool,
+}
+
+fn place_of<R: Files>(rt: &R, path: &str) -> Option<FilePlace> {
+    match fs::metadata(rt, path) {
+        Ok(found) => Some(FilePlace {
+            device: found.dev(),
+            number: found.ino(),
+            is_character_device: found.mode() & TYPE_BITS == CHARACTER_DEVICE,
+        }),
+        Err(_) => None,
+    }
+}
+
+fn begins_as_bank<R: Files>(rt: &R, path: &str) -> bool {
+    let Ok(mut file) = File::open(rt, path) else {
+        return false;
+    };
+    let mut head = [0; HEAD];
+    file.read_exact(&mut head).is_ok() && head.starts_with(b"RIFF") && head.ends_with(b"sfbk")
+}

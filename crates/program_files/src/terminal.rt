@@ -1,0 +1,152 @@
+//! What the program writes on a terminal: the prompt of a live session, and the progress of long work.
+
+use base_outputs::put_all;
+use base_progress::{Progress, Work};
+use std::io;
+use std::io::{Read, Write};
+use std::time::{Clock, Duration, Instant};
+
+/// Written before the first prompt.
+const GREETING: &[u8] = b"A live session: help lists its lines, quit ends it.\n";
+
+/// Written before each line is read.
+const PROMPT: &[u8] = b"> ";
+
+/// An input that writes a prompt before each read if it is a terminal, and a greeting before the first.
+#[derive(Drop)]
+pub struct Prompted<I: Read, O: Write> {
+    input: I,
+    output: O,
+    is_terminal: bool,
+    is_greeted: bool,
+}
+
+impl<I: Read, O: Write> Prompted<I, O> {
+    /// An input, and the output for its prompts.
+    pub fn new(input: I, output: O, is_terminal: bool) -> Prompted<I, O> {
+        Prompted {
+            input,
+            output,
+            is_terminal,
+            is_greeted: false,
+        }
+    }
+
+    fn ask(&mut self) {
+        if !self.is_greeted {
+            self.is_greeted = true;
+            let _ = put_all(&mut self.output, GREETING);
+        }
+        let _ = put_all(&mut self.output, PROMPT);
+    }
+}
+
+impl<I: Read, O: Write> Read for Prompted<I, O> {
+    fn read(&mut self, buf: &mut [u8]) -> io::Result<usize> {
+        if self.is_terminal {
+            self.ask();
+        }
+        self.input.read(buf)
+    }
+}
+
+/// Progress is shown for scripts with more lines.
+const FEW_LINES: u64 = 10_000;
+
+/// Progress is shown for rendering that takes longer, in seconds.
+const SHORT_TIME: u64 = 2;
+
+/// Returns to the first column, and clears the line.
+const CLEARED: &str = "\r\x1b[K";
+
+/// Shows the progress of long work on a terminal, in a line that is overwritten, and cleared at the end. On anything
+/// else, and for short work, it writes nothing.
+#[derive(Drop)]
+pub struct Meter<'a, C: Clock, O: Write> {
+    clock: &'a C,
+    output: O,
+    is_terminal: bool,
+    work: Work,
+    // The size of the work and how much is done, in lines or frames.
+    count: u64,
+    done: u64,
+    // When the work began, if the clock can be read.
+    began: Option<Instant>,
+    // The percentage shown last.
+    told: Option<u64>,
+}
+
+impl<'a, C: Clock, O: Write> Meter<'a, C, O> {
+    /// A meter of no work yet, which writes to `output`.
+    pub fn new(clock: &'a C, output: O, is_terminal: bool) -> Meter<'a, C, O> {
+        Meter {
+            clock,
+            output,
+            is_terminal,
+            work: Work::Lines,
+            count: 0,
+            done: 0,
+            began: None,
+            told: None,
+        }
+    }
+
+    // Whether the work is long enough to show.
+    fn is_long(&self) -> bool {
+        match self.work {
+            Work::Lines => self.count > FEW_LINES,
+            Work::Frames => self.has_lasted(),
+        }
+    }
+
+    fn has_lasted(&self) -> bool {
+        let Some(began) = self.began else {
+            return false;
+        };
+        match began.elapsed(self.clock) {
+            Ok(time) => time >= Duration::from_secs(SHORT_TIME),
+            Err(_) => false,
+        }
+    }
+
+    fn tell(&mut self) {
+        let hundredths = hundredths_of(self.done, self.count);
+        if self.told != Some(hundredths) && self.is_long() {
+            self.told = Some(hundredths);
+            let _ = write!(self.output, "{CLEARED}{hundredths} %");
+            let _ = self.output.flush();
+        }
+    }
+}
+
+// The percentage done, at most 100.
+fn hundredths_of(done: u64, count: u64) -> u64 {
+    match (100 * u128::from(done)).checked_div(u128::from(count)) {
+        Some(hundredths) => hundredths.min(100) as u64,
+        None => 100,
+    }
+}
+
+impl<'a, C: Clock, O: Write> Progress for Meter<'a, C, O> {
+    fn begin(&mut self, work: Work, count: u64) {
+        self.work = work;
+        self.count = count;
+        self.done = 0;
+        self.began = Instant::now(self.clock).ok();
+        self.told = None;
+    }
+
+    fn advance(&mut self, count: u64) {
+        self.done = self.done.saturating_add(count);
+        if self.is_terminal {
+            self.tell();
+        }
+    }
+
+    fn end(&mut self) {
+        if self.told.is_some() {
+            self.told = None;
+            let _ = put_all(&mut self.output, CLEARED.as_bytes());
+        }
+    }
+}

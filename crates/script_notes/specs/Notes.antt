@@ -1,0 +1,93 @@
+-- Notes, and the notes of a text or its first fault.
+use Rattle.std.specs.Prelude.{◌≤◌, ℕ, suc, ◌+◌, List, [], ◌∷◌, ◌++◌, length, Option, Some, None, Result, Ok, Err}
+use Rattle.std.specs.Prelude.{nat_le, ◌&&◌, if◌then◌else◌}
+use Rattle.script_tokens.specs.declared.cursor.Said.{Said}
+use Rattle.script_tokens.specs.declared.fault.LineFault.{LineFault}
+use Rattle.script_tokens.specs.Said.{said_lines}
+use Rattle.script_tokens.specs.Parts.{Took, Part, ◌>>=◌, pure, most_word, most_double_word, number, ended}
+use Rattle.script_tokens.specs.Pool.{and_then}
+use Rattle.script_notes.specs.declared.limits.TheConstants.{MOST_NOTES, LAST_FRAME, HIGHEST_KEY, HIGHEST_VELOCITY}
+use Rattle.script_notes.specs.declared.fault.NoteFault.{NoteFault}
+use Rattle.script_notes.specs.declared.fault.NoteFault.TheVariants as faults
+
+-- ---- a note
+
+-- the numbers of a note: its start and length in frames, the bank number and number of its preset, its key
+-- and velocity
+pub record Numbers : Type 0 where
+  pub start : ℕ
+  pub length : ℕ
+  pub bank : ℕ
+  pub number : ℕ
+  pub key : ℕ
+  pub velocity : ℕ
+
+-- the numbers are within the limits of a note
+pub record IsNote (n : Numbers) : Type 0 where
+  pub ends : n.start + n.length ≤ LAST_FRAME
+  pub key : n.key ≤ HIGHEST_KEY
+  pub velocity : n.velocity ≤ HIGHEST_VELOCITY
+
+-- the note with these numbers, if they are within the limits
+unfoldable pub note_of : Numbers → Option Numbers
+note_of n =
+    if nat_le (n.start + n.length) LAST_FRAME && nat_le n.key HIGHEST_KEY
+    && nat_le n.velocity HIGHEST_VELOCITY then Some n else None
+
+-- a value, or the first fault of a note list
+abbrev pub OrFault : Type 0 → Type 0
+OrFault X = Result X NoteFault
+
+-- ---- the note of a line
+
+-- six numbers and the line's end: a note, or none if it ends too late
+unfoldable pub note : Part (Option Numbers)
+note = do
+  s ← number most_double_word
+  l ← number most_double_word
+  b ← number most_word
+  n ← number most_word
+  k ← number HIGHEST_KEY
+  v ← number HIGHEST_VELOCITY
+  u ← ended (tt {0})
+  pure (note_of (record { start = s; length = l; bank = b; number = n; key = k; velocity = v }))
+
+-- the note of line n, after k notes; a note that ends too late is a fault
+abbrev pub in_time : ℕ → ℕ → Option Numbers → OrFault Numbers
+in_time k n None = Err (faults.TooLong n)
+in_time k n (Some x) = if nat_le MOST_NOTES k then Err (faults.TooManyNotes n) else Ok x
+
+-- the note that is read from line n, after k notes, or the line's fault
+abbrev pub judged : ℕ → ℕ → Result (Took (Option Numbers)) LineFault → OrFault Numbers
+judged k n (Err e) = Err (faults.BadNote n)
+judged k n (Ok t) = in_time k n t.value
+
+-- ---- the notes of a text
+
+-- a line with tokens, and its number
+pub record Spoken : Type 0 where
+  pub line : ℕ
+  pub said : List Said
+
+-- the lines with tokens, of which the first line has the number n
+unfoldable pub spoken : ℕ → List (List Said) → List Spoken
+spoken n [] = []
+spoken n ([] ∷ lines) = spoken (suc n) lines
+spoken n ((s ∷ said) ∷ lines) = record { line = n; said = s ∷ said } ∷ spoken (suc n) lines
+
+-- the notes of such lines, after k notes, or the first fault
+unfoldable pub notes_after : ℕ → List Spoken → OrFault (List Numbers)
+notes_after k [] = Ok []
+notes_after k (s ∷ lines) =
+    and_then (judged k s.line (note s.said)) (λ x. and_then (notes_after (suc k) lines) (λ xs. Ok (x ∷ xs)))
+
+-- the notes of a text, one for each line with tokens, or the first fault
+unfoldable pub notes_of : List ℕ → OrFault (List Numbers)
+notes_of text = notes_after 0 (spoken 1 (said_lines text))
+
+-- ---- one more note
+
+-- the notes, and the note of line n if the line has tokens
+abbrev pub with_note : ℕ → List Said → List Numbers → OrFault (List Numbers)
+with_note n [] notes = Ok notes
+with_note n (s ∷ said) notes = and_then (judged (length notes) n (note (s ∷ said))) (λ x. Ok (notes ++ x ∷ []))

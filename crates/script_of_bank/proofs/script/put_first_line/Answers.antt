@@ -1,0 +1,10 @@
+use Rattle.script_of_bank.specs.Printed.{first_line}
+use Rattle.script_of_bank.proofs.script.put_first_line.Goals as goal
+
+pub returns-in-Kept : goal.returns-in-Kept
+unfolding first_line
+returns-in-Kept g c = rw c.in-Kept.is (rw c.from.ensures at c.put_line.ensures)
+
+pub returns-in-LeftOut : goal.returns-in-LeftOut
+unfolding first_line
+returns-in-LeftOut g c = rw c.in-LeftOut.is (rw (c.from.ensures, c.new.ensures) at c.put_line-in-LeftOut.ensures)

@@ -1,0 +1,53 @@
+//! The script of a bank.
+ghost use Rattle.std.specs.Prelude.{◌≡◌};
+ghost use Rattle.base_outputs.specs.Output.{Puts};
+ghost use Rattle.edit_script.specs.Printing.{texts_of};
+ghost use Rattle.script_of_bank.specs.Listed.{edits_of_bank};
+ghost use Rattle.script_of_bank.specs.Printed.{first_line, with_points, bank_script};
+
+use crate::links::put_links;
+use crate::owners::put_owners;
+use crate::samples::{SamplePoints, put_samples};
+use crate::texts::put_texts;
+use bank_core::Bank;
+use base_outputs::Output;
+use script_tokens::{Piece, put_line};
+use sf_base::Lent;
+use std::io::Write;
+
+/// Writes the script that creates a bank from the empty bank of its minor version: a comment with the command
+/// that creates the empty bank, and a line for each edit, first of the texts that are not empty, then of the
+/// samples, their links, the instruments and the presets. With [`SamplePoints::LeftOut`] the comment states
+/// that points are left out, and each sample has none. It allocates nothing.
+pub fn put_bank_text<W: Write>(bank: &Bank<'_>, points: SamplePoints, output: &mut Output<'_, W>)
+    ensures { Puts W.contents output.old output.new (bank_script points bank.now) }
+{
+    put_first_line(points, bank.minor(), output);
+    put_parts(bank, points, output);
+}
+
+// Writes the comment before all edits.
+fn put_first_line<W: Write>(points: SamplePoints, minor: u16, output: &mut Output<'_, W>)
+    ensures { Puts W.contents output.old output.new (first_line points minor) }
+{
+    let command = b"# sfbank new --minor";
+    let minor = Piece::Number(u64::from(minor));
+    match points {
+        SamplePoints::Kept => put_line(command, &[minor], output),
+        SamplePoints::LeftOut => {
+            let purpose = Piece::Word(Lent::new(b"without points: to read and compare alone"));
+            put_line(command, &[minor, purpose], output);
+        }
+    }
+}
+
+// Writes the lines of the edits.
+pub(crate) fn put_parts<W: Write>(bank: &Bank<'_>, points: SamplePoints, output: &mut Output<'_, W>)
+    ensures { Puts W.contents output.old output.new (texts_of (edits_of_bank (with_points points bank.now))) }
+{
+    put_texts(bank, output);
+    put_samples(bank.samples(), points, output);
+    put_links(bank.samples(), output);
+    put_owners(bank.instruments(), output);
+    put_owners(bank.presets(), output);
+}

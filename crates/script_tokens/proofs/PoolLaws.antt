@@ -1,0 +1,211 @@
+-- The values of lines over the pool of their text are the values of the lines by themselves.
+use Rattle.std.proofs.Common.{◌≡◌, ◌-◌, ◌/◌, ℕ, suc, Bool, true, false, List, [], ◌∷◌, ◌++◌, length, drop, map}
+use Rattle.std.proofs.Common.{Result, Ok, Err, refl, sym, ap, ◌∙◌, append_assoc, arith}
+use Rattle.std.specs.List.{list_all}
+use Rattle.std.proofs.lemmas.List.{append-nil, take_at, drop_at, length-drop}
+use Rattle.hex.specs.Hex.{decode_of}
+use Rattle.hex.specs.declared.error.FromHexError.{FromHexError}
+use Rattle.hex.proofs.HexLemmas.{decode_of-ok}
+use Rattle.script_tokens.specs.declared.tokens.Token.{Token}
+use Rattle.script_tokens.specs.declared.tokens.Token.TheVariants.{Plain, Quoted, Broken}
+use Rattle.script_tokens.specs.declared.cursor.Said.{Said}
+use Rattle.script_tokens.specs.declared.cursor.Said.TheVariants.{Word, Literal, Bad}
+use Rattle.script_tokens.specs.Lines.{lines_of}
+use Rattle.script_tokens.specs.Tokens.{tokens_of}
+use Rattle.script_tokens.specs.Said.{is_plain, is_hex, decoded, said, said_in, said_lines, size_of, said_over}
+use Rattle.script_tokens.specs.Said.{all_said_over, pool_after, lines_said_over}
+use Rattle.script_tokens.specs.Pool.{Grown, and_then, gather, literal_of, literals_of, pool_bytes}
+
+-- ---- the cursor
+
+pub pool_at_end : (pool : List ℕ) (ts : List Token) → all_said_over pool ts ≡ [] → pool ≡ pool_after pool ts
+pool_at_end pool [] e = refl
+pool_at_end pool (t ∷ ts) e = cc
+
+pub lines_said_on : (pool behind : List ℕ) (l : List ℕ) (ls all : List (List ℕ))
+    → behind ≡ pool_after pool (tokens_of l) → all ≡ l ∷ ls
+    → lines_said_over pool all ≡ all_said_over pool (tokens_of l) ∷ lines_said_over behind ls
+lines_said_on pool behind l ls all b e = rw (e, b) refl
+
+pub lines_said_end : (pool : List ℕ) (all : List (List ℕ)) → all ≡ [] → lines_said_over pool all ≡ []
+lines_said_end pool all e = rw e refl
+
+-- ---- both results are values
+
+pub record Through {X : Type 0} (r : Grown X) (f : List X → Grown X) (ys : List X) : Type 0 where
+  pub between : List X
+  pub first : r ≡ Ok between
+  pub second : f between ≡ Ok ys
+
+pub through : {X : Type 0} (r : Grown X) (f : List X → Grown X) (ys : List X) → and_then r f ≡ Ok ys → Through r f ys
+through (Ok xs) f ys e = record { between = xs; first = refl; second = e }
+through (Err d) f ys e = cc
+
+-- ---- a token's literal is at the front of the pool
+
+pub record Lends (t : Token) (pool more : List ℕ) : Type 0 where
+  pub bytes : List ℕ
+  pub parts : more ≡ pool ++ bytes
+  pub size : size_of t ≡ length bytes
+  pub same : (rest : List ℕ) → said_over (bytes ++ rest) t ≡ said t
+
+taken : (n : ℕ) (bytes pool more : List ℕ) → literal_of n (Literal bytes) pool ≡ Ok more → more ≡ pool ++ bytes
+unfolding literal_of
+taken n bytes pool more e = cc
+
+not_taken : (n : ℕ) (w pool more : List ℕ) → literal_of n (Word w) pool ≡ Ok more → more ≡ pool ++ []
+unfolding literal_of
+not_taken n w pool more e = let same : pool ≡ more = cc in sym same ∙ sym (append-nil pool)
+
+never : (n : ℕ) (pool more : List ℕ) → literal_of n Bad pool ≡ Ok more → ⊥
+unfolding literal_of
+never n pool more e = cc
+
+said_word : (w : List ℕ) → is_hex w ≡ false → said (Plain w) ≡ Word w
+unfolding said
+said_word w x = rw x refl
+
+said_digits : (w : List ℕ) → is_hex w ≡ true → said (Plain w) ≡ decoded (decode_of (drop 1 w))
+unfolding said
+said_digits w x = rw x refl
+
+said_quoted : (i : List ℕ) → list_all is_plain i ≡ true → said (Quoted i) ≡ Literal i
+unfolding said
+said_quoted i x = rw x refl
+
+said_unquoted : (i : List ℕ) → list_all is_plain i ≡ false → said (Quoted i) ≡ Bad
+unfolding said
+said_unquoted i x = rw x refl
+
+lends_digits : (n : ℕ) (w pool more : List ℕ) (r : Result (List ℕ) FromHexError) → is_hex w ≡ true
+    → decode_of (drop 1 w) ≡ r → literal_of n (decoded r) pool ≡ Ok more → Lends (Plain w) pool more
+unfolding size_of said_over
+lends_digits n w pool more (Ok bytes) x d e =
+    let h = decode_of-ok (drop 1 w) bytes d in
+    let len : (length w - 1) / 2 ≡ length bytes = (let a = h.2 in omega (arith, a, length-drop 1 w)) in
+    record {
+      bytes = bytes;
+      parts = taken n bytes pool more e;
+      size = rw (x, len) refl;
+      same =
+          λ rest.
+          rw (said_digits w x, d, x, len)
+          (ap (λ (b : List ℕ). Literal b) (take_at bytes rest (length bytes) refl));
+    }
+lends_digits n w pool more (Err f) x d e = absurd (never n pool more e)
+
+lends_plain : (n : ℕ) (w pool more : List ℕ) (t : Bool) → is_hex w ≡ t → literal_of n (said (Plain w)) pool ≡ Ok more
+    → Lends (Plain w) pool more
+unfolding size_of said_over
+lends_plain n w pool more true x e =
+    lends_digits n w pool more (decode_of (drop 1 w)) x refl (rw (said_digits w x) at e)
+lends_plain n w pool more false x e = record {
+  bytes = [];
+  parts = not_taken n w pool more (rw (said_word w x) at e);
+  size = rw x refl;
+  same = λ rest. rw (said_word w x, x) refl;
+}
+
+lends_quoted : (n : ℕ) (i pool more : List ℕ) (t : Bool) → list_all is_plain i ≡ t
+    → literal_of n (said (Quoted i)) pool ≡ Ok more → Lends (Quoted i) pool more
+unfolding size_of said_over
+lends_quoted n i pool more true x e = record {
+  bytes = i;
+  parts = taken n i pool more (rw (said_quoted i x) at e);
+  size = refl;
+  same = λ rest. rw (said_quoted i x) (ap (λ (b : List ℕ). Literal b) (take_at i rest (length i) refl));
+}
+lends_quoted n i pool more false x e = absurd (never n pool more (rw (said_unquoted i x) at e))
+
+said_broken : said Broken ≡ Bad
+unfolding said
+said_broken = refl
+
+pub lends : (n : ℕ) (t : Token) (pool more : List ℕ) → literal_of n (said t) pool ≡ Ok more → Lends t pool more
+lends n (Plain w) pool more e = lends_plain n w pool more (is_hex w) refl e
+lends n (Quoted i) pool more e = lends_quoted n i pool more (list_all is_plain i) refl e
+lends n Broken pool more e = absurd (never n pool more (rw said_broken at e))
+
+-- ---- the literals of a line are at the front of the pool
+
+pub record Serves (ts : List Token) (pool more : List ℕ) : Type 0 where
+  pub bytes : List ℕ
+  pub parts : more ≡ pool ++ bytes
+  pub same : (rest : List ℕ) → all_said_over (bytes ++ rest) ts ≡ map said ts
+  pub behind : (rest : List ℕ) → pool_after (bytes ++ rest) ts ≡ rest
+
+serves_none : (n : ℕ) (pool more : List ℕ) → literals_of n [] pool ≡ Ok more → Serves [] pool more
+unfolding literals_of
+serves_none n pool more e =
+    let same : pool ≡ more = cc in
+    record { bytes = []; parts = sym same ∙ sym (append-nil pool); same = λ rest. refl; behind = λ rest. refl }
+
+pub literals_through : (n : ℕ) (s : Said) (line : List Said) (pool more : List ℕ)
+    → literals_of n (s ∷ line) pool ≡ Ok more → Through (literal_of n s pool) (λ p. literals_of n line p) more
+unfolding literals_of
+literals_through n s line pool more e = through (literal_of n s pool) (λ p. literals_of n line p) more e
+
+pub serves : (n : ℕ) (ts : List Token) (pool more : List ℕ) → literals_of n (map said ts) pool ≡ Ok more
+    → Serves ts pool more
+serves n [] pool more e = serves_none n pool more e
+serves n (t ∷ ts) pool more e =
+    let b = literals_through n (said t) (map said ts) pool more e in
+    let l = lends n t pool b.between b.first in
+    let s = serves n ts b.between more b.second in
+    let split = λ (rest : List ℕ). append_assoc l.bytes s.bytes rest in
+    let left =
+    λ (rest : List ℕ).
+    ap (drop (size_of t)) (split rest) ∙ drop_at l.bytes (s.bytes ++ rest) (size_of t) (sym l.size) in
+    record {
+      bytes = l.bytes ++ s.bytes;
+      parts = s.parts ∙ ap (λ (x : List ℕ). x ++ s.bytes) l.parts ∙ append_assoc pool l.bytes s.bytes;
+      same = λ rest.
+          ap (λ (x : Said). x ∷ all_said_over (drop (size_of t) ((l.bytes ++ s.bytes) ++ rest)) ts)
+          (ap (λ (x : List ℕ). said_over x t) (split rest) ∙ l.same (s.bytes ++ rest))
+          ∙ ap (λ (x : List ℕ). said t ∷ all_said_over x ts) (left rest)
+          ∙ ap (λ (x : List Said). said t ∷ x) (s.same rest);
+      behind = λ rest. ap (λ (x : List ℕ). pool_after x ts) (left rest) ∙ s.behind rest;
+    }
+
+-- ---- the literals of all lines are in the pool
+
+pub record LinesServe (ls : List (List ℕ)) (pool more : List ℕ) : Type 0 where
+  pub bytes : List ℕ
+  pub parts : more ≡ pool ++ bytes
+  pub same : lines_said_over bytes ls ≡ map said_in ls
+
+lines_serve_none : (n : ℕ) (pool more : List ℕ) → gather literals_of n [] pool ≡ Ok more → LinesServe [] pool more
+unfolding gather
+lines_serve_none n pool more e =
+    let same : pool ≡ more = cc in
+    record { bytes = []; parts = sym same ∙ sym (append-nil pool); same = refl }
+
+pub lines_through : (n : ℕ) (l : List Said) (ls : List (List Said)) (pool more : List ℕ)
+    → gather literals_of n (l ∷ ls) pool ≡ Ok more
+    → Through (literals_of n l pool) (λ p. gather literals_of (suc n) ls p) more
+unfolding gather
+lines_through n l ls pool more e = through (literals_of n l pool) (λ p. gather literals_of (suc n) ls p) more e
+
+lines_serve : (n : ℕ) (ls : List (List ℕ)) (pool more : List ℕ)
+    → gather literals_of n (map said_in ls) pool ≡ Ok more → LinesServe ls pool more
+lines_serve n [] pool more e = lines_serve_none n pool more e
+lines_serve n (l ∷ ls) pool more e =
+    let b = lines_through n (said_in l) (map said_in ls) pool more e in
+    let s = serves n (tokens_of l) pool b.between b.first in
+    let r = lines_serve (suc n) ls b.between more b.second in
+    record {
+      bytes = s.bytes ++ r.bytes;
+      parts = r.parts ∙ ap (λ (x : List ℕ). x ++ r.bytes) s.parts ∙ append_assoc pool s.bytes r.bytes;
+      same =
+          ap (λ (x : List Said). x ∷ lines_said_over (pool_after (s.bytes ++ r.bytes) (tokens_of l)) ls)
+          (s.same r.bytes)
+          ∙ ap (λ (x : List ℕ). said_in l ∷ lines_said_over x ls) (s.behind r.bytes)
+          ∙ ap (λ (x : List (List Said)). said_in l ∷ x) r.same;
+    }
+
+pub over_pool : (text pool : List ℕ) → pool_bytes text ≡ Ok pool
+    → lines_said_over pool (lines_of text) ≡ said_lines text
+unfolding pool_bytes
+over_pool text pool e =
+    let s = lines_serve 1 (lines_of text) [] pool e in
+    ap (λ (p : List ℕ). lines_said_over p (lines_of text)) s.parts ∙ s.same

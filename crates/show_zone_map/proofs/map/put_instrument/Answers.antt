@@ -1,0 +1,39 @@
+use Rattle.std.proofs.Common.{◌<◌, ◌≤◌, arith, ap, sym}
+use Rattle.std.specs.List.{flat_map, filter_map}
+use Rattle.bank_changes.specs.declared.members.Owner.TheVariants as owner
+use Rattle.base_outputs.proofs.OutputLaws.{puts_as, puts_nothing, putting_from, putting_step, putting_last}
+use Rattle.zone_select.specs.Left.{zones_in}
+use Rattle.show_zone_map.specs.Rectangles.{rectangle_at}
+use Rattle.show_zone_map.specs.Picture.{drawn}
+use Rattle.show_zone_map.proofs.Rows.{all_from, options_on, options_over}
+use Rattle.show_zone_map.proofs.map.put_instrument.Goals as goal
+
+pub loop-zone-init : goal.loop-zone-init
+loop-zone-init g c =
+    let b = c.args.bank.now in
+    putting_from _ _
+    (ap (λ ks. flat_map (drawn b) (filter_map (rectangle_at b c.args.preset_zone c.args.area c.args.instrument) ks))
+    (all_from (zones_in b (owner.Inst c.args.instrument))))
+
+pub loop-zone-preserved : goal.loop-zone-preserved
+loop-zone-preserved g c =
+    let b = c.args.bank.now in
+    let test = c.loop-zone-test.true in
+    let end = c.zones_in-zone-end.ensures.count in
+    let lt : c.loop-zone.zone < zones_in b (owner.Inst c.args.instrument) = omega (arith, test, end) in
+    putting_step _ _ c.loop-zone.invariant
+    (options_on (drawn b) (rectangle_at b c.args.preset_zone c.args.area c.args.instrument) c.loop-zone.zone _ lt)
+    c.put_zone.ensures
+
+pub returns : goal.returns
+returns g c =
+    let b = c.args.bank.now in
+    let test = c.loop-zone-test.false in
+    let end = c.zones_in-zone-end.ensures.count in
+    let le : zones_in b (owner.Inst c.args.instrument) ≤ c.loop-zone.zone = omega (arith, test, end) in
+    putting_last c.loop-zone.invariant
+    (puts_as _ _
+    (sym
+    (options_over (drawn b) (rectangle_at b c.args.preset_zone c.args.area c.args.instrument)
+    c.loop-zone.zone _ le))
+    (puts_nothing _))

@@ -1,0 +1,16 @@
+use Rattle.std.specs.List.{flat_map}
+use Rattle.bank_changes.specs.declared.members.Owner.TheVariants as owner
+use Rattle.base_outputs.proofs.OutputLaws.{Putting}
+use Rattle.zone_select.specs.Left.{zones_in}
+use Rattle.show_zone_map.specs.Rectangles.{rectangles, rectangles_of_zone}
+use Rattle.show_zone_map.specs.Picture.{drawn}
+use Rattle.show_zone_map.proofs.Rows.{from}
+use Rattle.show_zone_map.proofs.map.put_preset.Given as goal
+
+-- the rectangles of the remaining zones are still to be written
+abbrev pub invariant-loop-zone : goal.invariant-loop-zone
+invariant-loop-zone g l =
+    Putting g.W.Write.contents l.initial.output l.output
+    (flat_map (drawn l.bank) (rectangles l.bank (owner.Preset l.preset)))
+    (flat_map (drawn l.bank)
+    (flat_map (rectangles_of_zone l.bank l.preset) (from l.zone (zones_in l.bank (owner.Preset l.preset)))))

@@ -1,0 +1,176 @@
+-- A picture of rectangles, as SVG. Keys run from left to right, 10 units each, and velocities from bottom to top, 4
+-- units each; key 0 and velocity 127 begin 60 units from the left and from the top.
+use Rattle.std.specs.Prelude.{ℕ, ◌+◌, ◌-◌, ◌*◌, ◌/◌, ◌%◌, ◌&&◌, nat_le, List, [], ◌∷◌, ◌++◌, Option, Some, None}
+use Rattle.std.specs.Prelude.{codes, unwrap_or, slice_get, if◌then◌else◌}
+use Rattle.std.specs.List.{concat, flat_map}
+use Rattle.std.specs.Option.{option_map_or}
+use Rattle.bank_parts.specs.declared.parts.Head.{Head}
+use Rattle.bank_parts.specs.declared.parts.Sample.{Sample}
+use Rattle.bank_parts.specs.declared.parts.Parts.{Parts}
+use Rattle.bank_changes.specs.declared.members.Owner.{Owner}
+use Rattle.bank_changes.specs.declared.members.Owner.TheVariants as owner
+use Rattle.bank_changes.specs.Members.{head_of, instrument_name_of}
+use Rattle.generators.specs.declared.range.Range.{Range}
+use Rattle.show_zone_map.specs.declared.marks.Mark.{Mark}
+use Rattle.show_zone_map.specs.declared.marks.Mark.TheVariants.{Text, Number, Name}
+use Rattle.show_zone_map.specs.declared.rectangle.Rectangle.{Rectangle}
+use Rattle.show_zone_map.specs.Marks.{marks_text}
+use Rattle.show_zone_map.specs.Rectangles.{rectangles}
+
+-- ---- the parts of all pictures
+
+-- colours that colour-blind readers can distinguish on white and on black, and the start of the owner's line
+unfoldable pub head : List ℕ
+head = concat (
+    codes "<svg xmlns='http://www.w3.org/2000/svg' viewBox='0 0 1400 640' font-family='sans-serif' font-size='11'>\n"
+    ∷ codes "<style>\n"
+    ∷ codes ":root{color:#111;background:#fff}\n"
+    ∷ codes "text{fill:currentColor}\n"
+    ∷ codes ".owner{font-size:20px}\n"
+    ∷ codes ".end{text-anchor:end;dominant-baseline:central}\n"
+    ∷ codes ".lines{stroke:currentColor;stroke-opacity:.15}\n"
+    ∷ codes "g rect{fill:currentColor;fill-opacity:.3;stroke:currentColor;stroke-width:2}\n"
+    ∷ codes "g circle{fill:currentColor;stroke:#111}\n"
+    ∷ codes "g text{fill:#111;font-size:9px;text-anchor:middle;dominant-baseline:central}\n"
+    ∷ codes "g:hover rect{fill-opacity:.7}\n"
+    ∷ codes ".c0{color:#e69f00}.c1{color:#56b4e9}.c2{color:#009e73}.c3{color:#f0e442}\n"
+    ∷ codes ".c4{color:#0072b2}.c5{color:#d55e00}.c6{color:#cc79a7}\n"
+    ∷ codes "@media (prefers-color-scheme:dark){:root{color:#eee;background:#161616}g text{fill:#eee}}\n"
+    ∷ codes "</style>\n"
+    ∷ codes "<text class='owner' x='60' y='36'>"
+    ∷ [])
+
+-- grid lines at octaves and velocities with their numbers, and a keyboard, on which key 60 is C4
+unfoldable pub frame : List ℕ
+frame = concat (
+    codes "<path class='lines' d='M60 60H1340M60 188H1340M60 316H1340M60 444H1340M60 572H1340'/>\n"
+    ∷ codes "<path class='lines' d='M60 60V572M180 60V572M300 60V572M420 60V572M540 60V572M660 60V572'/>\n"
+    ∷ codes "<path class='lines' d='M780 60V572M900 60V572M1020 60V572M1140 60V572M1260 60V572M1340 60V572'/>\n"
+    ∷ codes "<text class='end' x='52' y='62'>127</text><text class='end' x='52' y='186'>96</text>\n"
+    ∷ codes "<text class='end' x='52' y='314'>64</text><text class='end' x='52' y='442'>32</text>\n"
+    ∷ codes "<text class='end' x='52' y='570'>0</text>\n"
+    ∷ codes "<pattern id='octave' x='60' y='572' width='120' height='40' patternUnits='userSpaceOnUse'>\n"
+    ∷ codes "<path fill='#fff' d='M0 0H120V40H0z'/>\n"
+    ∷ codes "<path stroke='#888' d='M15 26V40M35 26V40M50 0V40M65 26V40M85 26V40M105 26V40M120 0V40M0 40H120'/>\n"
+    ∷ codes
+    "<path fill='#333' d='M10 0h10v26h-10zM30 0h10v26h-10zM60 0h10v26h-10zM80 0h10v26h-10zM100 0h10v26h-10z'/>\n"
+    ∷ codes "</pattern><path fill='url(#octave)' d='M60 572H1340V612H60z'/>\n"
+    ∷ codes "<text x='62' y='628'>C-1</text><text x='182' y='628'>C0</text><text x='302' y='628'>C1</text>\n"
+    ∷ codes "<text x='422' y='628'>C2</text><text x='542' y='628'>C3</text><text x='662' y='628'>C4</text>\n"
+    ∷ codes "<text x='782' y='628'>C5</text><text x='902' y='628'>C6</text><text x='1022' y='628'>C7</text>\n"
+    ∷ codes "<text x='1142' y='628'>C8</text><text x='1262' y='628'>C9</text>\n"
+    ∷ [])
+
+-- ---- the owner
+
+abbrev pub owner_line : List ℕ → ℕ → List ℕ → List Mark
+owner_line level n name = Text level ∷ Number n ∷ Text (codes ": ") ∷ Name name ∷ Text (codes "</text>\n") ∷ []
+
+-- the owner's number and name
+abbrev pub owner_marks : Parts → Owner → List Mark
+owner_marks b (owner.Preset p) = owner_line (codes "preset ") p (option_map_or (λ (h : Head). h.name) (head_of b p) [])
+owner_marks b (owner.Inst i) = owner_line (codes "instrument ") i (unwrap_or (instrument_name_of b i) [])
+
+-- ---- a rectangle
+
+-- the number of values in a range
+abbrev pub count : Range → ℕ
+count r = r.high + 1 - r.low
+
+-- the position and size of a rectangle
+abbrev pub left : Rectangle → ℕ
+left r = 60 + 10 * r.area.keys.low
+
+abbrev pub top : Rectangle → ℕ
+top r = 60 + 4 * (127 - r.area.velocities.high)
+
+abbrev pub width : Rectangle → ℕ
+width r = 10 * count r.area.keys
+
+abbrev pub height : Rectangle → ℕ
+height r = 4 * count r.area.velocities
+
+-- the index of one of seven colours, from its sample
+abbrev pub colour : Rectangle → ℕ
+colour r = r.sample % 7
+
+-- the name of its sample
+abbrev pub name_of : Parts → Rectangle → List ℕ
+name_of b r = option_map_or (λ (s : Sample). s.name) (slice_get b.samples r.sample) []
+
+-- the start of a rectangle: its colour, and its tooltip with the sample's name and number
+unfoldable pub title_marks : List ℕ → Rectangle → List Mark
+title_marks name r =
+    Text (codes "<g class='c") ∷ Number (colour r) ∷ Text (codes "'><title>") ∷ Name name
+    ∷ Text (codes "\nsample ") ∷ Number r.sample
+    ∷ []
+
+-- the zone of the preset, if there is one
+abbrev pub preset_zone_marks : Option ℕ → List Mark
+preset_zone_marks None = []
+preset_zone_marks (Some k) = Text (codes "\npreset zone ") ∷ Number k ∷ []
+
+unfoldable pub range_marks : Rectangle → List Mark
+range_marks r =
+    Text (codes "\ninstrument zone ") ∷ Number r.zone
+    ∷ Text (codes "\nkeys ") ∷ Number r.area.keys.low ∷ Text (codes " to ") ∷ Number r.area.keys.high
+    ∷ Text (codes "\nvelocities ") ∷ Number r.area.velocities.low ∷ Text (codes " to ") ∷ Number r.area.velocities.high
+    ∷ Text (codes "\nroot key ") ∷ Number r.root
+    ∷ []
+
+unfoldable pub box_marks : Rectangle → List Mark
+box_marks r =
+    Text (codes "</title><svg x='") ∷ Number (left r) ∷ Text (codes "' y='") ∷ Number (top r)
+    ∷ Text (codes "' width='") ∷ Number (width r) ∷ Text (codes "' height='") ∷ Number (height r)
+    ∷ Text (codes "'><rect width='100%' height='100%'/>")
+    ∷ []
+
+-- the vertical position of the name, on one of four lines, so that the names of overlapping zones, such as those of a
+-- left and a right sample, can be read
+abbrev pub name_line : Rectangle → ℕ
+name_line r = height r * (1 + (2 * (r.zone % 2) + (unwrap_or r.preset_zone 0 % 2 + (r.zone / 2) % 2) % 2)) / 5
+
+abbrev pub along_marks : List ℕ → Rectangle → List Mark
+along_marks name r =
+    Text (codes "<text x='50%' y='") ∷ Number (name_line r) ∷ Text (codes "'>") ∷ Name name ∷ Text (codes "</text>")
+    ∷ []
+
+abbrev pub upward_marks : List ℕ → Rectangle → List Mark
+upward_marks name r =
+    Text (codes "<text transform='translate(") ∷ Number (width r / 2) ∷ Text (codes " ") ∷ Number (name_line r)
+    ∷ Text (codes ") rotate(-90)'>")
+    ∷ Name name ∷ Text (codes "</text>")
+    ∷ []
+
+-- its name: horizontal if it is wide enough, else vertical if it is high enough, else none
+unfoldable pub name_marks : List ℕ → Rectangle → List Mark
+name_marks name r =
+    if nat_le 120 (width r) && nat_le 24 (height r) then along_marks name r
+    else if nat_le 160 (height r) then upward_marks name r
+    else []
+
+-- a dot on the root key, in the rectangle's colour
+unfoldable pub root_marks : Rectangle → List Mark
+root_marks r =
+    Text (codes "</svg><circle cx='") ∷ Number (65 + 10 * r.root) ∷ Text (codes "' cy='") ∷ Number (577 + 5 * colour r)
+    ∷ Text (codes "' r='3'/></g>\n")
+    ∷ []
+
+unfoldable pub drawn : Parts → Rectangle → List ℕ
+drawn b r =
+    marks_text (title_marks (name_of b r) r)
+    ++ (marks_text (preset_zone_marks r.preset_zone)
+    ++ (marks_text (range_marks r)
+    ++ (marks_text (box_marks r)
+    ++ (marks_text (name_marks (name_of b r) r)
+    ++ marks_text (root_marks r)))))
+
+-- ---- the picture
+
+unfoldable pub picture : Parts → Owner → List ℕ
+picture b o =
+    head
+    ++ (marks_text (owner_marks b o)
+    ++ (frame
+    ++ (flat_map (drawn b) (rectangles b o)
+    ++ codes "</svg>\n")))

@@ -1,0 +1,230 @@
+//! The text of one rectangle. Keys run from left to right, 10 units each, and velocities from bottom to top, 4 units
+//! each.
+ghost use Rattle.std.specs.Prelude.{◌≡◌, ◌≤◌, length, slice_get};
+ghost use Rattle.base_outputs.specs.Output.{Puts};
+ghost use Rattle.generators.specs.declared.range.Range.{Range};
+ghost use Rattle.show_zone_map.specs.Marks.{marks_text};
+ghost use Rattle.show_zone_map.specs.Picture.{count, left, top, width, height, colour, name_of, title_marks, preset_zone_marks, range_marks, box_marks, name_line, along_marks, upward_marks, name_marks, root_marks, drawn};
+
+use crate::marks::{Mark, name, number, put_marks, text};
+use crate::rectangle::Rectangle;
+use bank_core::Bank;
+use base_outputs::Output;
+use generators::Range;
+use std::io::Write;
+
+/// The width of a key.
+const KEY: u32 = 10;
+
+/// The height of a velocity.
+const VELOCITY: u32 = 4;
+
+/// The units left of key 0, and above velocity 127.
+const MARGIN: u32 = 60;
+
+/// The width from which a rectangle has a horizontal name.
+const NAME_LENGTH: u32 = 120;
+
+/// The height of four lines of names.
+const NAME_HEIGHT: u32 = 24;
+
+/// The height from which a rectangle has a vertical name.
+const TURNED_LENGTH: u32 = 160;
+
+// The number of values in a range.
+fn count(range: Range) -> u32
+    ensures value { result ≡ count range }
+    ensures within { result ≤ 256 }
+{
+    (u32::from(range.high) + 1).saturating_sub(u32::from(range.low))
+}
+
+impl Rectangle {
+    fn left(&self) -> u32
+        ensures { result ≡ left self.now }
+    {
+        MARGIN + KEY * u32::from(self.area.keys.low)
+    }
+
+    fn top(&self) -> u32
+        ensures { result ≡ top self.now }
+    {
+        MARGIN + VELOCITY * 127u32.saturating_sub(u32::from(self.area.velocities.high))
+    }
+
+    fn width(&self) -> u32
+        ensures { result ≡ width self.now }
+    {
+        KEY * count(self.area.keys)
+    }
+
+    fn height(&self) -> u32
+        ensures value { result ≡ height self.now }
+        ensures within { result ≤ 1024 }
+    {
+        VELOCITY * count(self.area.velocities)
+    }
+
+    // The index of one of seven colours.
+    fn colour(&self) -> u32
+        ensures value { result ≡ colour self.now }
+        ensures within { result ≤ 6 }
+    {
+        u32::from(self.sample) % 7
+    }
+
+    // The vertical position of the name, on one of four lines.
+    fn name_line(&self) -> u32
+        ensures { result ≡ name_line self.now }
+    {
+        let layer = self.preset_zone.unwrap_or(0) % 2;
+        let line = 2 * (self.zone % 2) + (layer + self.zone / 2 % 2) % 2;
+        self.height() * (1 + line) / 5
+    }
+}
+
+// The name of the rectangle's sample.
+fn name_of<'b>(bank: &'b Bank<'_>, rectangle: &Rectangle) -> &'b [u8]
+    ensures { result.now ≡ name_of bank.now rectangle.now }
+{
+    match bank.sample(u32::from(rectangle.sample)) {
+        Some(sample) => sample.name.bytes(),
+        None => b"",
+    }
+}
+
+// Writes a rectangle, with its tooltip.
+pub(crate) fn put_rectangle<W: Write>(
+    bank: &Bank<'_>,
+    rectangle: &Rectangle,
+    output: &mut Output<'_, W>,
+)
+    ensures { Puts W.contents output.old output.new (drawn bank.now rectangle.now) }
+{
+    let name = name_of(bank, rectangle);
+    put_title(name, rectangle, output);
+    put_preset_zone(rectangle.preset_zone, output);
+    put_ranges(rectangle, output);
+    put_box(rectangle, output);
+    put_name(name, rectangle, output);
+    put_root(rectangle, output);
+}
+
+#[tactic(auto, unfolding(crate::specs::Picture::title_marks))]
+fn put_title<W: Write>(sample: &[u8], rectangle: &Rectangle, output: &mut Output<'_, W>)
+    ensures { Puts W.contents output.old output.new (marks_text (title_marks sample.now rectangle.now)) }
+{
+    let marks = [
+        text(b"<g class='c"),
+        number(rectangle.colour()),
+        text(b"'><title>"),
+        name(sample),
+        text(b"\nsample "),
+        number(u32::from(rectangle.sample)),
+    ];
+    put_marks(&marks, output);
+}
+
+fn put_preset_zone<W: Write>(zone: Option<u32>, output: &mut Output<'_, W>)
+    ensures { Puts W.contents output.old output.new (marks_text (preset_zone_marks zone)) }
+{
+    if let Some(zone) = zone {
+        let marks = [text(b"\npreset zone "), number(zone)];
+        put_marks(&marks, output);
+    }
+}
+
+#[tactic(auto, unfolding(crate::specs::Picture::range_marks))]
+fn put_ranges<W: Write>(rectangle: &Rectangle, output: &mut Output<'_, W>)
+    ensures { Puts W.contents output.old output.new (marks_text (range_marks rectangle.now)) }
+{
+    let area = rectangle.area;
+    let marks = [
+        text(b"\ninstrument zone "),
+        number(rectangle.zone),
+        text(b"\nkeys "),
+        number(u32::from(area.keys.low)),
+        text(b" to "),
+        number(u32::from(area.keys.high)),
+        text(b"\nvelocities "),
+        number(u32::from(area.velocities.low)),
+        text(b" to "),
+        number(u32::from(area.velocities.high)),
+        text(b"\nroot key "),
+        number(u32::from(rectangle.root)),
+    ];
+    put_marks(&marks, output);
+}
+
+#[tactic(auto, unfolding(crate::specs::Picture::box_marks))]
+fn put_box<W: Write>(rectangle: &Rectangle, output: &mut Output<'_, W>)
+    ensures { Puts W.contents output.old output.new (marks_text (box_marks rectangle.now)) }
+{
+    let marks = [
+        text(b"</title><svg x='"),
+        number(rectangle.left()),
+        text(b"' y='"),
+        number(rectangle.top()),
+        text(b"' width='"),
+        number(rectangle.width()),
+        text(b"' height='"),
+        number(rectangle.height()),
+        text(b"'><rect width='100%' height='100%'/>"),
+    ];
+    put_marks(&marks, output);
+}
+
+// Writes the name of the sample, if there is space.
+#[tactic(auto, unfolding(crate::specs::Picture::name_marks))]
+fn put_name<W: Write>(sample: &[u8], rectangle: &Rectangle, output: &mut Output<'_, W>)
+    ensures { Puts W.contents output.old output.new (marks_text (name_marks sample.now rectangle.now)) }
+{
+    if rectangle.width() >= NAME_LENGTH && rectangle.height() >= NAME_HEIGHT {
+        put_name_along(sample, rectangle, output);
+    } else if rectangle.height() >= TURNED_LENGTH {
+        put_name_up(sample, rectangle, output);
+    }
+}
+
+fn put_name_along<W: Write>(sample: &[u8], rectangle: &Rectangle, output: &mut Output<'_, W>)
+    ensures { Puts W.contents output.old output.new (marks_text (along_marks sample.now rectangle.now)) }
+{
+    let marks = [
+        text(b"<text x='50%' y='"),
+        number(rectangle.name_line()),
+        text(b"'>"),
+        name(sample),
+        text(b"</text>"),
+    ];
+    put_marks(&marks, output);
+}
+
+fn put_name_up<W: Write>(sample: &[u8], rectangle: &Rectangle, output: &mut Output<'_, W>)
+    ensures { Puts W.contents output.old output.new (marks_text (upward_marks sample.now rectangle.now)) }
+{
+    let marks = [
+        text(b"<text transform='translate("),
+        number(rectangle.width() / 2),
+        text(b" "),
+        number(rectangle.name_line()),
+        text(b") rotate(-90)'>"),
+        name(sample),
+        text(b"</text>"),
+    ];
+    put_marks(&marks, output);
+}
+
+// Writes a dot on the keyboard, in the colour of the rectangle.
+#[tactic(auto, unfolding(crate::specs::Picture::root_marks))]
+fn put_root<W: Write>(rectangle: &Rectangle, output: &mut Output<'_, W>)
+    ensures { Puts W.contents output.old output.new (marks_text (root_marks rectangle.now)) }
+{
+    let marks = [
+        text(b"</svg><circle cx='"),
+        number(65 + KEY * u32::from(rectangle.root)),
+        text(b"' cy='"),
+        number(577 + 5 * rectangle.colour()),
+        text(b"' r='3'/></g>\n"),
+    ];
+    put_marks(&marks, output);
+}

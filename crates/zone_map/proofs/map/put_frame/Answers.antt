@@ -1,6 +1,0 @@
-use Rattle.zone_map.specs.Picture.{frame}
-use Rattle.zone_map.proofs.map.put_frame.Goals as goal
-
-pub returns : goal.returns
-unfolding frame
-returns g c = c.put.ensures

@@ -1,6 +1,0 @@
-use Rattle.zone_map.specs.Picture.{head}
-use Rattle.zone_map.proofs.map.put_head.Goals as goal
-
-pub returns : goal.returns
-unfolding head
-returns g c = c.put.ensures
