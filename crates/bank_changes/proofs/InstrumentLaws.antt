@@ -16,7 +16,7 @@ use Rattle.base_numbered_lists.proofs.Numbers.{move_below, move_returned}
 use Rattle.generators.specs.declared.level.Level.TheVariants as level
 use Rattle.bank_validity.specs.declared.totals.Totals.{Totals}
 use Rattle.bank_parts.specs.declared.parts.Head.{Head}
-use Rattle.bank_parts.specs.declared.parts.WithZones.{WithZones}
+use Rattle.bank_parts.specs.declared.parts.ZoneOwner.{ZoneOwner}
 use Rattle.bank_parts.specs.declared.parts.Parts.{Parts}
 use Rattle.bank_parts.specs.Counts.{records_of_owner}
 use Rattle.bank_parts.specs.Owners.{with_head}
@@ -77,7 +77,7 @@ module _ (b : Parts) (number : ℕ) (name : List ℕ) where
 
 -- P holds of the old targets, and implies that the new ones are in range
 module _ (b : Parts) (sound : IsSound b) (P : ℕ → Type 0) (by : Renumbering)
-    (instruments : List (WithZones (List ℕ))) (to : (x : ℕ) → P x → renumbered by x < length instruments) where
+    (instruments : List (ZoneOwner (List ℕ))) (to : (x : ℕ) → P x → renumbered by x < length instruments) where
   pub instruments_sound : OfOwners P b.presets → AllByRecursion (IsInstrument (length b.samples)) instruments
       → AllByRecursion (FitsOwner IsName) instruments
       → broken_limit (instruments_renumbered by (record b { instruments = instruments })) ≡ None
@@ -114,7 +114,7 @@ targets_within b v = owners_within (λ (h : Head). h.name) level.Preset (length 
 
 -- ---- adding
 
-module _ (b : Parts) (i : ℕ) (x : WithZones (List ℕ)) where
+module _ (b : Parts) (i : ℕ) (x : ZoneOwner (List ℕ)) where
   pub totals-added_instrument : i ≤ length b.instruments
       → totals_of (instrument_added b i x) ≡ with_owner level.Inst (totals_of b) (records_of_owner x)
   unfolding totals_of
@@ -168,18 +168,18 @@ module _ (b : Parts) (i : ℕ) where
   unfolding instrument_in_use
   unused_instrument free = untargeted i b.presets free
 
-  totals-taken_out : (x : WithZones (List ℕ)) → slice_get b.instruments i ≡ Some x
+  totals-removed_from_list : (x : ZoneOwner (List ℕ)) → slice_get b.instruments i ≡ Some x
       → with_owner level.Inst (totals_of (record b { instruments = remove b.instruments i }))
       (records_of_owner x)
       ≡ totals_of b
   unfolding totals_of
-  totals-taken_out x e = λ k. record (totals_of b) { instruments = level_removed b.instruments i x e k }
+  totals-removed_from_list x e = λ k. record (totals_of b) { instruments = level_removed b.instruments i x e k }
 
-  pub totals-removed_instrument : (x : WithZones (List ℕ)) → slice_get b.instruments i ≡ Some x
+  pub totals-removed_instrument : (x : ZoneOwner (List ℕ)) → slice_get b.instruments i ≡ Some x
       → with_owner level.Inst (totals_of (instrument_removed b i)) (records_of_owner x) ≡ totals_of b
   totals-removed_instrument x e =
       let kept = totals-instruments_renumbered (Removal i) (record b { instruments = remove b.instruments i }) in
-      ap (λ (t : Totals). with_owner level.Inst t (records_of_owner x)) kept ∙ totals-taken_out x e
+      ap (λ (t : Totals). with_owner level.Inst t (records_of_owner x)) kept ∙ totals-removed_from_list x e
 
   pub sound_removed_instrument : IsSound b → i < length b.instruments → instrument_in_use b i ≡ false
       → IsSound (instrument_removed b i)
@@ -198,7 +198,7 @@ module _ (b : Parts) (i : ℕ) where
       ((owners_grow level.Inst).within (totals_of (instrument_removed b i)) (records_of_owner x)
       (ap broken (totals-removed_instrument x e) ∙ no_limit_of b sound.valid.limits))
 
-  pub restored_removed_instrument : (x : WithZones (List ℕ)) → slice_get b.instruments i ≡ Some x
+  pub restored_removed_instrument : (x : ZoneOwner (List ℕ)) → slice_get b.instruments i ≡ Some x
       → instrument_in_use b i ≡ false → instrument_added (instrument_removed b i) i x ≡ b
   restored_removed_instrument x e free =
       let Returns : ℕ → Type 0 = λ t. renumbered (Insertion i) (renumbered (Removal i) t) ≡ t in

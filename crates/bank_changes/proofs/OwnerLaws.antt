@@ -5,7 +5,7 @@ use Rattle.sf_base.specs.Names.{IsName}
 use Rattle.base_numbered_lists.specs.Moved.{changed}
 use Rattle.base_numbered_lists.proofs.Lists.{length-changed}
 use Rattle.bank_parts.specs.declared.parts.Head.{Head}
-use Rattle.bank_parts.specs.declared.parts.WithZones.{WithZones}
+use Rattle.bank_parts.specs.declared.parts.ZoneOwner.{ZoneOwner}
 use Rattle.bank_parts.specs.declared.parts.Parts.{Parts}
 use Rattle.bank_parts.specs.Valid.{IsOwner, IsPreset, IsInstrument}
 use Rattle.bank_parts.specs.Fits.{FitsOwner, FitsHead}
@@ -14,17 +14,17 @@ use Rattle.bank_validity.specs.Limits.{broken_limit}
 use Rattle.bank_validity.proofs.LimitLaws.{limits_of}
 use Rattle.bank_changes.specs.declared.members.Owner.{Owner}
 use Rattle.bank_changes.specs.declared.members.Owner.TheVariants.{Preset, Inst}
-use Rattle.bank_changes.specs.Members.{own_read, own_changed, level_of, target_count}
+use Rattle.bank_changes.specs.Members.{read_of_owner, owner_list_changed, level_of, target_count}
 use Rattle.bank_changes.proofs.Changes.{all_found, all_changed}
 
 -- what is read of an owner of a sound bank
-pub of_sound : {X : Type 0} (b : Parts) (o : Owner) (read : (H : Type 0) → List (WithZones H) → ℕ → Option X)
+pub of_sound : {X : Type 0} (b : Parts) (o : Owner) (read : (H : Type 0) → List (ZoneOwner H) → ℕ → Option X)
     (P : X → Type 0)
-    → ((H : Type 0) (name_of : H → List ℕ) (IsFit : H → Type 0) (owners : List (WithZones H)) (i : ℕ)
-    → ((x : WithZones H) → slice_get owners i ≡ Some x
+    → ((H : Type 0) (name_of : H → List ℕ) (IsFit : H → Type 0) (owners : List (ZoneOwner H)) (i : ℕ)
+    → ((x : ZoneOwner H) → slice_get owners i ≡ Some x
     → IsOwner name_of (level_of o) (target_count b o) x × FitsOwner IsFit x)
     → (x : X) → read H owners i ≡ Some x → P x)
-    → IsSound b → (x : X) → own_read b o read ≡ Some x → P x
+    → IsSound b → (x : X) → read_of_owner b o read ≡ Some x → P x
 of_sound b (Preset p) read P law sound =
     law Head (λ h. h.name) FitsHead b.presets p (λ x e. (
       all_found (IsPreset (length b.instruments)) b.presets p x e sound.valid.presets,
@@ -37,12 +37,12 @@ of_sound b (Inst i) read P law sound =
     ))
 
 -- an owner is changed by f, and the bank stays sound
-pub sound_owner_changed : (b : Parts) (o : Owner) (f : (H : Type 0) → WithZones H → WithZones H)
-    → ((H : Type 0) (name_of : H → List ℕ) (x : WithZones H)
+pub sound_owner_changed : (b : Parts) (o : Owner) (f : (H : Type 0) → ZoneOwner H → ZoneOwner H)
+    → ((H : Type 0) (name_of : H → List ℕ) (x : ZoneOwner H)
     → IsOwner name_of (level_of o) (target_count b o) x → IsOwner name_of (level_of o) (target_count b o) (f H x))
-    → ((H : Type 0) (IsFit : H → Type 0) (x : WithZones H) → FitsOwner IsFit x → FitsOwner IsFit (f H x))
-    → IsSound b → broken_limit (own_changed b o (λ H owners i. changed owners i (f H))) ≡ None
-    → IsSound (own_changed b o (λ H owners i. changed owners i (f H)))
+    → ((H : Type 0) (IsFit : H → Type 0) (x : ZoneOwner H) → FitsOwner IsFit x → FitsOwner IsFit (f H x))
+    → IsSound b → broken_limit (owner_list_changed b o (λ H owners i. changed owners i (f H))) ≡ None
+    → IsSound (owner_list_changed b o (λ H owners i. changed owners i (f H)))
 sound_owner_changed b (Preset p) f valid fits sound within =
     let v = sound.valid in
     let t = sound.fits in
@@ -53,7 +53,7 @@ sound_owner_changed b (Preset p) f valid fits sound within =
             all_changed (f Head) (IsPreset (length b.instruments)) (valid Head (λ h. h.name)) b.presets p v.presets;
         instruments = v.instruments;
         samples = v.samples;
-        limits = limits_of (own_changed b (Preset p) (λ H owners i. changed owners i (f H))) within;
+        limits = limits_of (owner_list_changed b (Preset p) (λ H owners i. changed owners i (f H))) within;
       };
       fits = record {
         minor = t.minor;
@@ -74,7 +74,7 @@ sound_owner_changed b (Inst i) f valid fits sound within =
             all_changed (f (List ℕ)) (IsInstrument (length b.samples)) (valid (List ℕ) (λ name. name)) b.instruments i
             v.instruments;
         samples = v.samples;
-        limits = limits_of (own_changed b (Inst i) (λ H owners i. changed owners i (f H))) within;
+        limits = limits_of (owner_list_changed b (Inst i) (λ H owners i. changed owners i (f H))) within;
       };
       fits = record {
         minor = t.minor;

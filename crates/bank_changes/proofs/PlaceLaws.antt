@@ -14,7 +14,7 @@ use Rattle.bank_validity.specs.declared.totals.Totals.{Totals}
 use Rattle.bank_parts.specs.declared.owners.ZonePlace.{ZonePlace}
 use Rattle.bank_parts.specs.declared.owners.ZonePlace.TheVariants as place
 use Rattle.bank_parts.specs.declared.parts.Zone.{Zone}
-use Rattle.bank_parts.specs.declared.parts.WithZones.{WithZones}
+use Rattle.bank_parts.specs.declared.parts.ZoneOwner.{ZoneOwner}
 use Rattle.bank_parts.specs.declared.parts.Parts.{Parts}
 use Rattle.bank_parts.specs.Owners.{HasPlace}
 use Rattle.bank_parts.specs.Settings.{Settings, settings_of_zone, zone_with_settings, settings_in, settings_changed}
@@ -32,7 +32,7 @@ use Rattle.bank_changes.specs.declared.members.Owner.{Owner}
 use Rattle.bank_changes.specs.declared.members.Owner.TheVariants.{Preset, Inst}
 use Rattle.bank_changes.specs.declared.members.Place.{Place}
 use Rattle.bank_changes.specs.Members.{zone_place, settings_of, level_of, target_count}
-use Rattle.bank_changes.specs.Settings.{own_place_changed, records_of_place, no_records, records_there}
+use Rattle.bank_changes.specs.Settings.{owner_place_changed, records_of_place, no_records, place_records}
 use Rattle.bank_changes.specs.Totals.{with_records, HasRecords}
 use Rattle.bank_changes.proofs.Changes.{all_changed, all_found, sum-exchanged}
 use Rattle.bank_changes.proofs.OwnerLaws.{of_sound, sound_owner_changed}
@@ -40,7 +40,7 @@ use Rattle.bank_changes.proofs.RecountLaws.{AreNoMore, no_more_within}
 
 -- ---- a place that exists
 
-pub place_there : {H : Type 0} (owners : List (WithZones H)) (i : ℕ) (at : ZonePlace)
+pub place_there : {H : Type 0} (owners : List (ZoneOwner H)) (i : ℕ) (at : ZonePlace)
     → IsSome (settings_at owners i at) → HasPlace owners i at
 place_there {H} owners i at
     h = (elim (settings_at owners i at) as (λ o. settings_at owners i at ≡ o → IsSome o → HasPlace owners i at) [
@@ -62,7 +62,7 @@ place_there {H} owners i at
 
 module _ (lvl : Level) (targets : ℕ) (f : Settings → Settings)
     (keeps : (s : Settings) → AreGenerators lvl s.gens → AreGenerators lvl (f s).gens) where
-  pub owner_stays : {H : Type 0} (name_of : H → List ℕ) (at : ZonePlace) (x : WithZones H)
+  pub owner_stays : {H : Type 0} (name_of : H → List ℕ) (at : ZonePlace) (x : ZoneOwner H)
       → IsOwner name_of lvl targets x → IsOwner name_of lvl targets (settings_changed at f x)
   owner_stays name_of place.Global x is = record {
     name = is.name;
@@ -80,7 +80,7 @@ module _ (lvl : Level) (targets : ℕ) (f : Settings → Settings)
   }
 
 module _ (f : Settings → Settings) (keeps : (s : Settings) → FitsGlobal s → FitsGlobal (f s)) where
-  pub owner_fits_still : {H : Type 0} (IsFit : H → Type 0) (at : ZonePlace) (x : WithZones H) → FitsOwner IsFit x
+  pub owner_fits_still : {H : Type 0} (IsFit : H → Type 0) (at : ZonePlace) (x : ZoneOwner H) → FitsOwner IsFit x
       → FitsOwner IsFit (settings_changed at f x)
   owner_fits_still IsFit place.Global x fits =
       record { head = fits.head; global = keeps x.global fits.global; zones = fits.zones }
@@ -100,8 +100,8 @@ pub record Keeps (lvl : Level) (f : Settings → Settings) : Type 0 where
   pub fits : (s : Settings) → FitsGlobal s → FitsGlobal (f s)
 
 pub sound_place_changed : (b : Parts) (o : Owner) (at : Place) (f : Settings → Settings) → IsSound b
-    → Keeps (level_of o) f → broken_limit (own_place_changed b o at f) ≡ None
-    → IsSound (own_place_changed b o at f)
+    → Keeps (level_of o) f → broken_limit (owner_place_changed b o at f) ≡ None
+    → IsSound (owner_place_changed b o at f)
 sound_place_changed b o at f sound keeps within =
     sound_owner_changed b o (λ _. settings_changed (zone_place at) f)
     (λ _ name_of. owner_stays (level_of o) (target_count b o) f keeps.valid name_of (zone_place at))
@@ -109,7 +109,7 @@ sound_place_changed b o at f sound keeps within =
 
 -- the settings of a sound bank
 
-member_gens : {H : Type 0} (name_of : H → List ℕ) (lvl : Level) (targets : ℕ) (at : ZonePlace) (x : WithZones H)
+member_gens : {H : Type 0} (name_of : H → List ℕ) (lvl : Level) (targets : ℕ) (at : ZonePlace) (x : ZoneOwner H)
     (s : Settings)
     → settings_in at x ≡ Some s → IsOwner name_of lvl targets x → AreGenerators lvl s.gens
 member_gens name_of lvl targets place.Global x s e is =
@@ -119,7 +119,7 @@ member_gens name_of lvl targets (place.Zone k) x s e is =
     subst (λ (s : Settings). AreGenerators lvl s.gens) z.seen
     (all_found (IsZone lvl targets) x.zones k z.member z.there is.zones.zones).gens
 
-member_fits : {H : Type 0} (IsFit : H → Type 0) (at : ZonePlace) (x : WithZones H) (s : Settings)
+member_fits : {H : Type 0} (IsFit : H → Type 0) (at : ZonePlace) (x : ZoneOwner H) (s : Settings)
     → settings_in at x ≡ Some s → FitsOwner IsFit x → FitsGlobal s
 member_fits IsFit place.Global x s e fits = let same : x.global ≡ s = cc in subst FitsGlobal same fits.global
 member_fits IsFit (place.Zone k) x s e fits =
@@ -163,10 +163,10 @@ module _ (global_part zone_part : Settings → ℕ) (others : List Zone → ℕ)
   part place.Global s = global_part s
   part (place.Zone k) s = zone_part s
 
-  abbrev all_of : {H : Type 0} → WithZones H → ℕ
+  abbrev all_of : {H : Type 0} → ZoneOwner H → ℕ
   all_of x = global_part x.global + others x.zones
 
-  member_recount : {H : Type 0} (at : ZonePlace) (x : WithZones H) (s : Settings) → settings_in at x ≡ Some s
+  member_recount : {H : Type 0} (at : ZonePlace) (x : ZoneOwner H) (s : Settings) → settings_in at x ≡ Some s
       → all_of (settings_changed at f x) + part at s ≡ all_of x + part at (f s)
   member_recount place.Global x s e =
       let same : x.global ≡ s = cc in
@@ -182,15 +182,15 @@ module _ (global_part zone_part : Settings → ℕ) (others : List Zone → ℕ)
       (λ (s : Settings). all_of (settings_changed (place.Zone k) f x) + zone_part s ≡ all_of x + zone_part (f s))
       z.seen (omega (arith, more))
 
-  total_recount : {H : Type 0} (owners : List (WithZones H)) (i : ℕ) (at : ZonePlace) (s : Settings)
+  total_recount : {H : Type 0} (owners : List (ZoneOwner H)) (i : ℕ) (at : ZonePlace) (s : Settings)
       → settings_at owners i at ≡ Some s
-      → sum_by (λ (x : WithZones H). global_part x.global + others x.zones) (place_changed owners i at f) + part at s
-      ≡ sum_by (λ (x : WithZones H). global_part x.global + others x.zones) owners + part at (f s)
+      → sum_by (λ (x : ZoneOwner H). global_part x.global + others x.zones) (place_changed owners i at f) + part at s
+      ≡ sum_by (λ (x : ZoneOwner H). global_part x.global + others x.zones) owners + part at (f s)
   total_recount {H} owners i at s e =
       let x = given (settings_in at) (slice_get owners i) s e in
       let more = member_recount at x.member s x.gives in
       let all =
-      sum-changed_there (λ (x : WithZones H). global_part x.global + others x.zones) (settings_changed at f)
+      sum-changed_there (λ (x : ZoneOwner H). global_part x.global + others x.zones) (settings_changed at f)
       owners i x.member x.there in
       omega (arith, more, all)
 
@@ -220,7 +220,7 @@ module _ (f : Settings → Settings) where
       sum-changed_there (λ (z : Zone). length z.mods) (λ (z : Zone). zone_with_settings (f (settings_of_zone z)) z)
       zones k z e
 
-  module _ {H : Type 0} (owners : List (WithZones H)) (i : ℕ) (s : Settings) where
+  module _ {H : Type 0} (owners : List (ZoneOwner H)) (i : ℕ) (s : Settings) where
     zones_recount : (at : ZonePlace) → settings_at owners i at ≡ Some s
         → owner_total zone_count (place_changed owners i at f) + (records_of_place at s).zones
         ≡ owner_total zone_count owners + (records_of_place at (f s)).zones
@@ -257,7 +257,7 @@ module _ (f : Settings → Settings) where
 
 pub totals_place_changed : (b : Parts) (o : Owner) (at : Place) (f : Settings → Settings) (s : Settings)
     → settings_of b o at ≡ Some s
-    → with_records (level_of o) (totals_of (own_place_changed b o at f)) (records_of_place (zone_place at) s)
+    → with_records (level_of o) (totals_of (owner_place_changed b o at f)) (records_of_place (zone_place at) s)
     ≡ with_records (level_of o) (totals_of b) (records_of_place (zone_place at) (f s))
 unfolding totals_of
 totals_place_changed b (Preset p) at f s e =
@@ -268,30 +268,30 @@ totals_place_changed b (Inst i) at f s e =
 -- ---- the records of a place
 
 pub records_found : (b : Parts) (o : Owner) (at : Place) (s : Settings) → settings_of b o at ≡ Some s
-    → records_there b o at ≡ records_of_place (zone_place at) s
+    → place_records b o at ≡ records_of_place (zone_place at) s
 records_found b (Preset p) at s e = ap (λ found. option_map_or (records_of_place (zone_place at)) found no_records) e
 records_found b (Inst i) at s e =
     ap (λ found. option_map_or (records_of_place (zone_place at)) found no_records) e
 
 pub settings_read : (b : Parts) (o : Owner) (at : Place) (f : Settings → Settings)
-    → settings_of (own_place_changed b o at f) o at ≡ option_map f (settings_of b o at)
+    → settings_of (owner_place_changed b o at f) o at ≡ option_map f (settings_of b o at)
 settings_read b (Preset p) at f = place_read b.presets p (zone_place at) f
 settings_read b (Inst i) at f = place_read b.instruments i (zone_place at) f
 
 module _ (b : Parts) (o : Owner) (at : Place) (f : Settings → Settings) (s : Settings)
     (there : settings_of b o at ≡ Some s) where
-  pub changed_there : settings_of (own_place_changed b o at f) o at ≡ Some (f s)
+  pub changed_there : settings_of (owner_place_changed b o at f) o at ≡ Some (f s)
   changed_there = settings_read b o at f ∙ ap (option_map f) there
 
   -- the records of the place are replaced in the totals
-  pub recount : with_records (level_of o) (totals_of (own_place_changed b o at f)) (records_there b o at)
-      ≡ with_records (level_of o) (totals_of b) (records_there (own_place_changed b o at f) o at)
+  pub recount : with_records (level_of o) (totals_of (owner_place_changed b o at f)) (place_records b o at)
+      ≡ with_records (level_of o) (totals_of b) (place_records (owner_place_changed b o at f) o at)
   recount =
-      ap (with_records (level_of o) (totals_of (own_place_changed b o at f))) (records_found b o at s there)
+      ap (with_records (level_of o) (totals_of (owner_place_changed b o at f))) (records_found b o at s there)
       ∙
       (totals_place_changed b o at f s there
       ∙ ap (with_records (level_of o) (totals_of b))
-      (sym (records_found (own_place_changed b o at f) o at (f s) changed_there)))
+      (sym (records_found (owner_place_changed b o at f) o at (f s) changed_there)))
 
 abbrev nothing_set : Settings
 nothing_set = record { gens = no_gens; mods = [] }
@@ -316,7 +316,7 @@ within a b n e = omega (arith, e)
 pub has_records : (b : Parts) (o : Owner) (at : Place) (s : Settings) → settings_of b o at ≡ Some s
     → HasRecords (level_of o) (totals_of b) (records_of_place (zone_place at) s)
 has_records b o at s e =
-    let t : Totals = totals_of (own_place_changed b o at (λ _. nothing_set)) in
+    let t : Totals = totals_of (owner_place_changed b o at (λ _. nothing_set)) in
     let u : Totals = totals_of b in
     let r : Records = records_of_place (zone_place at) s in
     let same =
@@ -346,7 +346,7 @@ not_some (Some x) h = cc
 
 module _ (b : Parts) (o : Owner) (at : Place) (there : IsSome (settings_of b o at)) (t : Totals)
     (counts : t ≡ totals_of b) (lvl : Level) (is_level : lvl ≡ level_of o) (before : Records)
-    (had : before ≡ records_there b o at) where
+    (had : before ≡ place_records b o at) where
   pub counted_there : HasRecords lvl t before
   counted_there =
       let (s, e) = found_there (settings_of b o at) there in
@@ -355,15 +355,15 @@ module _ (b : Parts) (o : Owner) (at : Place) (there : IsSome (settings_of b o a
       (subst (λ (u : Totals). HasRecords (level_of o) u (records_of_place (zone_place at) s)) (sym counts)
       (has_records b o at s e)))
 
-  module _ (f : Settings → Settings) (new : Parts) (is : new ≡ own_place_changed b o at f) (after : Records)
-      (has : after ≡ records_there new o at) where
+  module _ (f : Settings → Settings) (new : Parts) (is : new ≡ owner_place_changed b o at f) (after : Records)
+      (has : after ≡ place_records new o at) where
     pub became : with_records lvl (totals_of new) before ≡ with_records lvl t after
     became =
         let (s, e) = found_there (settings_of b o at) there in
         (λ k. with_records (is_level k) (totals_of (is k)) (had k))
         ∙
         (recount b o at f s e
-        ∙ sym (λ k. with_records (is_level k) (counts k) ((has ∙ ap (λ (c : Parts). records_there c o at) is) k)))
+        ∙ sym (λ k. with_records (is_level k) (counts k) ((has ∙ ap (λ (c : Parts). place_records c o at) is) k)))
 
     pub kept_totals : IsSound new → (result : Totals)
         →
@@ -390,9 +390,9 @@ no_more_there (place.Zone k) s u gens mods = record { zones = omega arith; gens 
 
 pub within_no_more : (b : Parts) (o : Owner) (at : Place) (f : Settings → Settings) (s : Settings)
     → settings_of b o at ≡ Some s → IsSound b
-    → len (f s).gens ≤ len s.gens → length (f s).mods ≤ length s.mods → broken_limit (own_place_changed b o at f) ≡ None
+    → len (f s).gens ≤ len s.gens → length (f s).mods ≤ length s.mods → broken_limit (owner_place_changed b o at f) ≡ None
 within_no_more b o at f s e sound gens mods =
-    no_more_within (level_of o) (totals_of b) (totals_of (own_place_changed b o at f))
+    no_more_within (level_of o) (totals_of b) (totals_of (owner_place_changed b o at f))
     (records_of_place (zone_place at) s) (records_of_place (zone_place at) (f s))
     (totals_place_changed b o at f s e) (no_more_there (zone_place at) s (f s) gens mods)
     (no_limit_of b sound.valid.limits)

@@ -338,9 +338,9 @@ module _ (b : Parts) (sound : IsSound b) (t : Totals) (known : t ≡ totals_of b
 
   module _ (more i : ℕ) (front back : List ℕ) (lt : i < length b.samples)
       (many : more ≡ counted (length front + length back)) where
-    told : broken_limit (sample_extended b i front back)
+    limit_found : broken_limit (sample_extended b i front back)
         ≡ (if nat_lt POINTS (point_total b.samples + (length front + length back)) then Some limit.Points else None)
-    told =
+    limit_found =
         let (s, e) = slice_get-found b.samples i lt in
         ap broken (totals-extended b i front back s e)
         ∙ broken_points (totals_of b) w (point_total b.samples + (length front + length back))
@@ -352,7 +352,7 @@ module _ (b : Parts) (sound : IsSound b) (t : Totals) (known : t ≡ totals_of b
         let few = points_within in
         let past : nat_lt POINTS (point_total b.samples + (length front + length back)) ≡ true =
         grind (arith, nat_tests, here, few, many, over) in
-        sym (told ∙ rw past refl)
+        sym (limit_found ∙ rw past refl)
 
     pub points_fit : more ≤ POINTS - t.points → None ≡ broken_limit (sample_extended b i front back)
     unfolding totals_of
@@ -362,7 +362,7 @@ module _ (b : Parts) (sound : IsSound b) (t : Totals) (known : t ≡ totals_of b
         let past : nat_lt POINTS (point_total b.samples + (length front + length back)) ≡ false =
         not_over POINTS (point_total b.samples + (length front + length back))
         (omega (arith, here, few, many, room)) in
-        sym (told ∙ rw past refl)
+        sym (limit_found ∙ rw past refl)
 
 -- ---- undo
 

@@ -9,7 +9,7 @@ use Rattle.base_numbered_lists.proofs.Lists.{slice_get-found, length-changed, ch
 use Rattle.base_numbered_lists.proofs.Lists.{slice_get-changed, length-moved, moved-back, insert-remove, remove-insert}
 use Rattle.generators.specs.declared.level.Level.TheVariants as level
 use Rattle.bank_parts.specs.declared.parts.Head.{Head}
-use Rattle.bank_parts.specs.declared.parts.WithZones.{WithZones}
+use Rattle.bank_parts.specs.declared.parts.ZoneOwner.{ZoneOwner}
 use Rattle.bank_parts.specs.declared.parts.Parts.{Parts}
 use Rattle.bank_parts.specs.Counts.{records_of_owner}
 use Rattle.bank_parts.specs.Owners.{head_at, with_head}
@@ -20,17 +20,17 @@ use Rattle.bank_validity.specs.Limits.{totals_of, broken, broken_limit, with_own
 use Rattle.bank_validity.proofs.LimitLaws.{limits_of, no_limit_of}
 use Rattle.bank_parts.proofs.SettingLaws.{source}
 use Rattle.bank_changes.specs.Members.{head_of}
-use Rattle.bank_changes.specs.Presets.{preset_added, preset_removed, preset_moved, head_called, head_set}
+use Rattle.bank_changes.specs.Presets.{preset_added, preset_removed, preset_moved, with_name_and_numbers, head_set}
 use Rattle.bank_changes.proofs.Changes.{all_changed}
 use Rattle.bank_changes.proofs.Everywhere.{all_insert, all_remove}
 use Rattle.bank_changes.proofs.Moves.{all_moved}
 use Rattle.bank_changes.proofs.TotalsLaws.{level_inserted, level_removed, level_moved, level_headed, owners_grow}
 
 -- the bank with other presets
-abbrev with_presets : Parts → List (WithZones Head) → Parts
+abbrev with_presets : Parts → List (ZoneOwner Head) → Parts
 with_presets b presets = record b { presets = presets }
 
-presets_sound : (b : Parts) → IsSound b → (presets : List (WithZones Head))
+presets_sound : (b : Parts) → IsSound b → (presets : List (ZoneOwner Head))
     → AllByRecursion (IsPreset (length b.instruments)) presets → AllByRecursion (FitsOwner FitsHead) presets
     → broken_limit (with_presets b presets) ≡ None → IsSound (with_presets b presets)
 presets_sound b sound presets are fit e =
@@ -55,7 +55,7 @@ presets_sound b sound presets are fit e =
 
 -- ---- adding
 
-module _ (b : Parts) (i : ℕ) (p : WithZones Head) where
+module _ (b : Parts) (i : ℕ) (p : ZoneOwner Head) where
   pub totals-added_preset : i ≤ length b.presets
       → totals_of (preset_added b i p) ≡ with_owner level.Preset (totals_of b) (records_of_owner p)
   unfolding totals_of
@@ -72,7 +72,7 @@ module _ (b : Parts) (i : ℕ) (p : WithZones Head) where
 
 -- ---- removing
 
-module _ (b : Parts) (i : ℕ) (p : WithZones Head) (e : slice_get b.presets i ≡ Some p) where
+module _ (b : Parts) (i : ℕ) (p : ZoneOwner Head) (e : slice_get b.presets i ≡ Some p) where
   pub totals-removed_preset : with_owner level.Preset (totals_of (preset_removed b i)) (records_of_owner p)
       ≡ totals_of b
   unfolding totals_of
@@ -112,8 +112,8 @@ module _ (b : Parts) (i j : ℕ) (lt : i < length b.presets) (lu : j < length b.
 -- ---- setting the head
 
 module _ (b : Parts) (i : ℕ) (name : List ℕ) (number bank : ℕ) where
-  abbrev called : WithZones Head → WithZones Head
-  called = λ x. with_head (head_called name number bank x.head) x
+  abbrev called : ZoneOwner Head → ZoneOwner Head
+  called = λ x. with_head (with_name_and_numbers name number bank x.head) x
 
   pub length-head_set : length (head_set b i name number bank).presets ≡ length b.presets
   length-head_set = length-changed b.presets i called
@@ -123,10 +123,10 @@ module _ (b : Parts) (i : ℕ) (name : List ℕ) (number bank : ℕ) where
   totals-head_set =
       λ k.
       record (totals_of b)
-      { presets = level_headed b.presets i (λ (x : WithZones Head). head_called name number bank x.head) k }
+      { presets = level_headed b.presets i (λ (x : ZoneOwner Head). with_name_and_numbers name number bank x.head) k }
 
   fits_called : IsName name → number < 2 ^ 16 → bank < 2 ^ 16 → (h : Head) → FitsHead h
-      → FitsHead (head_called name number bank h)
+      → FitsHead (with_name_and_numbers name number bank h)
   fits_called named n m h f =
       record { name = named; number = n; bank = m; library = f.library; genre = f.genre; morphology = f.morphology }
 
@@ -142,25 +142,25 @@ module _ (b : Parts) (i : ℕ) (name : List ℕ) (number bank : ℕ) where
       (ap broken totals-head_set ∙ no_limit_of b sound.valid.limits)
 
   -- the old head is restored
-  pub restored_head_set : (x : WithZones Head) → slice_get b.presets i ≡ Some x
+  pub restored_head_set : (x : ZoneOwner Head) → slice_get b.presets i ≡ Some x
       → head_set (head_set b i name number bank) i x.head.name x.head.number x.head.bank ≡ b
   restored_head_set x e =
       ap (with_presets b)
       (changed-back b.presets i called
-      (λ (y : WithZones Head). with_head (head_called x.head.name x.head.number x.head.bank y.head) y) x e
+      (λ (y : ZoneOwner Head). with_head (with_name_and_numbers x.head.name x.head.number x.head.bank y.head) y) x e
       refl)
 
-  pub read_head_set : (x : WithZones Head) → slice_get b.presets i ≡ Some x
-      → head_of (head_set b i name number bank) i ≡ Some (head_called name number bank x.head)
-  read_head_set x e = ap (option_map (λ (y : WithZones Head). y.head)) (slice_get-changed b.presets i called x e)
+  pub read_head_set : (x : ZoneOwner Head) → slice_get b.presets i ≡ Some x
+      → head_of (head_set b i name number bank) i ≡ Some (with_name_and_numbers name number bank x.head)
+  read_head_set x e = ap (option_map (λ (y : ZoneOwner Head). y.head)) (slice_get-changed b.presets i called x e)
 
   -- the new head is made from the old one
   pub head_replaced : (old : Head) → head_at b.presets i ≡ Some old
-      → with_presets b (changed b.presets i (with_head (head_called name number bank old)))
+      → with_presets b (changed b.presets i (with_head (with_name_and_numbers name number bank old)))
       ≡ head_set b i name number bank
   head_replaced old e =
-      let h = source (λ (x : WithZones Head). x.head) (slice_get b.presets i) old e in
+      let h = source (λ (x : ZoneOwner Head). x.head) (slice_get b.presets i) old e in
       ap (with_presets b)
-      (changed-found b.presets i (with_head (head_called name number bank old)) h.member h.there
-      ∙ (ap (λ (was : Head). slice_set b.presets i (with_head (head_called name number bank was) h.member)) (sym h.seen)
+      (changed-found b.presets i (with_head (with_name_and_numbers name number bank old)) h.member h.there
+      ∙ (ap (λ (was : Head). slice_set b.presets i (with_head (with_name_and_numbers name number bank was) h.member)) (sym h.seen)
       ∙ sym (changed-found b.presets i called h.member h.there)))

@@ -21,7 +21,7 @@ use Rattle.bank_parts.specs.declared.parts.Sample.{Sample}
 use Rattle.bank_parts.specs.Fits.{Fits, FitsSample}
 use Rattle.bank_parts.specs.declared.parts.Parts.{Parts}
 use Rattle.bank_validity.specs.declared.totals.Totals.{Totals}
-use Rattle.bank_parts.specs.Links.{OfLink}
+use Rattle.bank_parts.specs.Links.{IfLinked}
 use Rattle.bank_parts.specs.Renumbered.{sample_renumbered, owner_renumbered, samples_renumbered}
 use Rattle.bank_parts.specs.Sound.{IsSound}
 use Rattle.bank_changes.specs.Samples.{named, sample_in_use, sample_renamed, sample_added, sample_removed, sample_moved}
@@ -184,19 +184,19 @@ pushed b i s new (Err x) v e h = h
 
 -- each renumbered link fits 16 bits
 links_fit : (by : Renumbering) (n : ℕ) → ((x : ℕ) → x < n → renumbered by x < 2 ^ 16) → (ss : List Sample)
-    → AllByRecursion (λ (s : Sample). OfLink (λ x. x < n) s.kind) ss
-    → All (λ (s : Sample). OfLink (λ x. renumbered by x < 2 ^ 16) s.kind) ss
+    → AllByRecursion (λ (s : Sample). IfLinked (λ x. x < n) s.kind) ss
+    → All (λ (s : Sample). IfLinked (λ x. renumbered by x < 2 ^ 16) s.kind) ss
 links_fit by n to ss within =
-    let P : Sample → Type 0 = λ s. OfLink (λ x. renumbered by x < 2 ^ 16) s.kind in
+    let P : Sample → Type 0 = λ s. IfLinked (λ x. renumbered by x < 2 ^ 16) s.kind in
     All-from_recursion P ss
-    (all_weaker (λ (s : Sample). OfLink (λ x. x < n) s.kind) P
+    (all_weaker (λ (s : Sample). IfLinked (λ x. x < n) s.kind) P
     (λ s. link_weaker (λ x. x < n) (λ x. renumbered by x < 2 ^ 16) to s.kind) ss within)
 
 pub links_fit-removed : (b : Parts) (i : ℕ) → IsValid b
-    → All (λ (s : Sample). OfLink (λ x. renumbered (Removal i) x < 2 ^ 16) s.kind) (remove b.samples i)
+    → All (λ (s : Sample). IfLinked (λ x. renumbered (Removal i) x < 2 ^ 16) s.kind) (remove b.samples i)
 links_fit-removed b i v =
     links_fit (Removal i) (length b.samples) (λ x lt. let h = removal_no_more i x in omega arith) (remove b.samples i)
-    (all_remove (λ (s : Sample). OfLink (λ x. x < length b.samples) s.kind) b.samples i (refs_within b v).links)
+    (all_remove (λ (s : Sample). IfLinked (λ x. x < length b.samples) s.kind) b.samples i (refs_within b v).links)
 
 pub totals-removed : (b : Parts) (i : ℕ) (s : Sample) → slice_get b.samples i ≡ Some s
     → with_sample (totals_of (sample_removed b i)) (length s.points) ≡ totals_of b
@@ -232,7 +232,7 @@ removed_valid b i v lt free =
     let stay : OfSampleRefs (λ x. x < n) left =
     record {
       links =
-          all_remove (λ (t : Sample). OfLink (λ x. x < n) t.kind) b.samples i within.links;
+          all_remove (λ (t : Sample). IfLinked (λ x. x < n) t.kind) b.samples i within.links;
       targets =
           within.targets;
     }
@@ -270,7 +270,7 @@ removed_fits b i v f =
     })
     (record {
       links =
-          all_remove (λ (t : Sample). OfLink (λ x. x < n) t.kind) b.samples i within.links;
+          all_remove (λ (t : Sample). IfLinked (λ x. x < n) t.kind) b.samples i within.links;
       targets =
           within.targets;
     })
@@ -291,7 +291,7 @@ removed_last b i v lt last =
     sym (refs_kept (Removal i) left (refs_weaker (λ x. x < n) (λ x. renumbered (Removal i) x ≡ x)
     (λ x h. removal_keeps i x (omega (arith, less, last, h))) left
     (record {
-      links = all_remove (λ (t : Sample). OfLink (λ x. x < n) t.kind) b.samples i within.links;
+      links = all_remove (λ (t : Sample). IfLinked (λ x. x < n) t.kind) b.samples i within.links;
       targets = within.targets;
     })))
 
@@ -371,7 +371,7 @@ module _ (b : Parts) (i j : ℕ) (lt : i < length b.samples) (lu : j < length b.
             (instruments_valid (λ x. x < n) by n n to b.instruments v.instruments within.targets);
         samples = rw length-sample_moved (samples_valid (λ x. x < n) by n n to (moved b.samples i j)
             (all_moved (IsSample n) b.samples i j lt v.samples)
-            (all_moved (λ (s : Sample). OfLink (λ x. x < n) s.kind) b.samples i j lt within.links));
+            (all_moved (λ (s : Sample). IfLinked (λ x. x < n) s.kind) b.samples i j lt within.links));
         limits = limits_of (sample_moved b i j) (ap broken totals-moved ∙ no_limit_of b v.limits);
       }
 
@@ -394,17 +394,17 @@ module _ (b : Parts) (i j : ℕ) (lt : i < length b.samples) (lu : j < length b.
       })
       (record {
         links =
-            all_moved (λ (s : Sample). OfLink (λ x. x < n) s.kind) b.samples i j lt within.links;
+            all_moved (λ (s : Sample). IfLinked (λ x. x < n) s.kind) b.samples i j lt within.links;
         targets =
             within.targets;
       })
 
   pub links_fit-moved : IsValid b
-      → All (λ (s : Sample). OfLink (λ x. renumbered (Move i j) x < 2 ^ 16) s.kind) (moved b.samples i j)
+      → All (λ (s : Sample). IfLinked (λ x. renumbered (Move i j) x < 2 ^ 16) s.kind) (moved b.samples i j)
   links_fit-moved v =
       links_fit (Move i j) (length b.samples)
       (λ x h. let below = move_below i j x (length b.samples) lt lu h in omega arith) (moved b.samples i j)
-      (all_moved (λ (s : Sample). OfLink (λ x. x < length b.samples) s.kind) b.samples i j lt (refs_within b v).links)
+      (all_moved (λ (s : Sample). IfLinked (λ x. x < length b.samples) s.kind) b.samples i j lt (refs_within b v).links)
 
   pub moved_sound : IsSound b → IsSound (sample_moved b i j)
   moved_sound sound = record { valid = moved_valid sound.valid; fits = moved_fits sound.valid sound.fits }

@@ -33,8 +33,8 @@ use Rattle.bank_changes.specs.declared.members.Owner.TheVariants.{Preset, Inst}
 use Rattle.bank_changes.specs.declared.members.Place.{Place}
 use Rattle.bank_changes.specs.declared.members.Place.TheVariants as place
 use Rattle.bank_changes.specs.Members.{zone_place, settings_of, level_of, amount_of}
-use Rattle.bank_changes.specs.Settings.{own_place_changed, gen_set, gen_cleared, mod_added, mod_removed, mod_set}
-use Rattle.bank_changes.specs.Settings.{records_of_place, records_there, zones_at}
+use Rattle.bank_changes.specs.Settings.{owner_place_changed, gen_set, gen_cleared, mod_added, mod_removed, mod_set}
+use Rattle.bank_changes.specs.Settings.{records_of_place, place_records, zones_at}
 use Rattle.bank_changes.specs.Totals.{HasRecords}
 use Rattle.bank_changes.proofs.Changes.{all_set}
 use Rattle.bank_changes.proofs.Everywhere.{all_insert, all_remove}
@@ -189,7 +189,7 @@ one_more : (n most : ℕ) → n ≤ most → most < 2 ^ 64 - 1 → counted (n + 
 one_more n most h small = counted_same (n + 1) (omega (arith, h, small))
 
 module _ (b : Parts) (o : Owner) (at : Place) (s : Settings) (there : settings_of b o at ≡ Some s)
-    (sound : IsSound b) (before : Records) (had : before ≡ records_there b o at) where
+    (sound : IsSound b) (before : Records) (had : before ≡ place_records b o at) where
   was_there : before ≡ records_of_place (zone_place at) s
   was_there = had ∙ records_found b o at s there
 
@@ -210,7 +210,7 @@ module _ (b : Parts) (o : Owner) (at : Place) (s : Settings) (there : settings_o
   module _ (z n : ℕ) (zones : z ≡ zones_at at) where
     pub gen_records : (op amount : ℕ) → map.get s.gens op ≡ None → n ≡ counted (before.gens + 1)
         → (let r : Records = record { zones = z; gens = n; mods = before.mods } in r)
-        ≡ records_there (gen_set b o at op amount) o at
+        ≡ place_records (gen_set b o at op amount) o at
     gen_records op amount unset count =
         let f = λ (s : Settings). with_gens (map.insert s.gens op amount) s in
         let gens =
@@ -221,11 +221,11 @@ module _ (b : Parts) (o : Owner) (at : Place) (s : Settings) (there : settings_o
         in
         (λ k. let r : Records = record { zones = zones k; gens = gens k; mods = mods_there at was_there k } in r)
         ∙ (sym (gen_more at s op amount unset)
-        ∙ sym (records_found (own_place_changed b o at f) o at (f s) (changed_there b o at f s there)))
+        ∙ sym (records_found (owner_place_changed b o at f) o at (f s) (changed_there b o at f s there)))
 
     pub mod_records : (j : ℕ) (m : Modulator) → n ≡ counted (before.mods + 1)
         → (let r : Records = record { zones = z; gens = before.gens; mods = n } in r)
-        ≡ records_there (mod_added b o at j m) o at
+        ≡ place_records (mod_added b o at j m) o at
     mod_records j m count =
         let f = λ (s : Settings). with_mods (insert s.mods j m) s in
         let mods =
@@ -236,4 +236,4 @@ module _ (b : Parts) (o : Owner) (at : Place) (s : Settings) (there : settings_o
         in
         (λ k. let r : Records = record { zones = zones k; gens = gens_there at was_there k; mods = mods k } in r)
         ∙ (sym (mod_more at s j m)
-        ∙ sym (records_found (own_place_changed b o at f) o at (f s) (changed_there b o at f s there)))
+        ∙ sym (records_found (owner_place_changed b o at f) o at (f s) (changed_there b o at f s there)))

@@ -11,7 +11,7 @@ use Rattle.bank_parts.specs.declared.parts.GlobalZone.{GlobalZone}
 use Rattle.bank_parts.specs.declared.parts.Zone.{Zone}
 use Rattle.bank_parts.specs.declared.parts.Parts.{Parts}
 use Rattle.bank_parts.specs.Counts.{records_sum}
-use Rattle.bank_parts.specs.declared.parts.WithZones.{WithZones}
+use Rattle.bank_parts.specs.declared.parts.ZoneOwner.{ZoneOwner}
 use Rattle.bank_parts.specs.Valid.{IsZone}
 use Rattle.bank_parts.specs.Fits.{FitsZone}
 use Rattle.bank_parts.specs.Sound.{IsSound}
@@ -21,18 +21,18 @@ use Rattle.bank_zone_ranges.specs.declared.axes.Axis.{Axis}
 use Rattle.bank_zone_ranges.specs.declared.axes.Keep.{Keep}
 use Rattle.bank_zone_ranges.specs.declared.axes.Keep.TheVariants as keeping
 use Rattle.bank_zone_ranges.specs.Ranges.{range_operator, low_end, high_end, range_from, range_of, own_range, with_range}
-use Rattle.bank_zone_ranges.specs.Splits.{is_inside, lower_part, upper_part, parted, merged, joint_range, joined}
+use Rattle.bank_zone_ranges.specs.Splits.{is_split_point, lower_zone, upper_zone, split_in_two, merged, joint_range, joined}
 use Rattle.bank_zone_ranges.specs.Splits.{are_joinable, split_records, join_records}
 use Rattle.bank_zone_ranges.specs.Undone.{own_amount}
-use Rattle.bank_zone_ranges.proofs.Parting.{parted_at, all_parted, all_merged, all_at, left_first}
+use Rattle.bank_zone_ranges.proofs.SplitLists.{halves_at, all_split, all_merged, all_at, left_first}
 use Rattle.bank_zone_ranges.proofs.SplitLaws.{split_at, joined_at}
-use Rattle.bank_zone_ranges.proofs.There.{ZoneThere, split_there, join_there, zones_there, split_is_put, join_is_put}
+use Rattle.bank_zone_ranges.proofs.Existing.{ZoneThere, split_there, join_there, zones_there, split_is_put, join_is_put}
 use Rattle.bank_zone_ranges.proofs.PartLaws.{valid_with, fits_with, range_holds, own_holds, lower_is_range}
 use Rattle.bank_zone_ranges.proofs.PartLaws.{upper_is_range, joined_range, valid_joined, fits_joined}
 use Rattle.bank_changes.specs.declared.members.Owner.{Owner}
 use Rattle.bank_changes.specs.declared.members.Owner.TheVariants as owner
 use Rattle.bank_changes.specs.declared.members.Place.TheVariants as place
-use Rattle.bank_changes.specs.Members.{own_zone_count, settings_of, zones_of, zone_of, level_of, target_count}
+use Rattle.bank_changes.specs.Members.{owner_zone_count, settings_of, zones_of, zone_of, level_of, target_count}
 use Rattle.bank_changes.specs.Totals.{with_records}
 use Rattle.bank_changes.specs.Zones.{zone_split, zone_joined, can_split, can_join}
 use Rattle.bank_changes.proofs.Changes.{sum-removed, sum-exchanged}
@@ -54,7 +54,7 @@ pub record OwnZone (b : Parts) (o : Owner) (k : ℕ) : Type 0 where
   pub at : slice_get zones k ≡ Some zone
 
 -- the zone in the list of presets or of instruments
-abbrev own_zone : {H : Type 0} {owners : List (WithZones H)} {i : ℕ} (b : Parts) (o : Owner) (k : ℕ)
+abbrev own_zone : {H : Type 0} {owners : List (ZoneOwner H)} {i : ℕ} (b : Parts) (o : Owner) (k : ℕ)
     (t : ZoneThere owners i k)
     → settings_of b o place.Global ≡ Some t.member.global → zones_of b o ≡ Some t.member.zones → OwnZone b o k
 own_zone b o k t global zones = record {
@@ -68,10 +68,10 @@ own_zone b o k t global zones = record {
 
 pub record Split (b : Parts) (o : Owner) (k : ℕ) (axis : Axis) (m : ℕ) : Type 0 where
   pub own : OwnZone b o k
-  pub inside : is_inside axis m own.global own.zone ≡ true
+  pub inside : is_split_point axis m own.global own.zone ≡ true
   pub put : zone_split b o k axis m
       ≡ zones_put b o
-      (parted own.zones k (lower_part axis m own.global own.zone) (upper_part axis m own.global own.zone))
+      (split_in_two own.zones k (lower_zone axis m own.global own.zone) (upper_zone axis m own.global own.zone))
 
 pub split : (b : Parts) (o : Owner) (k : ℕ) (axis : Axis) (m : ℕ) → can_split b o k axis m ≡ true → Split b o k axis m
 split b (owner.Preset p) k axis m h =
@@ -112,11 +112,11 @@ join b (owner.Inst i) k axis keep h =
 -- ---- records
 
 module _ (measure : Zone → ℕ) (zones : List Zone) (k : ℕ) (z : Zone) (at : slice_get zones k ≡ Some z) where
-  sum_parted : (lower upper : Zone)
-      → sum_by measure (parted zones k lower upper) + measure z
+  sum_split : (lower upper : Zone)
+      → sum_by measure (split_in_two zones k lower upper) + measure z
       ≡ sum_by measure zones + measure lower + measure upper
-  sum_parted lower upper =
-      let is = ap (sum_by measure) (parted_at zones k lower upper (slice_get-within zones k z at)) in
+  sum_split lower upper =
+      let is = ap (sum_by measure) (halves_at zones k lower upper (slice_get-within zones k z at)) in
       let sum = sum_by-insert measure (slice_set zones k lower) (k + 1) upper in
       let set = sum-exchanged measure zones k z lower at in
       omega (arith, is, sum, set)
@@ -130,10 +130,10 @@ module _ (measure : Zone → ℕ) (zones : List Zone) (k : ℕ) (z : Zone) (at :
       omega (arith, set, less)
 
 -- the generators of both halves, if the zone has a range and if it has none
-gens_parted : (axis : Axis) (z : Zone) (v w : ℕ)
+gens_split : (axis : Axis) (z : Zone) (v w : ℕ)
     → (len (with_range axis v z).gens + 1) + (len (with_range axis w z).gens + 1)
     ≡ (len z.gens + 1) + (len z.gens + option_map_or (λ _. 1) (own_range axis z) 3)
-gens_parted axis z v w =
+gens_split axis z v w =
     (elim (own_range axis z) as (λ o. own_range axis z
     ≡ o → (len (with_range axis v z).gens + 1) + (len (with_range axis w z).gens + 1)
     ≡ (len z.gens + 1) + (len z.gens + option_map_or (λ _. 1) o 3)) [
@@ -148,25 +148,25 @@ gens_parted axis z v w =
           omega (arith, one, two)
     ]) refl
 
-pub records-parted : (axis : Axis) (m : ℕ) (global : GlobalZone) (zones : List Zone) (k : ℕ) (z : Zone)
+pub records-split_in_two : (axis : Axis) (m : ℕ) (global : GlobalZone) (zones : List Zone) (k : ℕ) (z : Zone)
     → slice_get zones k ≡ Some z
-    → records_of_zones (parted zones k (lower_part axis m global z) (upper_part axis m global z))
+    → records_of_zones (split_in_two zones k (lower_zone axis m global z) (upper_zone axis m global z))
     ≡ records_sum (records_of_zones zones) (split_records axis z)
-records-parted axis m global zones k z at =
-    let lower = lower_part axis m global z in
-    let upper = upper_part axis m global z in
-    let one = sum_parted (λ (z : Zone). 1) zones k z at lower upper in
-    let gens = sum_parted (λ (z : Zone). len z.gens + 1) zones k z at lower upper in
+records-split_in_two axis m global zones k z at =
+    let lower = lower_zone axis m global z in
+    let upper = upper_zone axis m global z in
+    let one = sum_split (λ (z : Zone). 1) zones k z at lower upper in
+    let gens = sum_split (λ (z : Zone). len z.gens + 1) zones k z at lower upper in
     let both =
-    gens_parted axis z (range_from (low_end (range_of axis global z)) (m - 1))
+    gens_split axis z (range_from (low_end (range_of axis global z)) (m - 1))
     (range_from m (high_end (range_of axis global z))) in
-    let mods = sum_parted (λ (z : Zone). length z.mods) zones k z at lower upper in
-    let zones_are : (records_of_zones (parted zones k lower upper)).zones ≡ (records_of_zones zones).zones + 1 =
+    let mods = sum_split (λ (z : Zone). length z.mods) zones k z at lower upper in
+    let zones_are : (records_of_zones (split_in_two zones k lower upper)).zones ≡ (records_of_zones zones).zones + 1 =
     omega (arith, one) in
-    let gens_are : (records_of_zones (parted zones k lower upper)).gens
+    let gens_are : (records_of_zones (split_in_two zones k lower upper)).gens
     ≡ (records_of_zones zones).gens + (len z.gens + option_map_or (λ _. 1) (own_range axis z) 3) =
     omega (arith, gens, both) in
-    let mods_are : (records_of_zones (parted zones k lower upper)).mods
+    let mods_are : (records_of_zones (split_in_two zones k lower upper)).mods
     ≡ (records_of_zones zones).mods + length z.mods =
     omega (arith, mods) in
     λ i. record { zones = zones_are i; gens = gens_are i; mods = mods_are i }
@@ -236,9 +236,9 @@ module _ (b : Parts) (o : Owner) (k : ℕ) (axis : Axis) (m : ℕ) (can : can_sp
       let own = s.own in
       ap totals_of s.put
       ∙ totals_zones_more b o own.zones
-      (parted own.zones k (lower_part axis m own.global own.zone) (upper_part axis m own.global own.zone)) own.there
+      (split_in_two own.zones k (lower_zone axis m own.global own.zone) (upper_zone axis m own.global own.zone)) own.there
       (split_records axis own.zone)
-      (records-parted axis m own.global own.zones k own.zone own.at)
+      (records-split_in_two axis m own.global own.zones k own.zone own.at)
 
   pub sound_zone_split : IsSound b → broken_limit (zone_split b o k axis m) ≡ None → IsSound (zone_split b o k axis m)
   sound_zone_split sound e =
@@ -253,15 +253,15 @@ module _ (b : Parts) (o : Owner) (k : ℕ) (axis : Axis) (m : ℕ) (can : can_sp
       let inside = split_at axis m own.global own.zone s.inside in
       let low = lower_is_range axis m own.global own.zone inside r in
       let high = upper_is_range axis m own.global own.zone inside r in
-      let lower = lower_part axis m own.global own.zone in
-      let upper = upper_part axis m own.global own.zone in
+      let lower = lower_zone axis m own.global own.zone in
+      let upper = upper_zone axis m own.global own.zone in
       rw s.put
-      (sound_zones_put b o (parted own.zones k lower upper) sound
-      (all_parted (IsZone (level_of o) (target_count b o)) own.zones k lower upper (valid_with (level_of o)
+      (sound_zones_put b o (split_in_two own.zones k lower upper) sound
+      (all_split (IsZone (level_of o) (target_count b o)) own.zones k lower upper (valid_with (level_of o)
       (target_count b o) axis own.zone v (range_from (low_end (range_of axis own.global own.zone)) (m - 1)) low)
       (valid_with (level_of o) (target_count b o) axis own.zone v
       (range_from m (high_end (range_of axis own.global own.zone))) high) valid)
-      (all_parted FitsZone own.zones k lower upper
+      (all_split FitsZone own.zones k lower upper
       (fits_with axis own.zone f (range_from (low_end (range_of axis own.global own.zone)) (m - 1)) low)
       (fits_with axis own.zone f (range_from m (high_end (range_of axis own.global own.zone))) high) fit)
       (rw s.put at e))
@@ -272,7 +272,7 @@ module _ (b : Parts) (o : Owner) (k : ℕ) (axis : Axis) (keep : Keep) (can : ca
   pub next_zone_is : zone_of b o (k + 1) ≡ Some (join b o k axis keep can).second
   next_zone_is = let s = join b o k axis keep can in zone_is b o (k + 1) s.own.zones s.second s.own.there s.next
 
-  pub next_is_there : IsSomeAnd (own_zone_count b o) (λ count. k + 1 < count)
+  pub next_is_there : IsSomeAnd (owner_zone_count b o) (λ count. k + 1 < count)
   next_is_there =
       let s = join b o k axis keep can in
       own_count b o s.own.zones (λ count. k + 1 < count) s.own.there

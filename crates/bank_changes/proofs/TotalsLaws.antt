@@ -12,7 +12,7 @@ use Rattle.bank_validity.specs.declared.totals.LevelTotals.{LevelTotals}
 use Rattle.bank_validity.specs.declared.totals.Totals.{Totals}
 use Rattle.bank_parts.specs.declared.parts.GlobalZone.{GlobalZone}
 use Rattle.bank_parts.specs.declared.parts.Zone.{Zone}
-use Rattle.bank_parts.specs.declared.parts.WithZones.{WithZones}
+use Rattle.bank_parts.specs.declared.parts.ZoneOwner.{ZoneOwner}
 use Rattle.bank_parts.specs.declared.parts.Sample.{Sample}
 use Rattle.bank_parts.specs.declared.parts.Parts.{Parts}
 use Rattle.bank_parts.specs.Renumbered.{sample_renumbered, zone_renumbered, owner_renumbered, instruments_renumbered}
@@ -60,21 +60,21 @@ with_sample_same t u n e =
 
 -- ---- sums that a renumbering does not change
 
-pub zones_kept : {H : Type 0} (by : Renumbering) (owners : List (WithZones H))
+pub zones_kept : {H : Type 0} (by : Renumbering) (owners : List (ZoneOwner H))
     → owner_total zone_count (map (owner_renumbered by) owners) ≡ owner_total zone_count owners
-zones_kept {H} by = sum_kept (λ (i : WithZones H). zone_count i.global i.zones) (owner_renumbered by)
+zones_kept {H} by = sum_kept (λ (i : ZoneOwner H). zone_count i.global i.zones) (owner_renumbered by)
     (λ i. let e = length-map i.zones (zone_renumbered by) in omega (arith, e))
 
-pub gens_kept : {H : Type 0} (by : Renumbering) (owners : List (WithZones H))
+pub gens_kept : {H : Type 0} (by : Renumbering) (owners : List (ZoneOwner H))
     → owner_total gen_count (map (owner_renumbered by) owners) ≡ owner_total gen_count owners
-gens_kept {H} by = sum_kept (λ (i : WithZones H). gen_count i.global i.zones) (owner_renumbered by)
+gens_kept {H} by = sum_kept (λ (i : ZoneOwner H). gen_count i.global i.zones) (owner_renumbered by)
     (λ i.
     ap (λ (n : ℕ). len i.global.gens + n)
     (sum_kept (λ (z : Zone). len z.gens + 1) (zone_renumbered by) (λ z. refl) i.zones))
 
-pub mods_kept : {H : Type 0} (by : Renumbering) (owners : List (WithZones H))
+pub mods_kept : {H : Type 0} (by : Renumbering) (owners : List (ZoneOwner H))
     → owner_total mod_count (map (owner_renumbered by) owners) ≡ owner_total mod_count owners
-mods_kept {H} by = sum_kept (λ (i : WithZones H). mod_count i.global i.zones) (owner_renumbered by)
+mods_kept {H} by = sum_kept (λ (i : ZoneOwner H). mod_count i.global i.zones) (owner_renumbered by)
     (λ i.
     ap (λ (n : ℕ). length i.global.mods + n)
     (sum_kept (λ (z : Zone). length z.mods) (zone_renumbered by) (λ z. refl) i.zones))
@@ -82,7 +82,7 @@ mods_kept {H} by = sum_kept (λ (i : WithZones H). mod_count i.global i.zones) (
 pub points_kept : (by : Renumbering) (ss : List Sample) → point_total (map (sample_renumbered by) ss) ≡ point_total ss
 points_kept by = sum_kept (λ (s : Sample). length s.points + ZERO_POINTS) (sample_renumbered by) (λ s. refl)
 
-pub level_kept : {H : Type 0} (by : Renumbering) (owners : List (WithZones H))
+pub level_kept : {H : Type 0} (by : Renumbering) (owners : List (ZoneOwner H))
     → level_totals (map (owner_renumbered by) owners) ≡ level_totals owners
 level_kept by owners = λ k. record {
   count = length-map owners (owner_renumbered by) k;
@@ -97,16 +97,16 @@ totals-instruments_renumbered by b = λ k. record (totals_of b) { presets = leve
 
 -- ---- one preset or instrument more, or less
 
-module _ {H : Type 0} (count : GlobalZone → List Zone → ℕ) (owners : List (WithZones H)) (i : ℕ) (x : WithZones H) where
+module _ {H : Type 0} (count : GlobalZone → List Zone → ℕ) (owners : List (ZoneOwner H)) (i : ℕ) (x : ZoneOwner H) where
   total-inserted : owner_total count (insert owners i x) ≡ owner_total count owners + count x.global x.zones
-  total-inserted = sum_by-insert (λ (y : WithZones H). count y.global y.zones) owners i x
+  total-inserted = sum_by-insert (λ (y : ZoneOwner H). count y.global y.zones) owners i x
 
   total-removed : slice_get owners i ≡ Some x
       → owner_total count (remove owners i) + count x.global x.zones ≡ owner_total count owners
-  total-removed e = sum-removed (λ (y : WithZones H). count y.global y.zones) owners i x e
+  total-removed e = sum-removed (λ (y : ZoneOwner H). count y.global y.zones) owners i x e
 
-module _ {H : Type 0} (owners : List (WithZones H)) (i : ℕ) where
-  pub level_inserted : (x : WithZones H) → i ≤ length owners
+module _ {H : Type 0} (owners : List (ZoneOwner H)) (i : ℕ) where
+  pub level_inserted : (x : ZoneOwner H) → i ≤ length owners
       → level_totals (insert owners i x) ≡ plus_owner (records_of_owner x) (level_totals owners)
   level_inserted x le = λ k. record {
     count = length-insert owners i x le k;
@@ -120,7 +120,7 @@ module _ {H : Type 0} (owners : List (WithZones H)) (i : ℕ) where
         };
   }
 
-  pub level_removed : (x : WithZones H) → slice_get owners i ≡ Some x
+  pub level_removed : (x : ZoneOwner H) → slice_get owners i ≡ Some x
       → plus_owner (records_of_owner x) (level_totals (remove owners i)) ≡ level_totals owners
   level_removed x e = λ k. record {
     count = length-remove owners i (slice_get-within owners i x e) k;
@@ -139,25 +139,25 @@ module _ {H : Type 0} (owners : List (WithZones H)) (i : ℕ) where
   level_moved j lt lu = λ k. record {
     count = length-moved owners i j lt lu k;
     records = record {
-      zones = sum-moved (λ (x : WithZones H). zone_count x.global x.zones) owners i j lt k;
-      gens = sum-moved (λ (x : WithZones H). gen_count x.global x.zones) owners i j lt k;
-      mods = sum-moved (λ (x : WithZones H). mod_count x.global x.zones) owners i j lt k;
+      zones = sum-moved (λ (x : ZoneOwner H). zone_count x.global x.zones) owners i j lt k;
+      gens = sum-moved (λ (x : ZoneOwner H). gen_count x.global x.zones) owners i j lt k;
+      mods = sum-moved (λ (x : ZoneOwner H). mod_count x.global x.zones) owners i j lt k;
     };
   }
 
-  pub level_headed : (f : WithZones H → H)
+  pub level_headed : (f : ZoneOwner H → H)
       → level_totals (changed owners i (λ x. with_head (f x) x)) ≡ level_totals owners
   level_headed f = λ k. record {
     count = length-changed owners i (λ x. with_head (f x) x) k;
     records = record {
       zones =
-          sum-changed (λ (x : WithZones H). zone_count x.global x.zones) (λ x. with_head (f x) x) (λ x. refl) owners
+          sum-changed (λ (x : ZoneOwner H). zone_count x.global x.zones) (λ x. with_head (f x) x) (λ x. refl) owners
           i k;
       gens =
-          sum-changed (λ (x : WithZones H). gen_count x.global x.zones) (λ x. with_head (f x) x) (λ x. refl) owners i
+          sum-changed (λ (x : ZoneOwner H). gen_count x.global x.zones) (λ x. with_head (f x) x) (λ x. refl) owners i
           k;
       mods =
-          sum-changed (λ (x : WithZones H). mod_count x.global x.zones) (λ x. with_head (f x) x) (λ x. refl) owners i
+          sum-changed (λ (x : ZoneOwner H). mod_count x.global x.zones) (λ x. with_head (f x) x) (λ x. refl) owners i
           k;
     };
   }

@@ -8,7 +8,7 @@ use Rattle.base_numbered_lists.specs.Moved.{changed, moved}
 use Rattle.base_numbered_lists.proofs.Lists.{slice_get-found}
 use Rattle.bank_parts.specs.declared.parts.Head.{Head}
 use Rattle.bank_parts.specs.declared.parts.Zone.{Zone}
-use Rattle.bank_parts.specs.declared.parts.WithZones.{WithZones}
+use Rattle.bank_parts.specs.declared.parts.ZoneOwner.{ZoneOwner}
 use Rattle.bank_parts.specs.declared.parts.Parts.{Parts}
 use Rattle.bank_parts.specs.Counts.{records_of_zone, records_sum}
 use Rattle.bank_parts.specs.ZoneChanges.{with_target}
@@ -19,10 +19,10 @@ use Rattle.bank_validity.specs.Limits.{totals_of, broken, broken_limit}
 use Rattle.bank_validity.proofs.LimitLaws.{no_limit_of}
 use Rattle.bank_parts.proofs.SettingLaws.{source}
 use Rattle.bank_parts.proofs.UndoneLaws as list
-use Rattle.bank_parts.proofs.UndoneLaws.{There}
+use Rattle.bank_parts.proofs.UndoneLaws.{Existing}
 use Rattle.bank_changes.specs.declared.members.Owner.{Owner}
 use Rattle.bank_changes.specs.declared.members.Owner.TheVariants as owner
-use Rattle.bank_changes.specs.Members.{own_zone_count, zones_of, zone_of, target_of, level_of, target_count}
+use Rattle.bank_changes.specs.Members.{owner_zone_count, zones_of, zone_of, target_of, level_of, target_count}
 use Rattle.bank_changes.specs.Totals.{with_records}
 use Rattle.bank_changes.specs.Zones.{zone_added, zone_removed, zone_moved, target_set}
 use Rattle.bank_changes.proofs.Changes.{all_changed, sum-changed, sum-removed}
@@ -35,18 +35,18 @@ use Rattle.bank_changes.proofs.ZoneLaws.{records_of_zones, totals_zones_more, to
 -- ---- owners and zones that exist
 
 -- an owner and the number of its zones
-pub own_zones_there : (b : Parts) (o : Owner) (P : ℕ → Type 0) → IsSomeAnd (own_zone_count b o) P
-    → There (zones_of b o) (λ zones. P (length zones))
+pub own_zones_there : (b : Parts) (o : Owner) (P : ℕ → Type 0) → IsSomeAnd (owner_zone_count b o) P
+    → Existing (zones_of b o) (λ zones. P (length zones))
 own_zones_there b (owner.Preset p) P h = list.zones_there b.presets p P h
 own_zones_there b (owner.Inst i) P h = list.zones_there b.instruments i P h
 
 -- the number of the zones of an owner
 pub own_count : (b : Parts) (o : Owner) (zones : List Zone) (P : ℕ → Type 0) → zones_of b o ≡ Some zones
-    → P (length zones) → IsSomeAnd (own_zone_count b o) P
+    → P (length zones) → IsSomeAnd (owner_zone_count b o) P
 own_count b (owner.Preset p) zones P e h =
-    let x = source (λ (x : WithZones Head). x.zones) (slice_get b.presets p) zones e in rw (x.there, x.seen) h
+    let x = source (λ (x : ZoneOwner Head). x.zones) (slice_get b.presets p) zones e in rw (x.there, x.seen) h
 own_count b (owner.Inst i) zones P e h =
-    let x = source (λ (x : WithZones (List ℕ)). x.zones) (slice_get b.instruments i) zones e in
+    let x = source (λ (x : ZoneOwner (List ℕ)). x.zones) (slice_get b.instruments i) zones e in
     rw (x.there, x.seen) h
 
 -- one of the zones of an owner
@@ -109,7 +109,7 @@ module _ (zones : List Zone) (k : ℕ) where
 
 -- ---- adding
 
-module _ (b : Parts) (o : Owner) (k : ℕ) (zone : Zone) (there : IsSomeAnd (own_zone_count b o) (λ count. k ≤ count))
+module _ (b : Parts) (o : Owner) (k : ℕ) (zone : Zone) (there : IsSomeAnd (owner_zone_count b o) (λ count. k ≤ count))
   where
     pub totals-zone_added : totals_of (zone_added b o k zone)
         ≡ with_records (level_of o) (totals_of b) (records_of_zone zone)
@@ -132,7 +132,7 @@ module _ (b : Parts) (o : Owner) (k : ℕ) (zone : Zone) (there : IsSomeAnd (own
 -- ---- removing
 
 pub zone_there : (b : Parts) (o : Owner) (k : ℕ) (zone : Zone) → zone_of b o k ≡ Some zone
-    → There (zones_of b o) (λ zones. slice_get zones k ≡ Some zone)
+    → Existing (zones_of b o) (λ zones. slice_get zones k ≡ Some zone)
 zone_there b (owner.Preset p) k zone e =
     let h = list.zone_in b.presets p k zone e in record { member = h.member; there = h.there; holds = h.gives }
 zone_there b (owner.Inst i) k zone e =
@@ -147,14 +147,14 @@ totals-zone_removed b o k zone e =
     ∙ totals_zones_less b o t.member (remove t.member k) t.there (records_of_zone zone)
     (records-removed t.member k zone t.holds)
 
-pub zone_found : (b : Parts) (o : Owner) (k : ℕ) → IsSomeAnd (own_zone_count b o) (λ count. k < count)
+pub zone_found : (b : Parts) (o : Owner) (k : ℕ) → IsSomeAnd (owner_zone_count b o) (λ count. k < count)
     → (zone : Zone) × (zone_of b o k ≡ Some zone)
 zone_found b o k h =
     let t = own_zones_there b o (λ count. k < count) h in
     let (zone, e) = slice_get-found t.member k t.holds in
     (zone, zone_is b o k t.member zone t.there e)
 
-pub sound_zone_removed : (b : Parts) (o : Owner) (k : ℕ) → IsSomeAnd (own_zone_count b o) (λ count. k < count)
+pub sound_zone_removed : (b : Parts) (o : Owner) (k : ℕ) → IsSomeAnd (owner_zone_count b o) (λ count. k < count)
     → IsSound b → IsSound (zone_removed b o k)
 sound_zone_removed b o k h sound =
     let (zone, e) = zone_found b o k h in
@@ -170,7 +170,7 @@ sound_zone_removed b o k h sound =
 
 -- ---- moving
 
-module _ (b : Parts) (o : Owner) (from to : ℕ) (there : IsSomeAnd (own_zone_count b o) (λ count. from < count)) where
+module _ (b : Parts) (o : Owner) (from to : ℕ) (there : IsSomeAnd (owner_zone_count b o) (λ count. from < count)) where
   pub totals-zone_moved : totals_of (zone_moved b o from to) ≡ totals_of b
   totals-zone_moved =
       let t = own_zones_there b o (λ count. from < count) there in
@@ -189,7 +189,7 @@ module _ (b : Parts) (o : Owner) (from to : ℕ) (there : IsSomeAnd (own_zone_co
 
 -- ---- another target
 
-module _ (b : Parts) (o : Owner) (k target : ℕ) (there : IsSomeAnd (own_zone_count b o) (λ count. k < count)) where
+module _ (b : Parts) (o : Owner) (k target : ℕ) (there : IsSomeAnd (owner_zone_count b o) (λ count. k < count)) where
   pub totals-target_set : totals_of (target_set b o k target) ≡ totals_of b
   totals-target_set =
       let t = own_zones_there b o (λ count. k < count) there in
@@ -212,14 +212,14 @@ module _ (b : Parts) (o : Owner) (k target : ℕ) (there : IsSomeAnd (own_zone_c
 
 -- ---- undo
 
-abbrev pub with_presets : Parts → List (WithZones Head) → Parts
+abbrev pub with_presets : Parts → List (ZoneOwner Head) → Parts
 with_presets b presets = record b { presets = presets }
 
-abbrev pub with_instruments : Parts → List (WithZones (List ℕ)) → Parts
+abbrev pub with_instruments : Parts → List (ZoneOwner (List ℕ)) → Parts
 with_instruments b instruments = record b { instruments = instruments }
 
 pub restored_zone_added : (b : Parts) (o : Owner) (k : ℕ) (zone : Zone)
-    → IsSomeAnd (own_zone_count b o) (λ count. k ≤ count) → zone_removed (zone_added b o k zone) o k ≡ b
+    → IsSomeAnd (owner_zone_count b o) (λ count. k ≤ count) → zone_removed (zone_added b o k zone) o k ≡ b
 restored_zone_added b (owner.Preset p) k zone h = ap (with_presets b) (list.zone_added_undone b.presets p k zone h)
 restored_zone_added b (owner.Inst i) k zone h =
     ap (with_instruments b) (list.zone_added_undone b.instruments i k zone h)
@@ -231,7 +231,7 @@ restored_zone_removed b (owner.Inst i) k zone e =
     ap (with_instruments b) (list.zone_removed_undone b.instruments i k zone e)
 
 pub restored_zone_moved : (b : Parts) (o : Owner) (from to : ℕ)
-    → IsSomeAnd (own_zone_count b o) (λ count. from < count) → IsSomeAnd (own_zone_count b o) (λ count. to < count)
+    → IsSomeAnd (owner_zone_count b o) (λ count. from < count) → IsSomeAnd (owner_zone_count b o) (λ count. to < count)
     → zone_moved (zone_moved b o from to) o to from ≡ b
 restored_zone_moved b (owner.Preset p) from to h l =
     ap (with_presets b) (list.zone_moved_undone b.presets p from to h l)

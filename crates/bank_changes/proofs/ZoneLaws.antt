@@ -12,7 +12,7 @@ use Rattle.bank_validity.specs.declared.totals.Totals.{Totals}
 use Rattle.bank_parts.specs.declared.parts.GlobalZone.{GlobalZone}
 use Rattle.bank_parts.specs.declared.parts.Head.{Head}
 use Rattle.bank_parts.specs.declared.parts.Zone.{Zone}
-use Rattle.bank_parts.specs.declared.parts.WithZones.{WithZones}
+use Rattle.bank_parts.specs.declared.parts.ZoneOwner.{ZoneOwner}
 use Rattle.bank_parts.specs.declared.parts.Parts.{Parts}
 use Rattle.bank_parts.specs.Counts.{records_of_zone, records_total, records_sum}
 use Rattle.bank_parts.specs.Settings.{zones_at, with_zones, zones_changed}
@@ -27,36 +27,36 @@ use Rattle.bank_changes.specs.declared.members.Owner.{Owner}
 use Rattle.bank_changes.specs.declared.members.Owner.TheVariants as owner
 use Rattle.bank_changes.specs.Members.{zones_of, level_of, target_count}
 use Rattle.bank_changes.specs.Totals.{with_records}
-use Rattle.bank_changes.specs.Zones.{own_zones_changed}
+use Rattle.bank_changes.specs.Zones.{owner_zones_changed}
 use Rattle.bank_changes.proofs.OwnerLaws.{of_sound, sound_owner_changed}
 use Rattle.bank_changes.proofs.Changes.{sum-exchanged}
 use Rattle.bank_changes.proofs.TotalsLaws.{records_grow}
 
 -- ---- a list of owners, of which one gets other zones
 
-module _ {H : Type 0} (owners : List (WithZones H)) (i : ℕ) (zones : List Zone) (e : zones_at owners i ≡ Some zones)
+module _ {H : Type 0} (owners : List (ZoneOwner H)) (i : ℕ) (zones : List Zone) (e : zones_at owners i ≡ Some zones)
   where
     -- two changes that agree on the zones of the owner
     changed_alike : (f g : List Zone → List Zone) → f zones ≡ g zones
         → zones_changed owners i f ≡ zones_changed owners i g
     changed_alike f g same =
-        let h = source (λ (x : WithZones H). x.zones) (slice_get owners i) zones e in
-        let x : WithZones H = h.member in
-        changed-found owners i (λ (x : WithZones H). with_zones (f x.zones) x) x h.there
+        let h = source (λ (x : ZoneOwner H). x.zones) (slice_get owners i) zones e in
+        let x : ZoneOwner H = h.member in
+        changed-found owners i (λ (x : ZoneOwner H). with_zones (f x.zones) x) x h.there
         ∙ (ap (λ (zs : List Zone). slice_set owners i (with_zones zs x)) (ap f h.seen ∙ (same ∙ sym (ap g h.seen)))
-        ∙ sym (changed-found owners i (λ (x : WithZones H). with_zones (g x.zones) x) x h.there))
+        ∙ sym (changed-found owners i (λ (x : ZoneOwner H). with_zones (g x.zones) x) x h.there))
 
 -- a count that is the sum of a part for the global zone and a part for the other zones
-total_put : {H : Type 0} (shared : GlobalZone → ℕ) (own : List Zone → ℕ) (owners : List (WithZones H)) (i : ℕ)
+total_put : {H : Type 0} (shared : GlobalZone → ℕ) (own : List Zone → ℕ) (owners : List (ZoneOwner H)) (i : ℕ)
     (zones put : List Zone)
     → zones_at owners i ≡ Some zones
     → owner_total (λ g zs. shared g + own zs) (zones_changed owners i (λ _. put)) + own zones
     ≡ owner_total (λ g zs. shared g + own zs) owners + own put
 total_put {H} shared own owners i zones put e =
-    let h = source (λ (x : WithZones H). x.zones) (slice_get owners i) zones e in
-    let x : WithZones H = h.member in
-    let y : WithZones H = with_zones put x in
-    let count : WithZones H → ℕ = λ (x : WithZones H). shared x.global + own x.zones in
+    let h = source (λ (x : ZoneOwner H). x.zones) (slice_get owners i) zones e in
+    let x : ZoneOwner H = h.member in
+    let y : ZoneOwner H = with_zones put x in
+    let count : ZoneOwner H → ℕ = λ (x : ZoneOwner H). shared x.global + own x.zones in
     let is : sum_by count (zones_changed owners i (λ _. put)) ≡ sum_by count (slice_set owners i y) =
     ap (sum_by count) (changed-found owners i (with_zones put) x h.there) in
     let sum : sum_by count (slice_set owners i y) + (shared x.global + own x.zones)
@@ -69,15 +69,15 @@ total_put {H} shared own owners i zones put e =
 
 -- the bank in which the owner has these zones
 abbrev pub zones_put : Parts → Owner → List Zone → Parts
-zones_put b o zones = own_zones_changed b o (λ _. zones)
+zones_put b o zones = owner_zones_changed b o (λ _. zones)
 
 pub zones_put_is : (b : Parts) (o : Owner) (f : List Zone → List Zone) (zones : List Zone)
-    → zones_of b o ≡ Some zones → own_zones_changed b o f ≡ zones_put b o (f zones)
+    → zones_of b o ≡ Some zones → owner_zones_changed b o f ≡ zones_put b o (f zones)
 zones_put_is b (owner.Preset p) f zones e =
-    ap (λ (presets : List (WithZones Head)). let r : Parts = record b { presets = presets } in r)
+    ap (λ (presets : List (ZoneOwner Head)). let r : Parts = record b { presets = presets } in r)
     (changed_alike b.presets p zones e f (λ _. f zones) refl)
 zones_put_is b (owner.Inst i) f zones e =
-    ap (λ (instruments : List (WithZones (List ℕ))). let r : Parts = record b { instruments = instruments } in r)
+    ap (λ (instruments : List (ZoneOwner (List ℕ))). let r : Parts = record b { instruments = instruments } in r)
     (changed_alike b.instruments i zones e f (λ _. f zones) refl)
 
 -- ---- soundness
@@ -96,7 +96,7 @@ pub zones_valid : (b : Parts) (o : Owner) (zones : List Zone) → IsSound b → 
 zones_valid b o zones sound =
     of_sound b o (λ _ owners i. zones_at owners i) (AllByRecursion (IsZone (level_of o) (target_count b o)))
     (λ H name_of IsFit owners i are zones e.
-    let x = source (λ (x : WithZones H). x.zones) (slice_get owners i) zones e in
+    let x = source (λ (x : ZoneOwner H). x.zones) (slice_get owners i) zones e in
     subst (AllByRecursion (IsZone (level_of o) (target_count b o))) x.seen (are x.member x.there).0.zones.zones)
     sound zones
 
@@ -105,7 +105,7 @@ pub zones_fit : (b : Parts) (o : Owner) (zones : List Zone) → IsSound b → zo
 zones_fit b o zones sound =
     of_sound b o (λ _ owners i. zones_at owners i) (AllByRecursion FitsZone)
     (λ H name_of IsFit owners i are zones e.
-    let x = source (λ (x : WithZones H). x.zones) (slice_get owners i) zones e in
+    let x = source (λ (x : ZoneOwner H). x.zones) (slice_get owners i) zones e in
     subst (AllByRecursion FitsZone) x.seen (are x.member x.there).1.zones)
     sound zones
 
@@ -122,7 +122,7 @@ ones {X} (x ∷ xs) =
     let sum = sum_by-cons (λ (_ : X). 1) x xs in
     omega (arith, rest, sum)
 
-module _ {H : Type 0} (owners : List (WithZones H)) (i : ℕ) (zones put : List Zone)
+module _ {H : Type 0} (owners : List (ZoneOwner H)) (i : ℕ) (zones put : List Zone)
     (e : zones_at owners i ≡ Some zones) where
   zones_follow : owner_total zone_count (zones_changed owners i (λ _. put)) + (records_of_zones zones).zones
       ≡ owner_total zone_count owners + (records_of_zones put).zones

@@ -3,7 +3,7 @@ use Rattle.std.specs.Prelude.{ℕ, Bool, List, insert, remove}
 use Rattle.std.specs.List.{list_any}
 use Rattle.base_numbered_lists.specs.declared.renumbering.Renumbering.TheVariants.{Insertion, Removal, Move}
 use Rattle.base_numbered_lists.specs.Moved.{changed, moved}
-use Rattle.bank_parts.specs.declared.parts.WithZones.{WithZones}
+use Rattle.bank_parts.specs.declared.parts.ZoneOwner.{ZoneOwner}
 use Rattle.bank_parts.specs.declared.parts.Parts.{Parts}
 use Rattle.bank_parts.specs.Owners.{with_head, targets}
 use Rattle.bank_parts.specs.Renumbered.{instruments_renumbered}
@@ -13,7 +13,7 @@ abbrev pub instrument_renamed : Parts → ℕ → List ℕ → Parts
 instrument_renamed b number name = record b { instruments = changed b.instruments number (with_head name) }
 
 -- the instrument is inserted as number i, and targets follow
-abbrev pub instrument_added : Parts → ℕ → WithZones (List ℕ) → Parts
+abbrev pub instrument_added : Parts → ℕ → ZoneOwner (List ℕ) → Parts
 instrument_added b i x =
     let r = instruments_renumbered (Insertion i) b in record r { instruments = insert r.instruments i x }
 

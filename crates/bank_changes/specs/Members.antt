@@ -16,7 +16,7 @@ use Rattle.bank_parts.specs.declared.owners.ZonePlace.{ZonePlace}
 use Rattle.bank_parts.specs.declared.owners.ZonePlace.TheVariants as there
 use Rattle.bank_parts.specs.declared.parts.Head.{Head}
 use Rattle.bank_parts.specs.declared.parts.Parts.{Parts}
-use Rattle.bank_parts.specs.declared.parts.WithZones.{WithZones}
+use Rattle.bank_parts.specs.declared.parts.ZoneOwner.{ZoneOwner}
 use Rattle.bank_parts.specs.declared.parts.Zone.{Zone}
 use Rattle.bank_parts.specs.Owners.{head_at, zone_count_at, zone_at, target_at, gens_at, mods_at}
 use Rattle.bank_parts.specs.Settings.{Settings, settings_at, zones_at}
@@ -38,32 +38,32 @@ instrument_name_of b i = head_at b.instruments i
 -- ---- an owner, a preset or an instrument, as the list that has it and its number there
 
 -- what f reads of the list and the number
-abbrev pub own_read : {X : Type 0} → Parts → Owner → ((H : Type 0) → List (WithZones H) → ℕ → X) → X
-own_read b (owner.Preset p) f = f _ b.presets p
-own_read b (owner.Inst i) f = f _ b.instruments i
+abbrev pub read_of_owner : {X : Type 0} → Parts → Owner → ((H : Type 0) → List (ZoneOwner H) → ℕ → X) → X
+read_of_owner b (owner.Preset p) f = f _ b.presets p
+read_of_owner b (owner.Inst i) f = f _ b.instruments i
 
 -- the list is changed by f, and nothing else changes
-abbrev pub own_changed : Parts → Owner → ((H : Type 0) → List (WithZones H) → ℕ → List (WithZones H)) → Parts
-own_changed b (owner.Preset p) f = record b { presets = f _ b.presets p }
-own_changed b (owner.Inst i) f = record b { instruments = f _ b.instruments i }
+abbrev pub owner_list_changed : Parts → Owner → ((H : Type 0) → List (ZoneOwner H) → ℕ → List (ZoneOwner H)) → Parts
+owner_list_changed b (owner.Preset p) f = record b { presets = f _ b.presets p }
+owner_list_changed b (owner.Inst i) f = record b { instruments = f _ b.instruments i }
 
 -- ---- the zones of an owner
 
 -- how many there are, not counting the global zone
-abbrev pub own_zone_count : Parts → Owner → Option ℕ
-own_zone_count b o = own_read b o (λ _ owners i. zone_count_at owners i)
+abbrev pub owner_zone_count : Parts → Owner → Option ℕ
+owner_zone_count b o = read_of_owner b o (λ _ owners i. zone_count_at owners i)
 
 -- the target of zone k
 abbrev pub target_of : Parts → Owner → ℕ → Option ℕ
-target_of b o k = own_read b o (λ _ owners i. target_at owners i k)
+target_of b o k = read_of_owner b o (λ _ owners i. target_at owners i k)
 
 -- all of them, in order
 abbrev pub zones_of : Parts → Owner → Option (List Zone)
-zones_of b o = own_read b o (λ _ owners i. zones_at owners i)
+zones_of b o = read_of_owner b o (λ _ owners i. zones_at owners i)
 
 -- zone k
 abbrev pub zone_of : Parts → Owner → ℕ → Option Zone
-zone_of b o k = own_read b o (λ _ owners i. zone_at owners i k)
+zone_of b o k = read_of_owner b o (λ _ owners i. zone_at owners i k)
 
 -- the level of its zones
 abbrev pub level_of : Owner → Level
@@ -84,15 +84,15 @@ zone_place (place.Zone k) = there.Zone k
 
 -- the generators of a place
 abbrev pub gens_of : Parts → Owner → Place → Option Gens
-gens_of b o at = own_read b o (λ _ owners i. gens_at owners i (zone_place at))
+gens_of b o at = read_of_owner b o (λ _ owners i. gens_at owners i (zone_place at))
 
 -- the modulators of a place
 abbrev pub mods_of : Parts → Owner → Place → Option (List Modulator)
-mods_of b o at = own_read b o (λ _ owners i. mods_at owners i (zone_place at))
+mods_of b o at = read_of_owner b o (λ _ owners i. mods_at owners i (zone_place at))
 
 -- the generators and the modulators of a place
 abbrev pub settings_of : Parts → Owner → Place → Option Settings
-settings_of b o at = own_read b o (λ _ owners i. settings_at owners i (zone_place at))
+settings_of b o at = read_of_owner b o (λ _ owners i. settings_at owners i (zone_place at))
 
 -- the amount of an operator; none if it is not set
 abbrev pub amount_of : Parts → Owner → Place → ℕ → Option ℕ

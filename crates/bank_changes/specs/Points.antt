@@ -30,16 +30,16 @@ extended front back s = record s {
 }
 
 -- a sample with this loop
-abbrev pub looped_as : Option (ℕ × ℕ) → Sample → Sample
-looped_as looped s = record s { looped = looped }
+abbrev pub with_loop : Option (ℕ × ℕ) → Sample → Sample
+with_loop looped s = record s { looped = looped }
 
 -- a sample of this kind
-abbrev pub of_kind : Kind → Sample → Sample
-of_kind kind s = record s { kind = kind }
+abbrev pub with_kind : Kind → Sample → Sample
+with_kind kind s = record s { kind = kind }
 
 -- a sample with this rate, original key and correction
-abbrev pub tuned : ℕ → ℕ → ℤ → Sample → Sample
-tuned rate key correction s = record s { rate = rate; key = key; correction = correction }
+abbrev pub with_tune : ℕ → ℕ → ℤ → Sample → Sample
+with_tune rate key correction s = record s { rate = rate; key = key; correction = correction }
 
 -- the sample is changed by f, and nothing else changes
 abbrev pub sample_changed : Parts → ℕ → (Sample → Sample) → Parts
@@ -52,10 +52,10 @@ abbrev pub sample_extended : Parts → ℕ → List ℕ → List ℕ → Parts
 sample_extended b i front back = sample_changed b i (extended front back)
 
 abbrev pub loop_set : Parts → ℕ → Option (ℕ × ℕ) → Parts
-loop_set b i looped = sample_changed b i (looped_as looped)
+loop_set b i looped = sample_changed b i (with_loop looped)
 
 abbrev pub kind_set : Parts → ℕ → Kind → Parts
-kind_set b i kind = sample_changed b i (of_kind kind)
+kind_set b i kind = sample_changed b i (with_kind kind)
 
 abbrev pub tune_set : Parts → ℕ → ℕ → ℕ → ℤ → Parts
-tune_set b i rate key correction = sample_changed b i (tuned rate key correction)
+tune_set b i rate key correction = sample_changed b i (with_tune rate key correction)

@@ -4,7 +4,7 @@ use Rattle.std.specs.Option.{option_map_or}
 use Rattle.std.specs.FinMap.{len}
 use Rattle.modulators.specs.declared.modulator.Modulator.{Modulator}
 use Rattle.bank_parts.specs.declared.parts.Parts.{Parts}
-use Rattle.bank_parts.specs.declared.parts.WithZones.{WithZones}
+use Rattle.bank_parts.specs.declared.parts.ZoneOwner.{ZoneOwner}
 use Rattle.bank_parts.specs.declared.counting.Records.{Records}
 use Rattle.bank_parts.specs.declared.owners.ZonePlace.{ZonePlace}
 use Rattle.bank_parts.specs.declared.owners.ZonePlace.TheVariants as place
@@ -14,35 +14,35 @@ use Rattle.bank_parts.specs.ZoneChanges as list
 use Rattle.bank_changes.specs.declared.members.Owner.{Owner}
 use Rattle.bank_changes.specs.declared.members.Place.{Place}
 use Rattle.bank_changes.specs.declared.members.Place.TheVariants as place_of
-use Rattle.bank_changes.specs.Members.{own_read, own_changed, zone_place}
+use Rattle.bank_changes.specs.Members.{read_of_owner, owner_list_changed, zone_place}
 
 -- the settings of the place are changed by f, and nothing else changes
-abbrev pub own_place_changed : Parts → Owner → Place → (Settings → Settings) → Parts
-own_place_changed b o at f = own_changed b o (λ _ owners i. place_changed owners i (zone_place at) f)
+abbrev pub owner_place_changed : Parts → Owner → Place → (Settings → Settings) → Parts
+owner_place_changed b o at f = owner_list_changed b o (λ _ owners i. place_changed owners i (zone_place at) f)
 
 -- ---- generators
 
 -- the operator has the amount
 abbrev pub gen_set : Parts → Owner → Place → ℕ → ℕ → Parts
-gen_set b o at op amount = own_changed b o (λ _ owners i. list.gen_set owners i (zone_place at) op amount)
+gen_set b o at op amount = owner_list_changed b o (λ _ owners i. list.gen_set owners i (zone_place at) op amount)
 
 -- the operator is not set
 abbrev pub gen_cleared : Parts → Owner → Place → ℕ → Parts
-gen_cleared b o at op = own_changed b o (λ _ owners i. list.gen_cleared owners i (zone_place at) op)
+gen_cleared b o at op = owner_list_changed b o (λ _ owners i. list.gen_cleared owners i (zone_place at) op)
 
 -- ---- modulators
 
 -- the modulator is inserted as number j
 abbrev pub mod_added : Parts → Owner → Place → ℕ → Modulator → Parts
-mod_added b o at j m = own_changed b o (λ _ owners i. list.mod_added owners i (zone_place at) j m)
+mod_added b o at j m = owner_list_changed b o (λ _ owners i. list.mod_added owners i (zone_place at) j m)
 
 -- modulator j is removed
 abbrev pub mod_removed : Parts → Owner → Place → ℕ → Parts
-mod_removed b o at j = own_changed b o (λ _ owners i. list.mod_removed owners i (zone_place at) j)
+mod_removed b o at j = owner_list_changed b o (λ _ owners i. list.mod_removed owners i (zone_place at) j)
 
 -- modulator j is replaced
 abbrev pub mod_set : Parts → Owner → Place → ℕ → Modulator → Parts
-mod_set b o at j m = own_changed b o (λ _ owners i. list.mod_set owners i (zone_place at) j m)
+mod_set b o at j m = owner_list_changed b o (λ _ owners i. list.mod_set owners i (zone_place at) j m)
 
 -- ---- records
 
@@ -55,12 +55,12 @@ abbrev pub no_records : Records
 no_records = record { zones = 0; gens = 0; mods = 0 }
 
 -- the records of a place of owner i; all 0 if there is no such place
-abbrev pub records_at : {H : Type 0} → List (WithZones H) → ℕ → ZonePlace → Records
+abbrev pub records_at : {H : Type 0} → List (ZoneOwner H) → ℕ → ZonePlace → Records
 records_at owners i at = option_map_or (records_of_place at) (settings_at owners i at) no_records
 
 -- the records of a place of a bank; all 0 if there is no such place
-abbrev pub records_there : Parts → Owner → Place → Records
-records_there b o at = own_read b o (λ _ owners i. records_at owners i (zone_place at))
+abbrev pub place_records : Parts → Owner → Place → Records
+place_records b o at = read_of_owner b o (λ _ owners i. records_at owners i (zone_place at))
 
 -- how many bags a place adds when it is not empty: the bag of a zone that is not global is always counted elsewhere
 abbrev pub zones_at : Place → ℕ

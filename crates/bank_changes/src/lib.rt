@@ -18,7 +18,7 @@ pub use members::{List, Owner, Place, place_of};
 pub use points::{extend_sample, set_kind, set_loop, set_tune, trim_sample};
 pub use presets::{add_preset, move_preset, remove_preset, set_head};
 pub use samples::{add_sample, move_sample, remove_sample, rename_sample};
-pub use settings::{add_mod, clear_gen, records_there, remove_mod, set_gen, set_mod};
+pub use settings::{add_mod, clear_gen, place_records, remove_mod, set_gen, set_mod};
 pub use texts::set_info;
 pub use totals::{broken_with_records, recounted, with_records, without_records};
 pub use zones::{

@@ -2,7 +2,7 @@
 ghost use Rattle.std.specs.Prelude.{◌≡◌, ◌<◌, ◌≤◌, Some, None, length, IsSome, IsOk, IfOk, IfSome, OnOk, OnErr};
 ghost use Rattle.bank_parts.specs.Room.{IsStorable};
 ghost use Rattle.bank_changes.specs.Members.{zone_place, settings_of, mods_of, amount_of, mod_at};
-ghost use Rattle.bank_changes.specs.Settings.{gen_set, gen_cleared, mod_added, mod_removed, mod_set, records_at, records_there};
+ghost use Rattle.bank_changes.specs.Settings.{gen_set, gen_cleared, mod_added, mod_removed, mod_set, records_at, place_records};
 
 use crate::members::{Owner, Place, place_of};
 use crate::with_owners;
@@ -101,8 +101,8 @@ pub fn set_mod(
 
 /// The records of a place; all 0 if there is no such place. The bag of a zone that is not global is not among them,
 /// since it is counted whatever the zone has.
-pub fn records_there(parts: &Parts<'_>, owner: Owner, place: Place) -> Records
-    ensures { result ≡ records_there parts.now owner place }
+pub fn place_records(parts: &Parts<'_>, owner: Owner, place: Place) -> Records
+    ensures { result ≡ place_records parts.now owner place }
 {
     with_owners!(parts, owner, |owners, number| {
         records_in(owners, number, place)

@@ -4,10 +4,10 @@ ghost use Rattle.bank_parts.specs.Texts.{text_of};
 ghost use Rattle.bank_changes.specs.Texts.{text_set};
 
 use bank_parts::{InfoId, Texts};
-use sf_base::Lent;
+use sf_base::BorrowedBytes;
 
 /// Replaces the text with this id and returns the old one. Allocates nothing.
-pub fn set_info<'a>(texts: &mut Texts<'a>, id: InfoId, text: Lent<'a>) -> Lent<'a>
+pub fn set_info<'a>(texts: &mut Texts<'a>, id: InfoId, text: BorrowedBytes<'a>) -> BorrowedBytes<'a>
     ensures value { result ≡ text_of texts.old id }
     ensures change { texts.new ≡ text_set texts.old id text.entry }
 {

@@ -3,7 +3,7 @@ ghost use Rattle.std.specs.Prelude.{◌≡◌, ◌<◌, ◌≤◌, Some, IsSomeA
 ghost use Rattle.bank_parts.specs.Counts.{all_counted};
 ghost use Rattle.bank_parts.specs.Room.{IsStorable};
 ghost use Rattle.bank_zone_ranges.specs.Splits.{split_records, join_records};
-ghost use Rattle.bank_changes.specs.Members.{own_zone_count, zone_of, target_of};
+ghost use Rattle.bank_changes.specs.Members.{owner_zone_count, zone_of, target_of};
 ghost use Rattle.bank_changes.specs.Zones.{zone_added, zone_removed, zone_moved, target_set, can_split, can_join, zone_split, zone_joined};
 
 use crate::members::Owner;
@@ -16,7 +16,7 @@ use std::alloc::Global;
 /// Inserts a zone as number `at` of an owner; its later zones move up by one. If an allocation fails, the bank is
 /// unchanged and the zone is returned.
 pub fn add_zone(parts: &mut Parts<'_>, owner: Owner, at: u32, zone: Zone) -> Result<(), Zone>
-    requires place { IsSomeAnd (own_zone_count parts.old owner) (λ count. at ≤ count) }
+    requires place { IsSomeAnd (owner_zone_count parts.old owner) (λ count. at ≤ count) }
     requires storable { IsStorable (zone_added parts.old owner at zone) }
     ensures ok { OnOk result (parts.new ≡ zone_added parts.old owner at zone) }
     ensures err { OnErr result (parts.new ≡ parts.old) }
@@ -36,7 +36,7 @@ pub fn remove_zone(
     owner: Owner,
     zone: u32,
 ) -> Result<Zone, OutOfMemory>
-    requires { IsSomeAnd (own_zone_count parts.old owner) (λ count. zone < count) }
+    requires { IsSomeAnd (owner_zone_count parts.old owner) (λ count. zone < count) }
     ensures value { IfOk result (λ removed. zone_of parts.old owner zone ≡ Some removed) }
     ensures change { OnOk result (parts.new ≡ zone_removed parts.old owner zone) }
     ensures err { OnErr result (parts.new ≡ parts.old) }
@@ -49,8 +49,8 @@ pub fn remove_zone(
 
 /// Moves zone `from` of an owner to number `to`; its other zones keep their order. Allocates nothing.
 pub fn move_zone(parts: &mut Parts<'_>, owner: Owner, from: u32, to: u32)
-    requires there { IsSomeAnd (own_zone_count parts.old owner) (λ count. from < count) }
-    requires place { IsSomeAnd (own_zone_count parts.old owner) (λ count. to < count) }
+    requires there { IsSomeAnd (owner_zone_count parts.old owner) (λ count. from < count) }
+    requires place { IsSomeAnd (owner_zone_count parts.old owner) (λ count. to < count) }
     ensures { parts.new ≡ zone_moved parts.old owner from to }
 {
     let (from, to) = (from as usize, to as usize);
@@ -61,7 +61,7 @@ pub fn move_zone(parts: &mut Parts<'_>, owner: Owner, from: u32, to: u32)
 
 /// Replaces the target of a zone and returns the old one. Allocates nothing.
 pub fn set_target(parts: &mut Parts<'_>, owner: Owner, zone: u32, target: u16) -> u16
-    requires { IsSomeAnd (own_zone_count parts.old owner) (λ count. zone < count) }
+    requires { IsSomeAnd (owner_zone_count parts.old owner) (λ count. zone < count) }
     ensures value { target_of parts.old owner zone ≡ Some result }
     ensures change { parts.new ≡ target_set parts.old owner zone target }
 {
@@ -73,7 +73,7 @@ pub fn set_target(parts: &mut Parts<'_>, owner: Owner, zone: u32, target: u16) -
 
 /// The records that a split of a zone adds. Each number saturates at 2^64 - 1.
 pub fn split_records(parts: &Parts<'_>, owner: Owner, zone: u32, axis: Axis) -> Records
-    requires { IsSomeAnd (own_zone_count parts.now owner) (λ count. zone < count) }
+    requires { IsSomeAnd (owner_zone_count parts.now owner) (λ count. zone < count) }
     ensures { IfSome (zone_of parts.now owner zone) (λ z. result ≡ all_counted (split_records axis z)) }
 {
     with_owners!(parts, owner, |owners, number| {
@@ -83,7 +83,7 @@ pub fn split_records(parts: &Parts<'_>, owner: Owner, zone: u32, axis: Axis) -> 
 
 /// The records that a join of a zone and the next one removes. Each number saturates at 2^64 - 1.
 pub fn join_records(parts: &Parts<'_>, owner: Owner, zone: u32, keep: Keep) -> Records
-    requires { IsSomeAnd (own_zone_count parts.now owner) (λ count. zone + 1 < count) }
+    requires { IsSomeAnd (owner_zone_count parts.now owner) (λ count. zone + 1 < count) }
     ensures { IfSome (zone_of parts.now owner (zone + 1)) (λ z. result ≡ all_counted (join_records keep z)) }
 {
     with_owners!(parts, owner, |owners, number| {
@@ -101,7 +101,7 @@ pub fn split_zone(
     axis: Axis,
     at: u8,
 ) -> Result<(), OutOfMemory>
-    requires splits { can_split parts.old owner zone axis at ≡ true }
+    requires is_splittable { can_split parts.old owner zone axis at ≡ true }
     requires storable { IsStorable (zone_split parts.old owner zone axis at) }
     ensures ok { OnOk result (parts.new ≡ zone_split parts.old owner zone axis at) }
     ensures err { OnErr result (parts.new ≡ parts.old) }

@@ -10,11 +10,11 @@ use Rattle.generators.specs.declared.level.Level.TheVariants as level
 use Rattle.flat_records.specs.Bags.{Tables}
 use Rattle.bank_owner_bags.specs.Begins as owned
 use Rattle.bank_owner_bags.proofs.Converse.{same_owners}
-use Rattle.bank_parts.specs.declared.parts.WithZones.{WithZones}
+use Rattle.bank_parts.specs.declared.parts.ZoneOwner.{ZoneOwner}
 use Rattle.bank_parts.specs.declared.parts.Parts.{Parts}
 use Rattle.bank_parts.specs.Bagged.{bags_of, IsPlainOwner}
 use Rattle.bank_parts.specs.Sound.{IsSound}
-use Rattle.bank_parts.specs.Flat.{owners_in, AreOf}
+use Rattle.bank_parts.specs.Flat.{owners_in, RepresentOwners}
 use Rattle.bank_parts.specs.FlatLists.{AreFlat, lists_of}
 use Rattle.bank_parts.proofs.SoundLaws.{presets_plain, instruments_plain}
 use Rattle.bank_parts.proofs.ReadLaws.{read}
@@ -53,11 +53,11 @@ module _ {H : Type 0} where
 
   -- ---- their records and lists
 
-  heads_within : (at : Level) (owners : List (WithZones H))
-      → length (map (λ (x : WithZones H). x.head) owners) ≤ length (lists_of at owners).first_bags
-  heads_within at owners = omega (arith, length-map owners (λ (x : WithZones H). x.head), first_bags_size at owners)
+  heads_within : (at : Level) (owners : List (ZoneOwner H))
+      → length (map (λ (x : ZoneOwner H). x.head) owners) ≤ length (lists_of at owners).first_bags
+  heads_within at owners = omega (arith, length-map owners (λ (x : ZoneOwner H). x.head), first_bags_size at owners)
 
-  pub lists_by : (at : Level) (hs : List H) (ns : List ℕ) (t : Tables) (owners : List (WithZones H))
+  pub lists_by : (at : Level) (hs : List H) (ns : List ℕ) (t : Tables) (owners : List (ZoneOwner H))
       → length ns ≡ length hs + 1
       → AreFlatOf at (head_records hs ns) t owners
       → AreFlat at hs (record { first_bags = ns; bags = t.bags; gens = t.gens; mods = t.mods }) owners
@@ -67,14 +67,14 @@ module _ {H : Type 0} where
       sym (numbers-back hs ns)
       ∙
       (ap numbers_of are.heads
-      ∙ numbers-back (map (λ (x : WithZones H). x.head) owners) (lists_of at owners).first_bags)
+      ∙ numbers-back (map (λ (x : ZoneOwner H). x.head) owners) (lists_of at owners).first_bags)
       in
       record {
         heads =
             sym (heads-back hs ns (omega arith))
             ∙
             (ap heads_of are.heads
-            ∙ heads-back (map (λ (x : WithZones H). x.head) owners) (lists_of at owners).first_bags
+            ∙ heads-back (map (λ (x : ZoneOwner H). x.head) owners) (lists_of at owners).first_bags
             (heads_within at owners));
         flat =
             λ i.
@@ -87,7 +87,7 @@ module _ {H : Type 0} where
             };
       }
 
-  pub records_by : (at : Level) (hs : List H) (ns : List ℕ) (t : Tables) (owners : List (WithZones H))
+  pub records_by : (at : Level) (hs : List H) (ns : List ℕ) (t : Tables) (owners : List (ZoneOwner H))
       → AreFlat at hs (record { first_bags = ns; bags = t.bags; gens = t.gens; mods = t.mods }) owners
       → AreFlatOf at (head_records hs ns) t owners
   records_by at hs ns t owners are =
@@ -100,14 +100,14 @@ module _ {H : Type 0} where
 
   -- the presets or instruments, or the proof that there are none
   pub answered : (at : Level) (given : List (HeadRecord H)) (hs : List H) (ns : List ℕ) (t : Tables)
-      (r : Option (List (WithZones H)))
+      (r : Option (List (ZoneOwner H)))
       → given ≡ head_records hs ns → length ns ≡ length hs + 1
       → MatchOption r
-      ((owners : List (WithZones H)) → AllByRecursion (IsPlainOwner (target_operator at)) owners
+      ((owners : List (ZoneOwner H)) → AllByRecursion (IsPlainOwner (target_operator at)) owners
       → AreFlat at hs (record { first_bags = ns; bags = t.bags; gens = t.gens; mods = t.mods }) owners → ⊥)
       (λ owners. AreFlat at hs (record { first_bags = ns; bags = t.bags; gens = t.gens; mods = t.mods }) owners)
       → MatchOption r
-      ((owners : List (WithZones H)) → AllByRecursion (IsPlainOwner (target_operator at)) owners
+      ((owners : List (ZoneOwner H)) → AllByRecursion (IsPlainOwner (target_operator at)) owners
       → AreFlatOf at given t owners → ⊥)
       (λ owners. AreFlatOf at given t owners)
   answered at given hs ns t None e size none =
@@ -117,14 +117,14 @@ module _ {H : Type 0} where
       subst (λ rs. AreFlatOf at rs t owners) (sym e) (records_by at hs ns t owners are)
 
   -- no others have the same records
-  pub same_flat : (at : Level) (hs : List (HeadRecord H)) (t : Tables) (owners others : List (WithZones H))
+  pub same_flat : (at : Level) (hs : List (HeadRecord H)) (t : Tables) (owners others : List (ZoneOwner H))
       → AllByRecursion (IsPlainOwner (target_operator at)) owners
       → AllByRecursion (IsPlainOwner (target_operator at)) others
       → AreFlatOf at hs t owners → AreFlatOf at hs t others → owners ≡ others
   same_flat at hs t owners others plain plain_too are are_too =
       let op = target_operator at in
-      let names = map (λ (x : WithZones H). x.head) owners in
-      let names_too = map (λ (x : WithZones H). x.head) others in
+      let names = map (λ (x : ZoneOwner H). x.head) owners in
+      let names_too = map (λ (x : ZoneOwner H). x.head) others in
       let numbers = (lists_of at owners).first_bags in
       let numbers_too = (lists_of at others).first_bags in
       let records = sym are.heads ∙ are_too.heads in
@@ -137,8 +137,8 @@ module _ {H : Type 0} where
       let own_too : owned.AreFlat numbers t (map (bags_of op) others) =
       record { begins = first_bags; records = are_too.records } in
       let bags = same_owners numbers t (map (bags_of op) owners) (map (bags_of op) others) own own_too in
-      let a : AreOf op names (map (bags_of op) owners) owners = record { heads = refl; bags = refl; plain = plain } in
-      let b : AreOf op names_too (map (bags_of op) others) others =
+      let a : RepresentOwners op names (map (bags_of op) owners) owners = record { heads = refl; bags = refl; plain = plain } in
+      let b : RepresentOwners op names_too (map (bags_of op) others) others =
       record { heads = refl; bags = refl; plain = plain_too } in
       sym (read a) ∙ ((λ i. owners_in op (heads i) (bags i)) ∙ read b)
 

@@ -12,7 +12,7 @@ use Rattle.bank_validity.proofs.LimitLaws.{no_limit_of}
 use Rattle.bank_changes.specs.declared.members.Owner.{Owner}
 use Rattle.bank_changes.specs.declared.members.Place.{Place}
 use Rattle.bank_changes.specs.Members.{settings_of, level_of}
-use Rattle.bank_changes.specs.Settings.{own_place_changed, records_there}
+use Rattle.bank_changes.specs.Settings.{owner_place_changed, place_records}
 use Rattle.bank_changes.specs.Totals.{with_records, HasRecords}
 use Rattle.bank_changes.proofs.PlaceLaws.{counted_there, kept_totals}
 use Rattle.bank_changes.proofs.TotalsLaws.{Grow}
@@ -61,15 +61,15 @@ module _ {b inside : Parts} {t : Totals} (view : inside ≡ b) (kept : IsSound i
 
   -- when one place changes, and its records are counted again
   module _ (o : Owner) (at : Place) (there : IsSome (settings_of b o at)) {lvl : Level} (is_level : lvl ≡ level_of o)
-      {before : Records} (had : before ≡ records_there inside o at) where
-    had_before : before ≡ records_there b o at
-    had_before = had ∙ ap (λ b. records_there b o at) view
+      {before : Records} (had : before ≡ place_records inside o at) where
+    had_before : before ≡ place_records b o at
+    had_before = had ∙ ap (λ b. place_records b o at) view
 
     pub has_before : HasRecords lvl t before
     has_before = counted_there b o at there t totals_before lvl is_level before had_before
 
-    pub kept_there : (f : Settings → Settings) {new : Parts} → new ≡ own_place_changed b o at f
-        → IsSound (own_place_changed b o at f) → {after : Records} → after ≡ records_there new o at
+    pub kept_there : (f : Settings → Settings) {new : Parts} → new ≡ owner_place_changed b o at f
+        → IsSound (owner_place_changed b o at f) → {after : Records} → after ≡ place_records new o at
         → {u : Totals}
         → ((now : Totals) → broken now ≡ None → with_records lvl now before ≡ with_records lvl t after → u ≡ now)
         → IsSound new × (u ≡ totals_of new)

@@ -2,7 +2,7 @@
 use Rattle.std.proofs.Common.{◌≤◌, ◌<◌, ◌^◌, List, length, arith}
 use Rattle.generators.specs.declared.level.Level.{Level}
 use Rattle.generators.specs.declared.level.Level.TheVariants as level
-use Rattle.bank_parts.specs.declared.parts.WithZones.{WithZones}
+use Rattle.bank_parts.specs.declared.parts.ZoneOwner.{ZoneOwner}
 use Rattle.bank_parts.specs.declared.parts.Parts.{Parts}
 use Rattle.bank_parts.specs.Valid.{owner_total, zone_count, gen_count, mod_count, IsValid}
 use Rattle.bank_parts.specs.FlatLists.{lists_of, flat_of}
@@ -11,7 +11,7 @@ use Rattle.bank_core.specs.declared.records.Part.{Part}
 use Rattle.bank_core.specs.declared.records.Part.TheVariants as part
 use Rattle.bank_core.specs.Records.{record_count}
 
-few : {H : Type 0} (at : Level) (owners : List (WithZones H)) → length owners ≤ 65535
+few : {H : Type 0} (at : Level) (owners : List (ZoneOwner H)) → length owners ≤ 65535
     → owner_total zone_count owners ≤ 65535 → owner_total gen_count owners ≤ 65535
     → owner_total mod_count owners ≤ 65535
     → (of : Part) → record_count (lists_of at owners) of < 2 ^ 32

@@ -2,7 +2,7 @@
 use Rattle.std.specs.Prelude.{◌≡◌, ℕ, List, [], ◌∷◌, map, Some, None}
 use Rattle.generators.specs.declared.level.Level.{Level}
 use Rattle.flat_records.specs.Bags.{Tables}
-use Rattle.bank_parts.specs.declared.parts.WithZones.{WithZones}
+use Rattle.bank_parts.specs.declared.parts.ZoneOwner.{ZoneOwner}
 use Rattle.bank_parts.specs.FlatLists.{lists_of}
 use Rattle.bank_core.specs.declared.flat_heads.HeadRecord.{HeadRecord}
 
@@ -14,7 +14,7 @@ head_records (h ∷ hs) (n ∷ ns) = record { head = Some h; first_bag = n } ∷
 
 -- these are the heads and records of these presets or instruments
 pub record AreFlatOf {H : Type 0} (at : Level) (hs : List (HeadRecord H)) (t : Tables)
-    (owners : List (WithZones H)) : Type 0 where
+    (owners : List (ZoneOwner H)) : Type 0 where
   pub heads : hs ≡ head_records (map (λ x. x.head) owners) (lists_of at owners).first_bags
   pub records : t
       ≡ record

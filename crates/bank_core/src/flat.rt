@@ -2,7 +2,7 @@
 ghost use Rattle.std.specs.Prelude.{◌≡◌, List, MatchOption, IfSome};
 ghost use Rattle.std.specs.List.{AllByRecursion};
 ghost use Rattle.generators.specs.Levels.{target_operator};
-ghost use Rattle.bank_parts.specs.declared.parts.WithZones.{WithZones};
+ghost use Rattle.bank_parts.specs.declared.parts.ZoneOwner.{ZoneOwner};
 ghost use Rattle.bank_parts.specs.declared.parts.Parts.{Parts as AnyParts};
 ghost use Rattle.bank_parts.specs.Bagged.{IsPlainOwner};
 ghost use Rattle.bank_parts.specs.Sound.{IsSound};
@@ -71,7 +71,7 @@ impl<'a> Bank<'a> {
 // has the operator of targets.
 fn owners_of<H: OwnerHead>(heads: FlatHeads<H>, recs: Recs) -> Option<Owners<H>>
     ensures lists { MatchOption result
-        ((owners : List (WithZones H)) → AllByRecursion (IsPlainOwner (target_operator H.LEVEL)) owners
+        ((owners : List (ZoneOwner H)) → AllByRecursion (IsPlainOwner (target_operator H.LEVEL)) owners
         → ¬ AreFlatOf H.LEVEL heads recs owners)
         (λ owners. AreFlatOf H.LEVEL heads recs owners) }
     ensures plain { IfSome result (λ owners. AllByRecursion (IsPlainOwner (target_operator H.LEVEL)) owners) }

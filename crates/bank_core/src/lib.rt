@@ -18,8 +18,8 @@ mod zones;
 pub use bank::Bank;
 pub use bank_changes::{List, Owner, Place};
 pub use bank_parts::{
-    GlobalZone, Head, InfoId, Instrument, Kind, Owners, Parts, Preset, Sample, Texts, WithZones,
-    Zone, ZonePlace,
+    GlobalZone, Head, InfoId, Instrument, Kind, Owners, Parts, Preset, Sample, Texts, Zone,
+    ZoneOwner, ZonePlace,
 };
 pub use bank_validity::is_valid;
 pub use fault::PartsFault;

@@ -12,7 +12,7 @@ ghost use Rattle.bank_changes.specs.Settings.{gen_set, gen_cleared, mod_added, m
 
 use crate::bank::Bank;
 use bank_changes::{
-    Owner, Place, add_mod, clear_gen, place_of, records_there, recounted, remove_mod, set_gen,
+    Owner, Place, add_mod, clear_gen, place_of, place_records, recounted, remove_mod, set_gen,
     set_mod, with_owners,
 };
 use bank_parts::{OwnerHead, Owners, Records};
@@ -37,9 +37,9 @@ impl<'a> Bank<'a> {
         ensures err { OnErr result (self.new ≡ self.old) }
         ensures needs_no_memory { IsSome (amount_of self.old owner place operator) → IsOk result }
     {
-        let before = records_there(&self.parts, owner, place);
+        let before = place_records(&self.parts, owner, place);
         let was = set_gen(&mut self.parts, owner, place, operator, amount)?;
-        let after = records_there(&self.parts, owner, place);
+        let after = place_records(&self.parts, owner, place);
         self.totals = recounted(self.totals, owner.level(), before, after);
         Ok(was)
     }
@@ -51,9 +51,9 @@ impl<'a> Bank<'a> {
         ensures was { result ≡ amount_of self.old owner place operator }
         ensures change { self.new ≡ gen_cleared self.old owner place operator }
     {
-        let before = records_there(&self.parts, owner, place);
+        let before = place_records(&self.parts, owner, place);
         let was = clear_gen(&mut self.parts, owner, place, operator);
-        let after = records_there(&self.parts, owner, place);
+        let after = place_records(&self.parts, owner, place);
         self.totals = recounted(self.totals, owner.level(), before, after);
         was
     }
@@ -73,9 +73,9 @@ impl<'a> Bank<'a> {
         ensures ok { OnOk result (self.new ≡ mod_added self.old owner place index modulator) }
         ensures err { OnErr result (self.new ≡ self.old) }
     {
-        let before = records_there(&self.parts, owner, place);
+        let before = place_records(&self.parts, owner, place);
         add_mod(&mut self.parts, owner, place, index, modulator)?;
-        let after = records_there(&self.parts, owner, place);
+        let after = place_records(&self.parts, owner, place);
         self.totals = recounted(self.totals, owner.level(), before, after);
         Ok(())
     }
@@ -88,9 +88,9 @@ impl<'a> Bank<'a> {
         ensures value { mod_at self.old owner place index ≡ Some result }
         ensures change { self.new ≡ mod_removed self.old owner place index }
     {
-        let before = records_there(&self.parts, owner, place);
+        let before = place_records(&self.parts, owner, place);
         let modulator = remove_mod(&mut self.parts, owner, place, index);
-        let after = records_there(&self.parts, owner, place);
+        let after = place_records(&self.parts, owner, place);
         self.totals = recounted(self.totals, owner.level(), before, after);
         modulator
     }
@@ -109,9 +109,9 @@ impl<'a> Bank<'a> {
         ensures value { mod_at self.old owner place index ≡ Some result }
         ensures change { self.new ≡ mod_set self.old owner place index modulator }
     {
-        let before = records_there(&self.parts, owner, place);
+        let before = place_records(&self.parts, owner, place);
         let replaced = set_mod(&mut self.parts, owner, place, index, modulator);
-        let after = records_there(&self.parts, owner, place);
+        let after = place_records(&self.parts, owner, place);
         self.totals = recounted(self.totals, owner.level(), before, after);
         replaced
     }
@@ -139,7 +139,7 @@ impl<'a> Bank<'a> {
         requires { IsSome (settings_of self.now owner place) }
         ensures { (amount : ℕ) → result ≡ broken_limit (gen_set self.now owner place operator amount) }
     {
-        let before = records_there(&self.parts, owner, place);
+        let before = place_records(&self.parts, owner, place);
         if self.gen_of(owner, place, operator).is_some() {
             return None;
         }
@@ -156,7 +156,7 @@ impl<'a> Bank<'a> {
         requires { IsSome (settings_of self.now owner place) }
         ensures { (index : ℕ) → (modulator : Modulator) → result ≡ broken_limit (mod_added self.now owner place index modulator) }
     {
-        let before = records_there(&self.parts, owner, place);
+        let before = place_records(&self.parts, owner, place);
         let after = Records {
             zones: zones_at(place),
             gens: before.gens,

@@ -4,7 +4,7 @@ ghost use Rattle.std.specs.Option.{option_map};
 ghost use Rattle.bank_parts.specs.Sound.{IsSound};
 ghost use Rattle.bank_validity.specs.Limits.{broken_limit};
 ghost use Rattle.bank_zone_ranges.specs.Ranges.{low_end, high_end};
-ghost use Rattle.bank_changes.specs.Members.{own_zone_count, zone_of, target_of};
+ghost use Rattle.bank_changes.specs.Members.{owner_zone_count, zone_of, target_of};
 ghost use Rattle.bank_changes.specs.Zones.{zone_added, zone_removed, zone_moved, target_set, can_split, can_join, zone_split, zone_joined, range_of_zone};
 
 use crate::bank::Bank;
@@ -23,7 +23,7 @@ impl<'a> Bank<'a> {
     /// Inserts a zone as number `at` of an owner; its later zones move up by one. If an allocation fails, the bank is
     /// unchanged and the zone is returned.
     pub fn add_zone(&mut self, owner: Owner, at: u32, zone: Zone) -> Result<(), Zone>
-        requires place { IsSomeAnd (own_zone_count self.old owner) (λ count. at ≤ count) }
+        requires place { IsSomeAnd (owner_zone_count self.old owner) (λ count. at ≤ count) }
         requires sound { IsSound (zone_added self.old owner at zone) }
         ensures ok { OnOk result (self.new ≡ zone_added self.old owner at zone) }
         ensures err { OnErr result (self.new ≡ self.old) }
@@ -43,7 +43,7 @@ impl<'a> Bank<'a> {
         owner: Owner,
         zone: u32,
     ) -> Result<Zone, OutOfMemory>
-        requires there { IsSomeAnd (own_zone_count self.old owner) (λ count. zone < count) }
+        requires there { IsSomeAnd (owner_zone_count self.old owner) (λ count. zone < count) }
         requires sound { IsSound (zone_removed self.old owner zone) }
         ensures value { IfOk result (λ removed. zone_of self.old owner zone ≡ Some removed) }
         ensures change { OnOk result (self.new ≡ zone_removed self.old owner zone) }
@@ -56,8 +56,8 @@ impl<'a> Bank<'a> {
 
     /// Moves zone `from` of an owner to number `to`; its other zones keep their order. Allocates nothing.
     pub fn move_zone(&mut self, owner: Owner, from: u32, to: u32)
-        requires there { IsSomeAnd (own_zone_count self.old owner) (λ count. from < count) }
-        requires place { IsSomeAnd (own_zone_count self.old owner) (λ count. to < count) }
+        requires there { IsSomeAnd (owner_zone_count self.old owner) (λ count. from < count) }
+        requires place { IsSomeAnd (owner_zone_count self.old owner) (λ count. to < count) }
         requires sound { IsSound (zone_moved self.old owner from to) }
         ensures { self.new ≡ zone_moved self.old owner from to }
     {
@@ -66,7 +66,7 @@ impl<'a> Bank<'a> {
 
     /// Replaces the target of a zone and returns the old one. Allocates nothing.
     pub fn set_target(&mut self, owner: Owner, zone: u32, target: u16) -> u16
-        requires there { IsSomeAnd (own_zone_count self.old owner) (λ count. zone < count) }
+        requires there { IsSomeAnd (owner_zone_count self.old owner) (λ count. zone < count) }
         requires sound { IsSound (target_set self.old owner zone target) }
         ensures value { target_of self.old owner zone ≡ Some result }
         ensures change { self.new ≡ target_set self.old owner zone target }
@@ -76,14 +76,14 @@ impl<'a> Bank<'a> {
 
     /// The first limit that is broken after this zone is added to an owner. It counts only the zone.
     pub fn broken_with_zone(&self, owner: Owner, zone: &Zone) -> Option<Limit>
-        ensures { (at : ℕ) → IsSomeAnd (own_zone_count self.now owner) (λ count. at ≤ count) → result ≡ broken_limit (zone_added self.now owner at zone.now) }
+        ensures { (at : ℕ) → IsSomeAnd (owner_zone_count self.now owner) (λ count. at ≤ count) → result ≡ broken_limit (zone_added self.now owner at zone.now) }
     {
         broken_with_records(self.totals, owner.level(), zone.records())
     }
 
     /// The effective key or velocity range of a zone: its own, else that of its global zone, else 0 to 127.
     pub fn zone_range(&self, owner: Owner, zone: u32, axis: Axis) -> Range
-        requires { IsSomeAnd (own_zone_count self.now owner) (λ count. zone < count) }
+        requires { IsSomeAnd (owner_zone_count self.now owner) (λ count. zone < count) }
         ensures low { option_map low_end (range_of_zone self.now owner zone axis) ≡ Some result.low }
         ensures high { option_map high_end (range_of_zone self.now owner zone axis) ≡ Some result.high }
     {
@@ -98,7 +98,7 @@ impl<'a> Bank<'a> {
         ensures { result ≡ can_split self.now owner zone axis at }
     {
         with_owners!(&self.parts, owner, |owners, number| {
-            bank_zone_ranges::splits(owners, number, zone, axis, at)
+            bank_zone_ranges::is_splittable(owners, number, zone, axis, at)
         })
     }
 
@@ -109,7 +109,7 @@ impl<'a> Bank<'a> {
         ensures { result ≡ can_join self.now owner zone axis keep }
     {
         with_owners!(&self.parts, owner, |owners, number| {
-            bank_zone_ranges::joins(owners, number, zone, axis, keep)
+            bank_zone_ranges::is_joinable(owners, number, zone, axis, keep)
         })
     }
 
@@ -157,7 +157,7 @@ impl<'a> Bank<'a> {
 
     /// The first limit that is broken after a zone is split. It counts only the zone.
     pub fn broken_with_split(&self, owner: Owner, zone: u32, axis: Axis) -> Option<Limit>
-        requires { IsSomeAnd (own_zone_count self.now owner) (λ count. zone < count) }
+        requires { IsSomeAnd (owner_zone_count self.now owner) (λ count. zone < count) }
         ensures { (at : ℕ) → can_split self.now owner zone axis at ≡ true → result ≡ broken_limit (zone_split self.now owner zone axis at) }
     {
         let more = split_records(&self.parts, owner, zone, axis);

@@ -25,7 +25,7 @@ accepted_on n b s rest h = rw h refl
 module _ (n : ℕ) (first now changed : Parts) (steps inverses : List Step) (s back : Step) where
   next_done : (rest : List Step) → SoFar n first now steps (s ∷ rest) inverses → IsStepDone now changed s back
       → SoFar (suc n) first changed steps rest (inverses ++ back ∷ [])
-  next_done rest so done = rw (done.changed, done.taken_back) (record {
+  next_done rest so done = rw (done.changed, done.back_is_inverse) (record {
     refused = so.refused ∙ accepted_on n now s rest done.accepted;
     changed = so.changed;
     undone = so.undone

@@ -6,7 +6,7 @@ use Rattle.sf_base.specs.Names.{IsName}
 use Rattle.base_numbered_lists.proofs.Lists.{slice_get-found, slice_get-insert, slice_get-changed, length-changed}
 use Rattle.base_numbered_lists.proofs.Lists.{changed-back}
 use Rattle.generators.specs.declared.level.Level.TheVariants as level
-use Rattle.bank_parts.specs.declared.parts.WithZones.{WithZones}
+use Rattle.bank_parts.specs.declared.parts.ZoneOwner.{ZoneOwner}
 use Rattle.bank_parts.specs.declared.parts.Parts.{Parts}
 use Rattle.bank_parts.specs.Owners.{with_head, head_at}
 use Rattle.bank_parts.specs.Valid.{IsInstrument}
@@ -27,7 +27,7 @@ use Rattle.edit_refusals.proofs.OwnerLaws.{tests_add}
 use Rattle.edit_refusals.proofs.InstrumentLaws.{instrument_goes, sound_add_instrument, instrument_comes}
 use Rattle.edit_refusals.proofs.InstrumentLaws.{sound_remove_instrument, there_of_rename_instrument}
 use Rattle.edit_refusals.proofs.InstrumentLaws.{moves_instrument, sound_move_instrument}
-use Rattle.bank_edits.proofs.UndoneBy.{IsTaken, IsUndone, undone_by}
+use Rattle.bank_edits.proofs.UndoneBy.{IsAccepted, IsUndone, undone_by}
 use Rattle.edit_forms.specs.declared.instruments.InstrumentStep.{InstrumentStep}
 use Rattle.edit_forms.specs.Steps.{inverse}
 
@@ -39,8 +39,8 @@ inverse_of_rename_instrument b i name old e = rw e refl
 
 -- ---- add-inst
 
-pub undone_add_instrument : (b : Parts) (i : ℕ) (x : WithZones (List ℕ)) → IsSound b
-    → IsTaken b (steps.Instrument (AddInstrument i x)) → IsUndone b (steps.Instrument (AddInstrument i x))
+pub undone_add_instrument : (b : Parts) (i : ℕ) (x : ZoneOwner (List ℕ)) → IsSound b
+    → IsAccepted b (steps.Instrument (AddInstrument i x)) → IsUndone b (steps.Instrument (AddInstrument i x))
 undone_add_instrument b i x s t =
     let le = (instrument_goes b i x t.fits.1 t.accepted).place in
     let size = length-insert b.instruments i x le in
@@ -59,7 +59,7 @@ undone_add_instrument b i x s t =
 
 -- ---- remove-inst
 
-pub undone_remove_instrument : (b : Parts) (i : ℕ) → IsSound b → IsTaken b (steps.Instrument (RemoveInstrument i))
+pub undone_remove_instrument : (b : Parts) (i : ℕ) → IsSound b → IsAccepted b (steps.Instrument (RemoveInstrument i))
     → IsUndone b (steps.Instrument (RemoveInstrument i))
 undone_remove_instrument b i s t =
     let c = instrument_comes b i (accepted b (steps.Instrument (RemoveInstrument i)) t.accepted).tests in
@@ -81,7 +81,7 @@ undone_remove_instrument b i s t =
 -- ---- rename-inst
 
 pub undone_rename_instrument : (b : Parts) (i : ℕ) (name : List ℕ) → IsSound b
-    → IsTaken b (steps.Instrument (RenameInstrument i name))
+    → IsAccepted b (steps.Instrument (RenameInstrument i name))
     → IsUndone b (steps.Instrument (RenameInstrument i name))
 undone_rename_instrument b i name s t =
     let lt = there_of_rename_instrument b i name t.accepted in
@@ -93,14 +93,14 @@ undone_rename_instrument b i name s t =
       fits = (t.fits.0, (all_found (FitsOwner IsName) b.instruments i x e s.fits.instruments).head);
       tests = (not_below (length (instrument_renamed b i name).instruments) i (omega (arith, same, lt)), tt);
       restored =
-          ap (λ (instruments : List (WithZones (List ℕ))). record b { instruments = instruments })
+          ap (λ (instruments : List (ZoneOwner (List ℕ))). record b { instruments = instruments })
           (changed-back b.instruments i (with_head name) (with_head x.head) x e refl);
       redone = let now = slice_get-changed b.instruments i (with_head name) x e in rw now refl;
     })
 
 -- ---- move-inst
 
-pub undone_move_instrument : (b : Parts) (i j : ℕ) → IsSound b → IsTaken b (steps.Instrument (MoveInstrument i j))
+pub undone_move_instrument : (b : Parts) (i j : ℕ) → IsSound b → IsAccepted b (steps.Instrument (MoveInstrument i j))
     → IsUndone b (steps.Instrument (MoveInstrument i j))
 undone_move_instrument b i j s t =
     let m = moves_instrument b i j t.accepted in
@@ -116,7 +116,7 @@ undone_move_instrument b i j s t =
 
 -- ---- all these forms
 
-pub undone_instrument : (b : Parts) (s : InstrumentStep) → IsSound b → IsTaken b (steps.Instrument s)
+pub undone_instrument : (b : Parts) (s : InstrumentStep) → IsSound b → IsAccepted b (steps.Instrument s)
     → IsUndone b (steps.Instrument s)
 undone_instrument b (AddInstrument i x) = undone_add_instrument b i x
 undone_instrument b (RemoveInstrument i) = undone_remove_instrument b i

@@ -12,11 +12,11 @@ use Rattle.edit_refusals.specs.declared.refusal.Refusal.TheVariants.{Of}
 use Rattle.edit_forms.specs.Steps.{raw, refusal}
 use Rattle.edit_refusals.specs.Edits.{or_later, first_refused}
 use Rattle.edit_forms.specs.Steps.{inverse}
-use Rattle.bank_edits.specs.Undoing.{AllTakenBy}
+use Rattle.bank_edits.specs.Undoing.{AllAcceptedBy}
 use Rattle.bank_edits.specs.Undone as edits
-use Rattle.bank_edits.proofs.UndoneBy.{IsTaken}
+use Rattle.bank_edits.proofs.UndoneBy.{IsAccepted}
 use Rattle.bank_edits.proofs.StepLaw.{undone_step}
-use Rattle.bank_edits.proofs.SequenceLaw.{row_undone}
+use Rattle.bank_edits.proofs.SequenceLaw.{sequence_undone}
 
 -- ---- one step
 
@@ -26,26 +26,26 @@ no_cause (Some cause) h = cc
 
 -- ---- a group is accepted if each step is accepted on the bank after the steps before it
 
-abbrev StepsTaken : Parts → List Step → Type 0
-StepsTaken = AllTakenBy raw IsTaken
+abbrev StepsAccepted : Parts → List Step → Type 0
+StepsAccepted = AllAcceptedBy raw IsAccepted
 
 none_of_both : (n : ℕ) (c : Option Cause) (later : Option Refusal) → or_later n c later ≡ None
     → (c ≡ None) × (later ≡ None)
 none_of_both n None later h = (refl, h)
 none_of_both n (Some cause) later h = cc
 
-steps_taken : (n : ℕ) (b : Parts) (group : List Step) → AllByRecursion FitsStep group
-    → first_refused n b group ≡ None → StepsTaken b group
-steps_taken n b [] fits accepted = tt
-steps_taken n b (s ∷ group) fits accepted =
+steps_accepted : (n : ℕ) (b : Parts) (group : List Step) → AllByRecursion FitsStep group
+    → first_refused n b group ≡ None → StepsAccepted b group
+steps_accepted n b [] fits accepted = tt
+steps_accepted n b (s ∷ group) fits accepted =
     let none = none_of_both n (refusal b s) (first_refused (suc n) (raw b s) group) accepted in
-    (record { fits = fits.0; accepted = none.0 }, steps_taken (suc n) (raw b s) group fits.1 none.1)
+    (record { fits = fits.0; accepted = none.0 }, steps_accepted (suc n) (raw b s) group fits.1 none.1)
 
-group_fits : (b : Parts) (group : List Step) → StepsTaken b group → AllByRecursion FitsStep group
+group_fits : (b : Parts) (group : List Step) → StepsAccepted b group → AllByRecursion FitsStep group
 group_fits b [] t = tt
 group_fits b (s ∷ group) t = (t.0.fits, group_fits (raw b s) group t.1)
 
-group_accepted : (n : ℕ) (b : Parts) (group : List Step) → StepsTaken b group → first_refused n b group ≡ None
+group_accepted : (n : ℕ) (b : Parts) (group : List Step) → StepsAccepted b group → first_refused n b group ≡ None
 group_accepted n b [] t = refl
 group_accepted n b (s ∷ group) t = let here = t.0.accepted in rw here (group_accepted (suc n) (raw b s) group t.1)
 
@@ -56,15 +56,15 @@ undone b (One s) sound t =
     let u = undone_step b s sound (record { fits = t.fits; accepted = no_cause (refusal b s) t.accepted }) in
     record {
       sound = u.sound;
-      taken = record { fits = u.taken.fits; accepted = ap (option_map Of) u.taken.accepted };
+      is_accepted = record { fits = u.is_accepted.fits; accepted = ap (option_map Of) u.is_accepted.accepted };
       restored = u.restored;
       redone = ap One u.redone;
     }
 undone b (Group group) sound t =
-    let u = row_undone raw inverse IsTaken undone_step b group sound (steps_taken 0 b group t.fits t.accepted) in
+    let u = sequence_undone raw inverse IsAccepted undone_step b group sound (steps_accepted 0 b group t.fits t.accepted) in
     record {
       sound = u.sound;
-      taken = record { fits = group_fits _ _ u.taken; accepted = group_accepted 0 _ _ u.taken };
+      is_accepted = record { fits = group_fits _ _ u.is_accepted; accepted = group_accepted 0 _ _ u.is_accepted };
       restored = u.restored;
       redone = ap Group u.redone;
     }

@@ -8,7 +8,7 @@ use Rattle.bank_parts.specs.declared.parts.Kind.{Kind}
 use Rattle.bank_parts.specs.declared.parts.Sample.{Sample}
 use Rattle.bank_parts.specs.declared.parts.Parts.{Parts}
 use Rattle.bank_parts.specs.Sound.{IsSound}
-use Rattle.bank_changes.specs.Points.{points_of, loop_of, trimmed, extended, looped_as, of_kind, tuned}
+use Rattle.bank_changes.specs.Points.{points_of, loop_of, trimmed, extended, with_loop, with_kind, with_tune}
 use Rattle.bank_changes.specs.Points.{sample_trimmed, sample_extended, loop_set, kind_set, tune_set}
 use Rattle.bank_changes.proofs.PointLaws.{OutsideLoop, there_valid, there_fits, length-sample_changed}
 use Rattle.bank_changes.proofs.PointLaws.{length-extended, few_points, length-front, length-back, trim_returned}
@@ -19,7 +19,7 @@ use Rattle.edit_refusals.proofs.Accepted.{accepted, not_below}
 use Rattle.edit_refusals.proofs.PointLaws.{trims, tests_trim, sound_trim, there_of_extend, sound_extend, loops}
 use Rattle.edit_refusals.proofs.PointLaws.{tests_loop, sound_loop, links, tests_kind, sound_kind, there_of_tune}
 use Rattle.edit_refusals.proofs.PointLaws.{sound_tune}
-use Rattle.bank_edits.proofs.UndoneBy.{IsTaken, IsUndone, undone_by}
+use Rattle.bank_edits.proofs.UndoneBy.{IsAccepted, IsUndone, undone_by}
 use Rattle.edit_forms.specs.declared.points.PointStep.{PointStep}
 use Rattle.std.specs.Prelude.{slice_get, IfSome}
 use Rattle.edit_forms.specs.Steps.{inverse}
@@ -60,7 +60,7 @@ last_fit points n h =
     let P : ℕ → Type 0 = λ p. p < 2 ^ 16 in
     recursion_from_All P (drop n points) (All-drop P n points (All-from_recursion P points h))
 
-pub undone_trim : (b : Parts) (i front back : ℕ) → IsSound b → IsTaken b (steps.Points i (Trim front back))
+pub undone_trim : (b : Parts) (i front back : ℕ) → IsSound b → IsAccepted b (steps.Points i (Trim front back))
     → IsUndone b (steps.Points i (Trim front back))
 undone_trim b i front back s t =
     let c = trims b i front back (accepted b (steps.Points i (Trim front back)) t.accepted).tests in
@@ -87,7 +87,7 @@ undone_trim b i front back s t =
 -- ---- extend
 
 pub undone_extend : (b : Parts) (i : ℕ) (front back : List ℕ) → IsSound b
-    → IsTaken b (steps.Points i (Extend front back)) → IsUndone b (steps.Points i (Extend front back))
+    → IsAccepted b (steps.Points i (Extend front back)) → IsUndone b (steps.Points i (Extend front back))
 undone_extend b i front back s t =
     let lt = there_of_extend b i front back t.accepted in
     let (x, e) = slice_get-found b.samples i lt in
@@ -118,13 +118,13 @@ undone_extend b i front back s t =
 -- ---- set-loop
 
 pub undone_set_loop : (b : Parts) (i : ℕ) (looped : Option (ℕ × ℕ)) → IsSound b
-    → IsTaken b (steps.Points i (SetLoop looped)) → IsUndone b (steps.Points i (SetLoop looped))
+    → IsAccepted b (steps.Points i (SetLoop looped)) → IsUndone b (steps.Points i (SetLoop looped))
 undone_set_loop b i looped s t =
     let l = loops b i looped (accepted b (steps.Points i (SetLoop looped)) t.accepted).tests in
     let lt = l.there in
     let (x, e) = slice_get-found b.samples i lt in
-    let then_is = slice_get-changed b.samples i (looped_as looped) x e in
-    let size = length-sample_changed b i (looped_as looped) x e in
+    let then_is = slice_get-changed b.samples i (with_loop looped) x e in
+    let size = length-sample_changed b i (with_loop looped) x e in
     let v = there_valid b i x e s in
     let g = there_fits b i x e s in
     undone_by b (steps.Points i (SetLoop looped)) (steps.Points i (SetLoop x.looped)) s (record {
@@ -136,20 +136,20 @@ undone_set_loop b i looped s t =
           (record { there = omega (arith, size, lt); inside = rw then_is v.looped });
       restored =
           ap (λ (samples : List Sample). record b { samples = samples })
-          (changed-back b.samples i (looped_as looped) (looped_as x.looped) x e refl);
+          (changed-back b.samples i (with_loop looped) (with_loop x.looped) x e refl);
       redone = rw then_is refl;
     })
 
 -- ---- set-kind
 
-pub undone_set_kind : (b : Parts) (i : ℕ) (kind : Kind) → IsSound b → IsTaken b (steps.Points i (SetKind kind))
+pub undone_set_kind : (b : Parts) (i : ℕ) (kind : Kind) → IsSound b → IsAccepted b (steps.Points i (SetKind kind))
     → IsUndone b (steps.Points i (SetKind kind))
 undone_set_kind b i kind s t =
     let l = links b i kind (accepted b (steps.Points i (SetKind kind)) t.accepted).tests in
     let lt = l.there in
     let (x, e) = slice_get-found b.samples i lt in
-    let then_is = slice_get-changed b.samples i (of_kind kind) x e in
-    let size = length-sample_changed b i (of_kind kind) x e in
+    let then_is = slice_get-changed b.samples i (with_kind kind) x e in
+    let size = length-sample_changed b i (with_kind kind) x e in
     let v = there_valid b i x e s in
     let g = there_fits b i x e s in
     undone_by b (steps.Points i (SetKind kind)) (steps.Points i (SetKind x.kind)) s (record {
@@ -161,20 +161,20 @@ undone_set_kind b i kind s t =
           (record { there = omega (arith, size, lt); link = rw size v.kind });
       restored =
           ap (λ (samples : List Sample). record b { samples = samples })
-          (changed-back b.samples i (of_kind kind) (of_kind x.kind) x e refl);
+          (changed-back b.samples i (with_kind kind) (with_kind x.kind) x e refl);
       redone = rw then_is refl;
     })
 
 -- ---- set-tune
 
 pub undone_set_tune : (b : Parts) (i rate key : ℕ) (correction : ℤ) → IsSound b
-    → IsTaken b (steps.Points i (SetTune rate key correction))
+    → IsAccepted b (steps.Points i (SetTune rate key correction))
     → IsUndone b (steps.Points i (SetTune rate key correction))
 undone_set_tune b i rate key correction s t =
     let lt = there_of_tune b i rate key correction t.accepted in
     let (x, e) = slice_get-found b.samples i lt in
-    let then_is = slice_get-changed b.samples i (tuned rate key correction) x e in
-    let size = length-sample_changed b i (tuned rate key correction) x e in
+    let then_is = slice_get-changed b.samples i (with_tune rate key correction) x e in
+    let size = length-sample_changed b i (with_tune rate key correction) x e in
     let g = there_fits b i x e s in
     undone_by b (steps.Points i (SetTune rate key correction)) (steps.Points i
     (SetTune x.rate x.key x.correction)) s (record {
@@ -184,13 +184,13 @@ undone_set_tune b i rate key correction s t =
       tests = (not_below (length (tune_set b i rate key correction).samples) i (omega (arith, size, lt)), tt);
       restored =
           ap (λ (samples : List Sample). record b { samples = samples })
-          (changed-back b.samples i (tuned rate key correction) (tuned x.rate x.key x.correction) x e refl);
+          (changed-back b.samples i (with_tune rate key correction) (with_tune x.rate x.key x.correction) x e refl);
       redone = rw then_is refl;
     })
 
 -- ---- all these forms
 
-pub undone_points : (b : Parts) (i : ℕ) (s : PointStep) → IsSound b → IsTaken b (steps.Points i s)
+pub undone_points : (b : Parts) (i : ℕ) (s : PointStep) → IsSound b → IsAccepted b (steps.Points i s)
     → IsUndone b (steps.Points i s)
 undone_points b i (Trim front back) = undone_trim b i front back
 undone_points b i (Extend front back) = undone_extend b i front back

@@ -5,7 +5,7 @@ use Rattle.std.specs.Prelude.{slice_get}
 use Rattle.base_numbered_lists.proofs.Lists.{slice_get-found, slice_get-insert}
 use Rattle.generators.specs.declared.level.Level.TheVariants as level
 use Rattle.bank_parts.specs.declared.parts.Head.{Head}
-use Rattle.bank_parts.specs.declared.parts.WithZones.{WithZones}
+use Rattle.bank_parts.specs.declared.parts.ZoneOwner.{ZoneOwner}
 use Rattle.bank_parts.specs.declared.parts.Parts.{Parts}
 use Rattle.bank_parts.specs.Valid.{IsPreset}
 use Rattle.bank_parts.specs.Fits.{FitsHead, FitsOwner}
@@ -23,7 +23,7 @@ use Rattle.edit_refusals.proofs.Moves.{tests_move, moves_back}
 use Rattle.edit_refusals.proofs.OwnerLaws.{tests_add}
 use Rattle.edit_refusals.proofs.PresetLaws.{preset_goes, sound_add_preset, there_of_remove_preset}
 use Rattle.edit_refusals.proofs.PresetLaws.{sound_remove_preset, moves_preset, sound_move_preset, there_of_set_head}
-use Rattle.bank_edits.proofs.UndoneBy.{IsTaken, IsUndone, undone_by}
+use Rattle.bank_edits.proofs.UndoneBy.{IsAccepted, IsUndone, undone_by}
 use Rattle.edit_forms.specs.declared.presets.PresetStep.{PresetStep}
 use Rattle.bank_parts.specs.Owners.{head_at}
 use Rattle.edit_forms.specs.Steps.{inverse}
@@ -37,8 +37,8 @@ inverse_of_set_head b i name number bank old e = rw e refl
 
 -- ---- add-preset
 
-pub undone_add_preset : (b : Parts) (i : ℕ) (p : WithZones Head) → IsSound b
-    → IsTaken b (steps.Preset (AddPreset i p)) → IsUndone b (steps.Preset (AddPreset i p))
+pub undone_add_preset : (b : Parts) (i : ℕ) (p : ZoneOwner Head) → IsSound b
+    → IsAccepted b (steps.Preset (AddPreset i p)) → IsUndone b (steps.Preset (AddPreset i p))
 undone_add_preset b i p s t =
     let le = (preset_goes b i p t.fits.1 t.accepted).place in
     let size = length-insert b.presets i p le in
@@ -54,7 +54,7 @@ undone_add_preset b i p s t =
 
 -- ---- remove-preset
 
-pub undone_remove_preset : (b : Parts) (i : ℕ) → IsSound b → IsTaken b (steps.Preset (RemovePreset i))
+pub undone_remove_preset : (b : Parts) (i : ℕ) → IsSound b → IsAccepted b (steps.Preset (RemovePreset i))
     → IsUndone b (steps.Preset (RemovePreset i))
 undone_remove_preset b i s t =
     let lt = there_of_remove_preset b i t.accepted in
@@ -74,7 +74,7 @@ undone_remove_preset b i s t =
 
 -- ---- move-preset
 
-pub undone_move_preset : (b : Parts) (i j : ℕ) → IsSound b → IsTaken b (steps.Preset (MovePreset i j))
+pub undone_move_preset : (b : Parts) (i j : ℕ) → IsSound b → IsAccepted b (steps.Preset (MovePreset i j))
     → IsUndone b (steps.Preset (MovePreset i j))
 undone_move_preset b i j s t =
     let m = moves_preset b i j t.accepted in
@@ -91,7 +91,7 @@ undone_move_preset b i j s t =
 -- ---- set-head
 
 pub undone_set_head : (b : Parts) (i : ℕ) (name : List ℕ) (number bank : ℕ) → IsSound b
-    → IsTaken b (steps.Preset (SetHead i name number bank)) → IsUndone b (steps.Preset (SetHead i name number bank))
+    → IsAccepted b (steps.Preset (SetHead i name number bank)) → IsUndone b (steps.Preset (SetHead i name number bank))
 undone_set_head b i name number bank s t =
     let lt = there_of_set_head b i name number bank t.accepted in
     let (x, e) = slice_get-found b.presets i lt in
@@ -109,7 +109,7 @@ undone_set_head b i name number bank s t =
 
 -- ---- all these forms
 
-pub undone_preset : (b : Parts) (s : PresetStep) → IsSound b → IsTaken b (steps.Preset s) → IsUndone b (steps.Preset s)
+pub undone_preset : (b : Parts) (s : PresetStep) → IsSound b → IsAccepted b (steps.Preset s) → IsUndone b (steps.Preset s)
 undone_preset b (AddPreset i p) = undone_add_preset b i p
 undone_preset b (RemovePreset i) = undone_remove_preset b i
 undone_preset b (MovePreset i j) = undone_move_preset b i j

@@ -23,7 +23,7 @@ use Rattle.edit_refusals.proofs.SampleLaws.{there_of_rename, goes_in, tests_add,
 use Rattle.edit_refusals.proofs.SampleLaws.{moves_sample, sound_move_sample}
 use Rattle.edit_forms.specs.declared.cause.Cause.TheVariants.{NoSuchSample}
 use Rattle.edit_refusals.proofs.Moves.{tests_move, moves_back}
-use Rattle.bank_edits.proofs.UndoneBy.{IsTaken, IsUndone, undone_by}
+use Rattle.bank_edits.proofs.UndoneBy.{IsAccepted, IsUndone, undone_by}
 use Rattle.edit_forms.specs.declared.samples.SampleStep.{SampleStep}
 use Rattle.edit_forms.specs.Steps.{inverse}
 
@@ -39,7 +39,7 @@ inverse_of_rename b i name old lt h =
 
 -- ---- rename-sample
 
-pub undone_rename : (b : Parts) (i : ℕ) (name : List ℕ) → IsSound b → IsTaken b (steps.Sample (RenameSample i name))
+pub undone_rename : (b : Parts) (i : ℕ) (name : List ℕ) → IsSound b → IsAccepted b (steps.Sample (RenameSample i name))
     → IsUndone b (steps.Sample (RenameSample i name))
 undone_rename b i name s t =
     let lt = there_of_rename b i name t.accepted in
@@ -58,7 +58,7 @@ undone_rename b i name s t =
 
 -- ---- add-sample
 
-pub undone_add : (b : Parts) (i : ℕ) (x : Sample) → IsSound b → IsTaken b (steps.Sample (AddSample i x))
+pub undone_add : (b : Parts) (i : ℕ) (x : Sample) → IsSound b → IsAccepted b (steps.Sample (AddSample i x))
     → IsUndone b (steps.Sample (AddSample i x))
 undone_add b i x s t =
     let g = goes_in b i x (accepted b (steps.Sample (AddSample i x)) t.accepted).tests in
@@ -82,7 +82,7 @@ undone_add b i x s t =
 
 -- ---- remove-sample
 
-pub undone_remove : (b : Parts) (i : ℕ) → IsSound b → IsTaken b (steps.Sample (RemoveSample i))
+pub undone_remove : (b : Parts) (i : ℕ) → IsSound b → IsAccepted b (steps.Sample (RemoveSample i))
     → IsUndone b (steps.Sample (RemoveSample i))
 undone_remove b i s t =
     let c = comes_out b i (accepted b (steps.Sample (RemoveSample i)) t.accepted).tests in
@@ -106,7 +106,7 @@ undone_remove b i s t =
 
 -- ---- move-sample
 
-pub undone_move_sample : (b : Parts) (i j : ℕ) → IsSound b → IsTaken b (steps.Sample (MoveSample i j))
+pub undone_move_sample : (b : Parts) (i j : ℕ) → IsSound b → IsAccepted b (steps.Sample (MoveSample i j))
     → IsUndone b (steps.Sample (MoveSample i j))
 undone_move_sample b i j s t =
     let m = moves_sample b i j t.accepted in
@@ -122,7 +122,7 @@ undone_move_sample b i j s t =
 
 -- ---- all these forms
 
-pub undone_sample : (b : Parts) (s : SampleStep) → IsSound b → IsTaken b (steps.Sample s) → IsUndone b (steps.Sample s)
+pub undone_sample : (b : Parts) (s : SampleStep) → IsSound b → IsAccepted b (steps.Sample s) → IsUndone b (steps.Sample s)
 undone_sample b (RenameSample i name) = undone_rename b i name
 undone_sample b (AddSample i s) = undone_add b i s
 undone_sample b (RemoveSample i) = undone_remove b i

@@ -5,7 +5,7 @@ use Rattle.std.specs.FinMap as map
 use Rattle.generators.specs.Gens.{FitsEntry}
 use Rattle.generators.proofs.EntryLaws.{set_is_entry}
 use Rattle.bank_parts.specs.declared.parts.Head.{Head}
-use Rattle.bank_parts.specs.declared.parts.WithZones.{WithZones}
+use Rattle.bank_parts.specs.declared.parts.ZoneOwner.{ZoneOwner}
 use Rattle.bank_parts.specs.declared.parts.Parts.{Parts}
 use Rattle.bank_parts.specs.Settings.{Settings, with_gens}
 use Rattle.bank_parts.specs.Valid.{IsGenerator}
@@ -16,7 +16,7 @@ use Rattle.bank_changes.specs.declared.members.Owner.{Owner}
 use Rattle.bank_changes.specs.declared.members.Owner.TheVariants as owner
 use Rattle.bank_changes.specs.declared.members.Place.{Place}
 use Rattle.bank_changes.specs.Members.{zone_place, level_of, amount_of, settings_of, mods_of, mod_at}
-use Rattle.bank_changes.specs.Settings.{own_place_changed, gen_set, gen_cleared, mod_added, mod_removed, mod_set}
+use Rattle.bank_changes.specs.Settings.{owner_place_changed, gen_set, gen_cleared, mod_added, mod_removed, mod_set}
 use Rattle.bank_changes.proofs.Changes.{all_found}
 use Rattle.bank_changes.proofs.PlaceLaws.{place_there, gens_of_sound, settings_fit}
 use Rattle.bank_changes.proofs.SettingLaws.{amount_found}
@@ -25,11 +25,11 @@ use Rattle.edit_forms.specs.declared.step.Step.TheVariants as steps
 use Rattle.edit_refusals.proofs.Accepted.{accepted}
 use Rattle.edit_refusals.proofs.PlaceLaws.{some_settings, owner_stays_there, place_stays_there, mods_found}
 use Rattle.edit_refusals.proofs.SettingLaws.{AllowsThere, settings_allowed, GenGoes, gen_goes, tests_set_gen}
-use Rattle.edit_refusals.proofs.SettingLaws.{sound_set_gen, gen_comes, tests_clear_gen, sound_clear_gen, mods_sent}
+use Rattle.edit_refusals.proofs.SettingLaws.{sound_set_gen, gen_comes, tests_clear_gen, sound_clear_gen, mods_changed}
 use Rattle.edit_refusals.proofs.SettingLaws.{still_no_link, none_inserted, none_left, none_exchanged, plain_found}
 use Rattle.edit_refusals.proofs.SettingLaws.{mod_goes, sound_add_mod, tests_add_mod, mod_comes, sound_remove_mod}
 use Rattle.edit_refusals.proofs.SettingLaws.{tests_remove_mod, mod_changes, sound_set_mod, tests_set_mod}
-use Rattle.bank_edits.proofs.UndoneBy.{IsTaken, IsUndone, undone_by}
+use Rattle.bank_edits.proofs.UndoneBy.{IsAccepted, IsUndone, undone_by}
 use Rattle.std.proofs.lemmas.List.Edits.{length-insert, length-remove}
 use Rattle.std.specs.Prelude.{slice_get, slice_set, IsSomeAnd}
 use Rattle.std.specs.Option.{option_and_then}
@@ -69,7 +69,7 @@ module _ (b : Parts) (o : Owner) (at : Place) (op was : ℕ) (sound : IsSound b)
 -- ---- the place after a change
 
 still_allows : (b : Parts) (o : Owner) (at : Place) (op : ℕ) (f : Settings → Settings) → AllowsThere b o at op
-    → AllowsThere (own_place_changed b o at f) o at op
+    → AllowsThere (owner_place_changed b o at f) o at op
 still_allows b o at op f h = record {
   owner = owner_stays_there b o at f h.owner;
   zone = place_stays_there b o at f h.zone;
@@ -96,38 +96,38 @@ read_cleared b (owner.Inst i) at op = gen_cleared_read b.instruments i (zone_pla
 restored_set : (b : Parts) (o : Owner) (at : Place) (op was amount : ℕ) → amount_of b o at op ≡ Some was
     → gen_set (gen_set b o at op amount) o at op was ≡ b
 restored_set b (owner.Preset p) at op was amount e =
-    ap (λ (presets : List (WithZones Head)). record b { presets = presets })
+    ap (λ (presets : List (ZoneOwner Head)). record b { presets = presets })
     (gen_set_back b.presets p (zone_place at) op was amount e)
 restored_set b (owner.Inst i) at op was amount e =
-    ap (λ (instruments : List (WithZones (List ℕ))). record b { instruments = instruments })
+    ap (λ (instruments : List (ZoneOwner (List ℕ))). record b { instruments = instruments })
     (gen_set_back b.instruments i (zone_place at) op was amount e)
 
 restored_new : (b : Parts) (o : Owner) (at : Place) (op amount : ℕ) → AllowsThere b o at op
     → amount_of b o at op ≡ None → gen_cleared (gen_set b o at op amount) o at op ≡ b
 restored_new b (owner.Preset p) at op amount h none =
     let (s, e) = settings_allowed b (owner.Preset p) at op h in
-    ap (λ (presets : List (WithZones Head)). record b { presets = presets })
+    ap (λ (presets : List (ZoneOwner Head)). record b { presets = presets })
     (gen_set_cleared b.presets p (zone_place at) op amount
     (place_there b.presets p (zone_place at) (some_settings b (owner.Preset p) at s e)) none)
 restored_new b (owner.Inst i) at op amount h none =
     let (s, e) = settings_allowed b (owner.Inst i) at op h in
-    ap (λ (instruments : List (WithZones (List ℕ))). record b { instruments = instruments })
+    ap (λ (instruments : List (ZoneOwner (List ℕ))). record b { instruments = instruments })
     (gen_set_cleared b.instruments i (zone_place at) op amount
     (place_there b.instruments i (zone_place at) (some_settings b (owner.Inst i) at s e)) none)
 
 restored_cleared : (b : Parts) (o : Owner) (at : Place) (op was : ℕ) → amount_of b o at op ≡ Some was
     → gen_set (gen_cleared b o at op) o at op was ≡ b
 restored_cleared b (owner.Preset p) at op was e =
-    ap (λ (presets : List (WithZones Head)). record b { presets = presets })
+    ap (λ (presets : List (ZoneOwner Head)). record b { presets = presets })
     (gen_cleared_undone b.presets p (zone_place at) op was e)
 restored_cleared b (owner.Inst i) at op was e =
-    ap (λ (instruments : List (WithZones (List ℕ))). record b { instruments = instruments })
+    ap (λ (instruments : List (ZoneOwner (List ℕ))). record b { instruments = instruments })
     (gen_cleared_undone b.instruments i (zone_place at) op was e)
 
 -- ---- set-gen
 
 pub undone_set_gen : (b : Parts) (o : Owner) (at : Place) (op amount : ℕ) → IsSound b
-    → IsTaken b (steps.Setting o at (SetGen op amount)) → IsUndone b (steps.Setting o at (SetGen op amount))
+    → IsAccepted b (steps.Setting o at (SetGen op amount)) → IsUndone b (steps.Setting o at (SetGen op amount))
 undone_set_gen b o at op amount s t = by (amount_of b o at op) refl
   where
     goes : GenGoes b o at op amount
@@ -165,7 +165,7 @@ undone_set_gen b o at op amount s t = by (amount_of b o at op) refl
 -- ---- clear-gen
 
 pub undone_clear_gen : (b : Parts) (o : Owner) (at : Place) (op : ℕ) → IsSound b
-    → IsTaken b (steps.Setting o at (ClearGen op)) → IsUndone b (steps.Setting o at (ClearGen op))
+    → IsAccepted b (steps.Setting o at (ClearGen op)) → IsUndone b (steps.Setting o at (ClearGen op))
 undone_clear_gen b o at op s t =
     let g = gen_comes b o at op (accepted b (steps.Setting o at (ClearGen op)) t.accepted).tests in
     let now : Parts = gen_cleared b o at op in
@@ -198,34 +198,34 @@ module _ (b : Parts) (o : Owner) (at : Place) (s : Settings) (e : settings_of b 
 restored_added : (b : Parts) (o : Owner) (at : Place) (j : ℕ) (m : Modulator)
     → IsSomeAnd (mods_of b o at) (λ mods. j ≤ length mods) → mod_removed (mod_added b o at j m) o at j ≡ b
 restored_added b (owner.Preset p) at j m h =
-    ap (λ (presets : List (WithZones Head)). record b { presets = presets })
+    ap (λ (presets : List (ZoneOwner Head)). record b { presets = presets })
     (mod_added_undone b.presets p (zone_place at) j m h)
 restored_added b (owner.Inst i) at j m h =
-    ap (λ (instruments : List (WithZones (List ℕ))). record b { instruments = instruments })
+    ap (λ (instruments : List (ZoneOwner (List ℕ))). record b { instruments = instruments })
     (mod_added_undone b.instruments i (zone_place at) j m h)
 
 restored_removed : (b : Parts) (o : Owner) (at : Place) (j : ℕ) (m : Modulator) → mod_at b o at j ≡ Some m
     → mod_added (mod_removed b o at j) o at j m ≡ b
 restored_removed b (owner.Preset p) at j m e =
-    ap (λ (presets : List (WithZones Head)). record b { presets = presets })
+    ap (λ (presets : List (ZoneOwner Head)). record b { presets = presets })
     (mod_removed_undone b.presets p (zone_place at) j m e)
 restored_removed b (owner.Inst i) at j m e =
-    ap (λ (instruments : List (WithZones (List ℕ))). record b { instruments = instruments })
+    ap (λ (instruments : List (ZoneOwner (List ℕ))). record b { instruments = instruments })
     (mod_removed_undone b.instruments i (zone_place at) j m e)
 
 restored_set_mod : (b : Parts) (o : Owner) (at : Place) (j : ℕ) (was m : Modulator) → mod_at b o at j ≡ Some was
     → mod_set (mod_set b o at j m) o at j was ≡ b
 restored_set_mod b (owner.Preset p) at j was m e =
-    ap (λ (presets : List (WithZones Head)). record b { presets = presets })
+    ap (λ (presets : List (ZoneOwner Head)). record b { presets = presets })
     (mod_set_back b.presets p (zone_place at) j was m e)
 restored_set_mod b (owner.Inst i) at j was m e =
-    ap (λ (instruments : List (WithZones (List ℕ))). record b { instruments = instruments })
+    ap (λ (instruments : List (ZoneOwner (List ℕ))). record b { instruments = instruments })
     (mod_set_back b.instruments i (zone_place at) j was m e)
 
 -- ---- add-mod
 
 pub undone_add_mod : (b : Parts) (o : Owner) (at : Place) (j : ℕ) (m : Modulator) → IsSound b
-    → IsTaken b (steps.Setting o at (AddMod j m)) → IsUndone b (steps.Setting o at (AddMod j m))
+    → IsAccepted b (steps.Setting o at (AddMod j m)) → IsUndone b (steps.Setting o at (AddMod j m))
 undone_add_mod b o at j m s t =
     let g = mod_goes b o at j m (accepted b (steps.Setting o at (AddMod j m)) t.accepted).tests in
     let old : Settings = g.settings in
@@ -235,7 +235,7 @@ undone_add_mod b o at j m s t =
     let holds =
     still_no_link b o at (λ ms. insert ms j m) old g.holds (none_inserted old.mods j m g.holds.free g.plain) in
     let there : mod_at now o at j ≡ Some m =
-    mod_found now o at (mods_sent (λ ms. insert ms j m) old) holds.there j m (slice_get-insert old.mods j m le)
+    mod_found now o at (mods_changed (λ ms. insert ms j m) old) holds.there j m (slice_get-insert old.mods j m le)
     in
     undone_by b (steps.Setting o at (AddMod j m)) (steps.Setting o at (RemoveMod j)) s (record {
       is = refl;
@@ -244,7 +244,7 @@ undone_add_mod b o at j m s t =
       tests =
           tests_remove_mod now o at j
           (record
-          { settings = mods_sent (λ ms. insert ms j m) old; holds = holds; index = omega (arith, size, le) });
+          { settings = mods_changed (λ ms. insert ms j m) old; holds = holds; index = omega (arith, size, le) });
       restored = restored_added b o at j m (mods_and b o at old g.holds.there (λ mods. j ≤ length mods) le);
       redone = rw there refl;
     })
@@ -252,7 +252,7 @@ undone_add_mod b o at j m s t =
 -- ---- remove-mod
 
 pub undone_remove_mod : (b : Parts) (o : Owner) (at : Place) (j : ℕ) → IsSound b
-    → IsTaken b (steps.Setting o at (RemoveMod j)) → IsUndone b (steps.Setting o at (RemoveMod j))
+    → IsAccepted b (steps.Setting o at (RemoveMod j)) → IsUndone b (steps.Setting o at (RemoveMod j))
 undone_remove_mod b o at j s t =
     let c = mod_comes b o at j (accepted b (steps.Setting o at (RemoveMod j)) t.accepted).tests in
     let old : Settings = c.settings in
@@ -272,7 +272,7 @@ undone_remove_mod b o at j s t =
         (t.fits.2, all_found FitsModulator old.mods j m e (settings_fit b o at old s c.holds.there).mods),
       );
       tests = tests_add_mod now o at j m (record {
-        settings = mods_sent (λ ms. remove ms j) old;
+        settings = mods_changed (λ ms. remove ms j) old;
         holds = holds;
         place = omega (arith, less, lt);
         plain = plain_found old.mods j m c.holds.free e;
@@ -284,7 +284,7 @@ undone_remove_mod b o at j s t =
 -- ---- set-mod
 
 pub undone_set_mod : (b : Parts) (o : Owner) (at : Place) (j : ℕ) (m : Modulator) → IsSound b
-    → IsTaken b (steps.Setting o at (SetMod j m)) → IsUndone b (steps.Setting o at (SetMod j m))
+    → IsAccepted b (steps.Setting o at (SetMod j m)) → IsUndone b (steps.Setting o at (SetMod j m))
 undone_set_mod b o at j m s t =
     let c = mod_changes b o at j m (accepted b (steps.Setting o at (SetMod j m)) t.accepted).tests in
     let old : Settings = c.settings in
@@ -297,7 +297,7 @@ undone_set_mod b o at j m s t =
     still_no_link b o at (λ ms. slice_set ms j m) old c.holds (none_exchanged old.mods j m c.holds.free c.plain)
     in
     let new : mod_at now o at j ≡ Some m =
-    mod_found now o at (mods_sent (λ ms. slice_set ms j m) old) holds.there j m
+    mod_found now o at (mods_changed (λ ms. slice_set ms j m) old) holds.there j m
     (slice_get-slice_set old.mods j m lt) in
     undone_by b (steps.Setting o at (SetMod j m)) (steps.Setting o at (SetMod j was)) s (record {
       is = rw there refl;
@@ -308,7 +308,7 @@ undone_set_mod b o at j m s t =
         (t.fits.2.0, all_found FitsModulator old.mods j was e (settings_fit b o at old s c.holds.there).mods),
       );
       tests = tests_set_mod now o at j was (record {
-        settings = mods_sent (λ ms. slice_set ms j m) old;
+        settings = mods_changed (λ ms. slice_set ms j m) old;
         holds = holds;
         index = omega (arith, same, lt);
         plain = plain_found old.mods j was c.holds.free e;
@@ -320,7 +320,7 @@ undone_set_mod b o at j m s t =
 -- ---- all these forms
 
 pub undone_setting : (b : Parts) (o : Owner) (at : Place) (s : SettingStep) → IsSound b
-    → IsTaken b (steps.Setting o at s) → IsUndone b (steps.Setting o at s)
+    → IsAccepted b (steps.Setting o at s) → IsUndone b (steps.Setting o at s)
 undone_setting b o at (SetGen op amount) = undone_set_gen b o at op amount
 undone_setting b o at (ClearGen op) = undone_clear_gen b o at op
 undone_setting b o at (AddMod j m) = undone_add_mod b o at j m

@@ -9,13 +9,13 @@ use Rattle.bank_changes.proofs.TextLaws.{info_of, text_fits, text_of-set, text_s
 use Rattle.edit_forms.specs.declared.texts.TextStep.TheVariants.{SetInfo}
 use Rattle.edit_forms.specs.declared.step.Step.TheVariants as steps
 use Rattle.edit_refusals.proofs.TextLaws.{sound_set_info, not_bad}
-use Rattle.bank_edits.proofs.UndoneBy.{IsTaken, IsUndone, undone_by}
+use Rattle.bank_edits.proofs.UndoneBy.{IsAccepted, IsUndone, undone_by}
 use Rattle.edit_forms.specs.declared.texts.TextStep.{TextStep}
 
 -- ---- set-info
 
 pub undone_set_info : (b : Parts) (id : InfoId) (text : List ℕ) → IsSound b
-    → IsTaken b (steps.Text (SetInfo id text)) → IsUndone b (steps.Text (SetInfo id text))
+    → IsAccepted b (steps.Text (SetInfo id text)) → IsUndone b (steps.Text (SetInfo id text))
 undone_set_info b id text s t =
     let was = info_of b.texts id s.valid.texts in
     undone_by b (steps.Text (SetInfo id text)) (steps.Text (SetInfo id (text_of b.texts id))) s (record {
@@ -29,5 +29,5 @@ undone_set_info b id text s t =
 
 -- ---- all these forms
 
-pub undone_text : (b : Parts) (s : TextStep) → IsSound b → IsTaken b (steps.Text s) → IsUndone b (steps.Text s)
+pub undone_text : (b : Parts) (s : TextStep) → IsSound b → IsAccepted b (steps.Text s) → IsUndone b (steps.Text s)
 undone_text b (SetInfo id text) = undone_set_info b id text

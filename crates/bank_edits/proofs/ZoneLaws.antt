@@ -7,7 +7,7 @@ use Rattle.std.proofs.lemmas.List.Edits.{length-insert, length-remove}
 use Rattle.base_numbered_lists.specs.Moved.{moved, changed}
 use Rattle.base_numbered_lists.proofs.Lists.{slice_get-within, length-moved, length-changed, slice_get-changed}
 use Rattle.bank_parts.specs.declared.parts.Zone.{Zone}
-use Rattle.bank_parts.specs.declared.parts.WithZones.{WithZones}
+use Rattle.bank_parts.specs.declared.parts.ZoneOwner.{ZoneOwner}
 use Rattle.bank_parts.specs.declared.parts.Parts.{Parts}
 use Rattle.bank_parts.specs.Owners.{zone_count_at, zone_at}
 use Rattle.bank_parts.specs.Settings.{zones_at, zones_changed, with_zones}
@@ -19,7 +19,7 @@ use Rattle.bank_parts.proofs.SettingLaws.{source, zones_read}
 use Rattle.bank_parts.proofs.UndoneLaws.{zone_added_read, target_set_read}
 use Rattle.bank_changes.specs.declared.members.Owner.{Owner}
 use Rattle.bank_changes.specs.declared.members.Owner.TheVariants as owner
-use Rattle.bank_changes.specs.Members.{own_zone_count, zones_of, zone_of, target_of, level_of, target_count}
+use Rattle.bank_changes.specs.Members.{owner_zone_count, zones_of, zone_of, target_of, level_of, target_count}
 use Rattle.bank_changes.specs.Zones.{zone_added, zone_removed, zone_moved, target_set, zone_split, zone_joined}
 use Rattle.bank_changes.specs.Zones.{can_split, can_join}
 use Rattle.bank_changes.proofs.Changes.{all_found}
@@ -35,20 +35,20 @@ use Rattle.edit_refusals.proofs.ZoneLaws.{tests_remove_zone, sound_remove_zone, 
 use Rattle.edit_refusals.proofs.ZoneLaws.{sound_move_zone, goes_of_set_target, tests_set_target, sound_set_target}
 use Rattle.edit_refusals.proofs.ZoneLaws.{can_of_split_zone, tests_split_zone, sound_split_zone, can_of_join_zone}
 use Rattle.edit_refusals.proofs.ZoneLaws.{tests_join_zone, sound_join_zone}
-use Rattle.bank_edits.proofs.UndoneBy.{IsTaken, IsUndone, undone_by}
+use Rattle.bank_edits.proofs.UndoneBy.{IsAccepted, IsUndone, undone_by}
 use Rattle.generators.specs.Ranges.{IsRange}
 use Rattle.bank_parts.specs.declared.parts.Head.{Head}
 use Rattle.bank_zone_ranges.specs.declared.axes.Axis.{Axis}
 use Rattle.bank_zone_ranges.specs.declared.axes.Keep.{Keep}
 use Rattle.bank_zone_ranges.specs.Ranges.{low_end, high_end, range_from, range_of, whole_range}
-use Rattle.bank_zone_ranges.specs.Splits.{lower_part, upper_part, parted, zones_split, zone_split as split_in, joined}
-use Rattle.bank_zone_ranges.specs.Splits.{merged, zones_joined, zone_joined as joined_in, keep_for, splits_at, joins_at}
+use Rattle.bank_zone_ranges.specs.Splits.{lower_zone, upper_zone, split_in_two, zones_split, zone_split as split_in, joined}
+use Rattle.bank_zone_ranges.specs.Splits.{merged, zones_joined, zone_joined as joined_in, keep_for, is_splittable_at, is_joinable_at}
 use Rattle.bank_zone_ranges.specs.Undone.{own_low, own_amount}
-use Rattle.bank_zone_ranges.proofs.Parting.{first_parted, second_parted, first_merged, all_at}
+use Rattle.bank_zone_ranges.proofs.SplitLists.{first_split, second_split, first_merged, all_at}
 use Rattle.bank_zone_ranges.proofs.SplitLaws.{low_of_range, low_is_small, own_with, split_is_joinable, split_undone}
 use Rattle.bank_zone_ranges.proofs.SplitLaws.{join_is_splittable, join_undone, keep_of_joined}
-use Rattle.bank_zone_ranges.proofs.There.{ZoneThere, zone_is, zone_within, SplitThere, split_there, there_split}
-use Rattle.bank_zone_ranges.proofs.There.{JoinThere, join_there, there_joined, zones_there}
+use Rattle.bank_zone_ranges.proofs.Existing.{ZoneThere, zone_is, zone_within, SplitThere, split_there, there_split}
+use Rattle.bank_zone_ranges.proofs.Existing.{JoinThere, join_there, there_joined, zones_there}
 use Rattle.bank_zone_ranges.proofs.PartLaws.{own_holds}
 use Rattle.edit_forms.specs.declared.zones.ZoneStep.{ZoneStep}
 use Rattle.edit_forms.specs.Steps.{inverse}
@@ -65,34 +65,34 @@ some_same : {X : Type 0} (o : Option X) (x y : X) → o ≡ Some x → o ≡ Som
 some_same o x y e h = cc
 
 -- the number of zones of owner i after f changes its zones
-counted_at : {H : Type 0} (owners : List (WithZones H)) (i : ℕ) (f : List Zone → List Zone) (zones : List Zone)
+counted_at : {H : Type 0} (owners : List (ZoneOwner H)) (i : ℕ) (f : List Zone → List Zone) (zones : List Zone)
     (P : ℕ → Type 0)
     → zones_at owners i ≡ Some zones → P (length (f zones))
     → IsSomeAnd (zone_count_at (zones_changed owners i f) i) P
 counted_at {H} owners i f zones P e h =
     let now = zones_read owners i f ∙ ap (option_map f) e in
-    let x = source (λ (x : WithZones H). x.zones) (slice_get (zones_changed owners i f) i) (f zones) now in
-    subst (λ (o : Option (WithZones H)). IsSomeAnd (option_map (λ (x : WithZones H). length x.zones) o) P)
+    let x = source (λ (x : ZoneOwner H). x.zones) (slice_get (zones_changed owners i f) i) (f zones) now in
+    subst (λ (o : Option (ZoneOwner H)). IsSomeAnd (option_map (λ (x : ZoneOwner H). length x.zones) o) P)
     (sym x.there) (subst (λ (zs : List Zone). P (length zs)) (sym x.seen) h)
 
 module _ (zones : List Zone) (k : ℕ) (P : ℕ → Type 0) where
   counted_added : (b : Parts) (o : Owner) (zone : Zone) → zones_of b o ≡ Some zones
-      → P (length (insert zones k zone)) → IsSomeAnd (own_zone_count (zone_added b o k zone) o) P
+      → P (length (insert zones k zone)) → IsSomeAnd (owner_zone_count (zone_added b o k zone) o) P
   counted_added b (owner.Preset p) zone e h = counted_at b.presets p (λ zs. insert zs k zone) zones P e h
   counted_added b (owner.Inst i) zone e h = counted_at b.instruments i (λ zs. insert zs k zone) zones P e h
 
   counted_removed : (b : Parts) (o : Owner) → zones_of b o ≡ Some zones → P (length (remove zones k))
-      → IsSomeAnd (own_zone_count (zone_removed b o k) o) P
+      → IsSomeAnd (owner_zone_count (zone_removed b o k) o) P
   counted_removed b (owner.Preset p) e h = counted_at b.presets p (λ zs. remove zs k) zones P e h
   counted_removed b (owner.Inst i) e h = counted_at b.instruments i (λ zs. remove zs k) zones P e h
 
   counted_moved : (b : Parts) (o : Owner) (to : ℕ) → zones_of b o ≡ Some zones → P (length (moved zones k to))
-      → IsSomeAnd (own_zone_count (zone_moved b o k to) o) P
+      → IsSomeAnd (owner_zone_count (zone_moved b o k to) o) P
   counted_moved b (owner.Preset p) to e h = counted_at b.presets p (λ zs. moved zs k to) zones P e h
   counted_moved b (owner.Inst i) to e h = counted_at b.instruments i (λ zs. moved zs k to) zones P e h
 
   counted_target : (b : Parts) (o : Owner) (target : ℕ) → zones_of b o ≡ Some zones
-      → P (length (changed zones k (with_target target))) → IsSomeAnd (own_zone_count (target_set b o k target) o) P
+      → P (length (changed zones k (with_target target))) → IsSomeAnd (owner_zone_count (target_set b o k target) o) P
   counted_target b (owner.Preset p) target e h =
       counted_at b.presets p (λ zs. changed zs k (with_target target)) zones P e h
   counted_target b (owner.Inst i) target e h =
@@ -109,12 +109,12 @@ targets_stay-set b (owner.Inst i) k target = refl
 
 -- what is read after a change
 
-read_added : (b : Parts) (o : Owner) (k : ℕ) (zone : Zone) → IsSomeAnd (own_zone_count b o) (λ count. k ≤ count)
+read_added : (b : Parts) (o : Owner) (k : ℕ) (zone : Zone) → IsSomeAnd (owner_zone_count b o) (λ count. k ≤ count)
     → zone_of (zone_added b o k zone) o k ≡ Some zone
 read_added b (owner.Preset p) k zone h = zone_added_read b.presets p k zone h
 read_added b (owner.Inst i) k zone h = zone_added_read b.instruments i k zone h
 
-read_target : (b : Parts) (o : Owner) (k target : ℕ) → IsSomeAnd (own_zone_count b o) (λ count. k < count)
+read_target : (b : Parts) (o : Owner) (k target : ℕ) → IsSomeAnd (owner_zone_count b o) (λ count. k < count)
     → target_of (target_set b o k target) o k ≡ Some target
 read_target b (owner.Preset p) k target h = target_set_read b.presets p k target h
 read_target b (owner.Inst i) k target h = target_set_read b.instruments i k target h
@@ -127,7 +127,7 @@ target_of_zone b (owner.Inst i) k zone e = ap (option_map (λ (z : Zone). z.targ
 -- ---- add-zone
 
 pub undone_add_zone : (b : Parts) (o : Owner) (k : ℕ) (zone : Zone) → IsSound b
-    → IsTaken b (steps.Zone o (AddZone k zone)) → IsUndone b (steps.Zone o (AddZone k zone))
+    → IsAccepted b (steps.Zone o (AddZone k zone)) → IsUndone b (steps.Zone o (AddZone k zone))
 undone_add_zone b o k zone s t =
     let place = (zone_goes b o k zone (accepted b (steps.Zone o (AddZone k zone)) t.accepted).tests).place in
     let h = own_zones_there b o (λ count. k ≤ count) place in
@@ -147,7 +147,7 @@ undone_add_zone b o k zone s t =
 
 -- ---- remove-zone
 
-pub undone_remove_zone : (b : Parts) (o : Owner) (k : ℕ) → IsSound b → IsTaken b (steps.Zone o (RemoveZone k))
+pub undone_remove_zone : (b : Parts) (o : Owner) (k : ℕ) → IsSound b → IsAccepted b (steps.Zone o (RemoveZone k))
     → IsUndone b (steps.Zone o (RemoveZone k))
 undone_remove_zone b o k s t =
     let (zone, e) = zone_found b o k (comes_of_remove_zone b o k t.accepted) in
@@ -172,7 +172,7 @@ undone_remove_zone b o k s t =
 -- ---- move-zone
 
 pub undone_move_zone : (b : Parts) (o : Owner) (from to : ℕ) → IsSound b
-    → IsTaken b (steps.Zone o (MoveZone from to)) → IsUndone b (steps.Zone o (MoveZone from to))
+    → IsAccepted b (steps.Zone o (MoveZone from to)) → IsUndone b (steps.Zone o (MoveZone from to))
 undone_move_zone b o from to s t =
     let m = moves_of_move_zone b o from to t.accepted in
     let h = own_zones_there b o (λ count. from < count) m.there in
@@ -195,7 +195,7 @@ undone_move_zone b o from to s t =
 -- ---- set-target
 
 pub undone_set_target : (b : Parts) (o : Owner) (k target : ℕ) → IsSound b
-    → IsTaken b (steps.Zone o (SetTarget k target)) → IsUndone b (steps.Zone o (SetTarget k target))
+    → IsAccepted b (steps.Zone o (SetTarget k target)) → IsUndone b (steps.Zone o (SetTarget k target))
 undone_set_target b o k target s t =
     let g = goes_of_set_target b o k target t.accepted in
     let (zone, e) = zone_found b o k g.there in
@@ -223,22 +223,22 @@ undone_set_target b o k target s t =
 -- ---- zones of a list of members
 
 -- after a split
-module _ {H : Type 0} {axis : Axis} {m : ℕ} {owners : List (WithZones H)} {i k : ℕ}
+module _ {H : Type 0} {axis : Axis} {m : ℕ} {owners : List (ZoneOwner H)} {i k : ℕ}
     (s : SplitThere axis m owners i k) where
   abbrev lower : Zone
-  lower = lower_part axis m s.at.member.global s.at.zone
+  lower = lower_zone axis m s.at.member.global s.at.zone
 
   abbrev upper : Zone
-  upper = upper_part axis m s.at.member.global s.at.zone
+  upper = upper_zone axis m s.at.member.global s.at.zone
 
-  abbrev in_two : WithZones H
-  in_two = with_zones (parted s.at.member.zones k lower upper) s.at.member
+  abbrev in_two : ZoneOwner H
+  in_two = with_zones (split_in_two s.at.member.zones k lower upper) s.at.member
 
   split_member : slice_get (split_in owners i k axis m) i ≡ Some in_two
   split_member =
       let x = s.at.member in
-      let is : zones_split axis m x.global x.zones k ≡ parted x.zones k lower upper = rw s.at.zone_there refl in
-      slice_get-changed owners i (λ (x : WithZones H). with_zones (zones_split axis m x.global x.zones k) x) x
+      let is : zones_split axis m x.global x.zones k ≡ split_in_two x.zones k lower upper = rw s.at.zone_there refl in
+      slice_get-changed owners i (λ (x : ZoneOwner H). with_zones (zones_split axis m x.global x.zones k) x) x
       s.at.there
       ∙ ap (λ (zones : List Zone). Some (with_zones zones x)) is
 
@@ -251,7 +251,7 @@ module _ {H : Type 0} {axis : Axis} {m : ℕ} {owners : List (WithZones H)} {i k
             split_member;
         zone =
             lower;
-        zone_there = first_parted s.at.member.zones k lower upper (zone_within s.at);
+        zone_there = first_split s.at.member.zones k lower upper (zone_within s.at);
       }
 
   abbrev upper_there : ZoneThere (split_in owners i k axis m) i (k + 1)
@@ -263,10 +263,10 @@ module _ {H : Type 0} {axis : Axis} {m : ℕ} {owners : List (WithZones H)} {i k
             split_member;
         zone =
             upper;
-        zone_there = second_parted s.at.member.zones k lower upper (zone_within s.at);
+        zone_there = second_split s.at.member.zones k lower upper (zone_within s.at);
       }
 
-  joins_after : m < 2 ^ 8 → joins_at axis (keep_for axis s.at.zone) (split_in owners i k axis m) i k ≡ true
+  joins_after : m < 2 ^ 8 → is_joinable_at axis (keep_for axis s.at.zone) (split_in owners i k axis m) i k ≡ true
   joins_after small =
       there_joined axis (keep_for axis s.at.zone) (split_in owners i k axis m) i k lower_there upper
       upper_there.zone_there
@@ -282,7 +282,7 @@ module _ {H : Type 0} {axis : Axis} {m : ℕ} {owners : List (WithZones H)} {i k
       ∙ low_of_range m high small
 
 -- after a join
-module _ {H : Type 0} {axis : Axis} {keep : Keep} {owners : List (WithZones H)} {i k : ℕ}
+module _ {H : Type 0} {axis : Axis} {keep : Keep} {owners : List (ZoneOwner H)} {i k : ℕ}
     (j : JoinThere axis keep owners i k) where
   second_there : zone_at owners i (k + 1) ≡ Some j.second
   second_there = rw j.at.there j.next
@@ -290,14 +290,14 @@ module _ {H : Type 0} {axis : Axis} {keep : Keep} {owners : List (WithZones H)} 
   abbrev one : Zone
   one = joined axis keep j.at.zone j.second
 
-  abbrev in_one : WithZones H
+  abbrev in_one : ZoneOwner H
   in_one = with_zones (merged j.at.member.zones k one) j.at.member
 
   joined_member : slice_get (joined_in owners i k axis keep) i ≡ Some in_one
   joined_member =
       let x = j.at.member in
       let is : zones_joined axis keep x.zones k ≡ merged x.zones k one = rw (j.at.zone_there, j.next) refl in
-      slice_get-changed owners i (λ (x : WithZones H). with_zones (zones_joined axis keep x.zones k) x) x j.at.there
+      slice_get-changed owners i (λ (x : ZoneOwner H). with_zones (zones_joined axis keep x.zones k) x) x j.at.there
       ∙ ap (λ (zones : List Zone). Some (with_zones zones x)) is
 
   abbrev one_there : ZoneThere (joined_in owners i k axis keep) i k
@@ -314,7 +314,7 @@ module _ {H : Type 0} {axis : Axis} {keep : Keep} {owners : List (WithZones H)} 
       }
 
   splits_after : IsRange (own_amount axis j.at.zone) → IsRange (own_amount axis j.second)
-      → splits_at axis (own_low axis j.second) (joined_in owners i k axis keep) i k ≡ true
+      → is_splittable_at axis (own_low axis j.second) (joined_in owners i k axis keep) i k ≡ true
   splits_after first second =
       there_split axis (own_low axis j.second) (joined_in owners i k axis keep) i k one_there
       ∙ join_is_splittable axis keep j.at.member.global j.at.zone j.second j.joinable first second
@@ -325,10 +325,10 @@ module _ {H : Type 0} {axis : Axis} {keep : Keep} {owners : List (WithZones H)} 
 
 -- ---- zones of an owner
 
-abbrev with_presets : Parts → List (WithZones Head) → Parts
+abbrev with_presets : Parts → List (ZoneOwner Head) → Parts
 with_presets b presets = record b { presets = presets }
 
-abbrev with_instruments : Parts → List (WithZones (List ℕ)) → Parts
+abbrev with_instruments : Parts → List (ZoneOwner (List ℕ)) → Parts
 with_instruments b instruments = record b { instruments = instruments }
 
 -- reading after a split
@@ -435,7 +435,7 @@ is_join b (owner.Inst i) k axis keep sound can =
 -- ---- split-zone
 
 pub undone_split_zone : (b : Parts) (o : Owner) (k : ℕ) (axis : Axis) (m : ℕ) → IsSound b
-    → IsTaken b (steps.Zone o (SplitZone k axis m)) → IsUndone b (steps.Zone o (SplitZone k axis m))
+    → IsAccepted b (steps.Zone o (SplitZone k axis m)) → IsUndone b (steps.Zone o (SplitZone k axis m))
 undone_split_zone b o k axis m s t =
     let f = is_split b o k axis m t.fits.1.1 (can_of_split_zone b o k axis m t.accepted) in
     let was = f.zone_is in
@@ -452,7 +452,7 @@ undone_split_zone b o k axis m s t =
 -- ---- join-zone
 
 pub undone_join_zone : (b : Parts) (o : Owner) (k : ℕ) (axis : Axis) (keep : Keep) → IsSound b
-    → IsTaken b (steps.Zone o (JoinZone k axis keep)) → IsUndone b (steps.Zone o (JoinZone k axis keep))
+    → IsAccepted b (steps.Zone o (JoinZone k axis keep)) → IsUndone b (steps.Zone o (JoinZone k axis keep))
 undone_join_zone b o k axis keep s t =
     let f = is_join b o k axis keep s (can_of_join_zone b o k axis keep t.accepted) in
     let was = f.second_is in
@@ -469,7 +469,7 @@ undone_join_zone b o k axis keep s t =
 
 -- ---- all these forms
 
-pub undone_zone : (b : Parts) (o : Owner) (s : ZoneStep) → IsSound b → IsTaken b (steps.Zone o s)
+pub undone_zone : (b : Parts) (o : Owner) (s : ZoneStep) → IsSound b → IsAccepted b (steps.Zone o s)
     → IsUndone b (steps.Zone o s)
 undone_zone b o (AddZone at zone) = undone_add_zone b o at zone
 undone_zone b o (RemoveZone zone) = undone_remove_zone b o zone

@@ -16,27 +16,27 @@ inverse b (Group group) = Group (undo_list steps.raw steps.inverse b group)
 
 -- applying the edit allocates nothing
 abbrev pub NeedsNoMemory : Edit → Type 0
-NeedsNoMemory (One step) = steps.GrowsNothing step
+NeedsNoMemory (One step) = steps.AllocatesNothing step
 NeedsNoMemory (Group group) = ⊥
 
 -- the edit was applied, and `back` is its inverse
 pub record IsDone (old new : Parts) (e back : Edit) : Type 0 where
   pub accepted : refusal old e ≡ None
   pub changed : new ≡ raw old e
-  pub taken_back : back ≡ inverse old e
+  pub back_is_inverse : back ≡ inverse old e
 
 -- `OutOfMemory` may be returned: for one step only if no cause applies, for a group always
-abbrev pub MayWant : Parts → Edit → Type 0
-MayWant b (One step) = refusal b (One step) ≡ None
-MayWant b (Group group) = Unit {0}
+abbrev pub MayRunOutOfMemory : Parts → Edit → Type 0
+MayRunOutOfMemory b (One step) = refusal b (One step) ≡ None
+MayRunOutOfMemory b (Group group) = Unit {0}
 
 -- the reason: the cause of refusal, or `OutOfMemory`
-abbrev pub IsWhy : Parts → Edit → Refusal → Type 0
-IsWhy b e OutOfMemory = MayWant b e
-IsWhy b e why = refusal b e ≡ Some why
+abbrev pub IsReason : Parts → Edit → Refusal → Type 0
+IsReason b e OutOfMemory = MayRunOutOfMemory b e
+IsReason b e why = refusal b e ≡ Some why
 
 -- the edit was not applied, for the reason `why`; the bank is unchanged, and `given` is the edit
 pub record IsRefused (old new : Parts) (e : Edit) (why : Refusal) (given : Edit) : Type 0 where
-  pub named : IsWhy old e why
+  pub named : IsReason old e why
   pub unchanged : new ≡ old
-  pub handed_back : given ≡ e
+  pub edit_returned : given ≡ e

@@ -12,12 +12,12 @@ use Rattle.edit_forms.specs.Steps.{inverse}
 pub record IsStepDone (old new : Parts) (s back : Step) : Type 0 where
   pub accepted : refusal old s ≡ None
   pub changed : new ≡ raw old s
-  pub taken_back : back ≡ inverse old s
+  pub back_is_inverse : back ≡ inverse old s
 
 -- step `n` of its group was refused with its cause, or an allocation failed
 abbrev pub StepStops : Parts → ℕ → Step → Refusal → Type 0
 StepStops b n s OutOfMemory = Unit {0}
-StepStops b n s (GroupRefused place cause) = (place ≡ n) × (refusal b s ≡ Some cause)
+StepStops b n s (GroupRefused index cause) = (index ≡ n) × (refusal b s ≡ Some cause)
 StepStops b n s (Of cause) = ⊥
 StepStops b n s NothingToUndo = ⊥
 StepStops b n s NothingToRedo = ⊥

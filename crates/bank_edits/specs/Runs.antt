@@ -6,12 +6,12 @@ use Rattle.edit_forms.specs.declared.edit.Edit.{Edit}
 use Rattle.edit_refusals.specs.Sequences as row
 use Rattle.edit_refusals.specs.Edits.{raw}
 use Rattle.bank_edits.specs.EditChanges.{inverse}
-use Rattle.bank_edits.specs.Undoing.{IsUndoneBy, AllTakenBy}
-use Rattle.bank_edits.specs.Undone.{IsTaken}
+use Rattle.bank_edits.specs.Undoing.{IsUndoneBy, AllAcceptedBy}
+use Rattle.bank_edits.specs.Undone.{IsAccepted}
 
 -- each edit is accepted on the bank after the edits before it
-abbrev pub AllTaken : Parts → List Edit → Type 0
-AllTaken b es = AllTakenBy raw IsTaken b es
+abbrev pub AllAccepted : Parts → List Edit → Type 0
+AllAccepted b es = AllAcceptedBy raw IsAccepted b es
 
 -- the bank after the edits
 abbrev pub after_all : Parts → List Edit → Parts
@@ -23,7 +23,7 @@ undo_list b es = row.undo_list raw inverse b es
 
 -- the changed bank accepts the undo list, which restores the bank
 abbrev pub AreUndone : Parts → List Edit → Type 0
-AreUndone b es = IsUndoneBy after_all undo_list AllTaken b es
+AreUndone b es = IsUndoneBy after_all undo_list AllAccepted b es
 
 abbrev pub UndoRestoresAll : Type 0
-UndoRestoresAll = (b : Parts) (es : List Edit) → IsSound b → AllTaken b es → AreUndone b es
+UndoRestoresAll = (b : Parts) (es : List Edit) → IsSound b → AllAccepted b es → AreUndone b es

@@ -5,13 +5,13 @@ use Rattle.bank_parts.specs.Sound.{IsSound}
 
 -- The changed bank is sound and accepts the inverse of x, which restores the bank; the inverse of the inverse is x.
 pub record IsUndoneBy {X : Type 0} (change : Parts → X → Parts) (inverse : Parts → X → X)
-    (Takes : Parts → X → Type 0) (b : Parts) (x : X) : Type 0 where
+    (Accepts : Parts → X → Type 0) (b : Parts) (x : X) : Type 0 where
   pub sound : IsSound (change b x)
-  pub taken : Takes (change b x) (inverse b x)
+  pub is_accepted : Accepts (change b x) (inverse b x)
   pub restored : change (change b x) (inverse b x) ≡ b
   pub redone : inverse (change b x) (inverse b x) ≡ x
 
 -- each change is accepted on the bank after the changes before it
-abbrev pub AllTakenBy : {X : Type 0} → (Parts → X → Parts) → (Parts → X → Type 0) → Parts → List X → Type 0
-AllTakenBy change Takes b [] = Unit {0}
-AllTakenBy change Takes b (x ∷ xs) = Takes b x × AllTakenBy change Takes (change b x) xs
+abbrev pub AllAcceptedBy : {X : Type 0} → (Parts → X → Parts) → (Parts → X → Type 0) → Parts → List X → Type 0
+AllAcceptedBy change Accepts b [] = Unit {0}
+AllAcceptedBy change Accepts b (x ∷ xs) = Accepts b x × AllAcceptedBy change Accepts (change b x) xs

@@ -9,16 +9,16 @@ use Rattle.bank_edits.specs.EditChanges.{inverse}
 use Rattle.bank_edits.specs.Undoing.{IsUndoneBy}
 
 -- the bank accepts the edit: its numbers, names and texts are in range, and it is not refused
-pub record IsTaken (b : Parts) (e : Edit) : Type 0 where
+pub record IsAccepted (b : Parts) (e : Edit) : Type 0 where
   pub fits : FitsEdit e
   pub accepted : refusal b e ≡ None
 
 -- The changed bank is sound and accepts the inverse edit, which restores the bank, and whose own inverse is the edit
 -- (the fields of `IsUndoneBy`).
 abbrev pub IsUndone : Parts → Edit → Type 0
-IsUndone b e = IsUndoneBy raw inverse IsTaken b e
+IsUndone b e = IsUndoneBy raw inverse IsAccepted b e
 
 -- The theorem of undo for one edit, the contract of `undo_restores` (src/laws.rt). That for lists of edits is in
 -- `Runs`, that of files in `Outcome` of the crate `sfbank`.
 abbrev pub UndoRestores : Type 0
-UndoRestores = (b : Parts) (e : Edit) → IsSound b → IsTaken b e → IsUndone b e
+UndoRestores = (b : Parts) (e : Edit) → IsSound b → IsAccepted b e → IsUndone b e

@@ -1,7 +1,7 @@
 //! A group of steps: either all are applied or none.
 ghost use Rattle.std.specs.Prelude.{MatchResult};
 ghost use Rattle.edit_forms.specs.declared.edit.Edit.TheVariants as edits;
-ghost use Rattle.bank_edits.specs.EditChanges.{IsDone, IsRefused, IsWhy};
+ghost use Rattle.bank_edits.specs.EditChanges.{IsDone, IsRefused, IsReason};
 ghost use Rattle.bank_edits.specs.GroupChanges.{IsStepDone, StepStops};
 
 use crate::step_changes::change_step;
@@ -39,13 +39,13 @@ fn change_all<'a>(
     steps: &[Step<'a>],
 ) -> Result<NumberedList<Step<'a>>, Refusal>
     ensures { MatchResult result (λ inverses. IsDone bank.old bank.new (edits.Group steps.now) (edits.Group inverses))
-        (λ why. IsWhy bank.old (edits.Group steps.now) why) }
+        (λ why. IsReason bank.old (edits.Group steps.now) why) }
 {
     let Ok(mut inverses) = Vec::with_capacity(alloc, steps.len()) else {
         return Err(Refusal::OutOfMemory);
     };
-    for (place, step) in steps.iter().enumerate() {
-        let inverse = change_by_copy(alloc, bank, place, step)?;
+    for (index, step) in steps.iter().enumerate() {
+        let inverse = change_by_copy(alloc, bank, index, step)?;
         if inverses.push(inverse).is_err() {
             return Err(Refusal::OutOfMemory);
         }
@@ -54,17 +54,17 @@ fn change_all<'a>(
     Ok(NumberedList::from_vec(inverses))
 }
 
-// Applies a copy of step number `place` of the group, and returns its inverse.
+// Applies a copy of step number `index` of the group, and returns its inverse.
 fn change_by_copy<'a>(
     alloc: Global,
     bank: &mut Bank<'a>,
-    place: usize,
+    index: usize,
     step: &Step<'a>,
 ) -> Result<Step<'a>, Refusal>
-    ensures { MatchResult result (λ back. IsStepDone bank.old bank.new step.now back) (λ why. StepStops bank.old place step.now why) }
+    ensures { MatchResult result (λ back. IsStepDone bank.old bank.new step.now back) (λ why. StepStops bank.old index step.now why) }
 {
     if let Err(cause) = refuse(bank, step) {
-        return Err(Refusal::GroupRefused(place, cause));
+        return Err(Refusal::GroupRefused(index, cause));
     }
     let Ok(copy) = step.copy(alloc) else {
         return Err(Refusal::OutOfMemory);

@@ -3,10 +3,10 @@ ghost use Rattle.std.specs.Prelude.{◌≡◌, None, Ok, IsOk};
 ghost use Rattle.bank_parts.specs.Sound.{IsSound};
 ghost use Rattle.edit_forms.specs.declared.instruments.InstrumentStep.TheVariants as form;
 ghost use Rattle.edit_forms.specs.declared.step.Step.TheVariants as steps;
-ghost use Rattle.edit_forms.specs.Steps.{refusal, GrowsNothing};
+ghost use Rattle.edit_forms.specs.Steps.{refusal, AllocatesNothing};
 ghost use Rattle.bank_edits.specs.StepChanges.{IsStepChange};
 
-use crate::step_changes::Back;
+use crate::step_changes::InverseOrStep;
 use bank_core::Bank;
 use bank_parts::Instrument;
 use edit_forms::{InstrumentStep, Step};
@@ -17,11 +17,11 @@ pub(crate) fn change_instrument<'a>(
     alloc: Global,
     bank: &mut Bank<'a>,
     step: InstrumentStep,
-) -> Back<'a>
+) -> InverseOrStep<'a>
     requires sound { IsSound bank.old }
     requires accepted { refusal bank.old (steps.Instrument step) ≡ None }
     ensures outcome { IsStepChange bank.old bank.new (steps.Instrument step) result }
-    ensures no_memory { GrowsNothing (steps.Instrument step) → IsOk result }
+    ensures no_memory { AllocatesNothing (steps.Instrument step) → IsOk result }
 {
     match step {
         InstrumentStep::AddInstrument { at, .. } => add_instrument(
@@ -43,7 +43,7 @@ pub(crate) fn change_instrument<'a>(
 
 // ---- add-inst
 
-fn add_instrument<'a>(bank: &mut Bank<'a>, at: u32, instrument: Instrument) -> Back<'a>
+fn add_instrument<'a>(bank: &mut Bank<'a>, at: u32, instrument: Instrument) -> InverseOrStep<'a>
     requires sound { IsSound bank.old }
     requires accepted { refusal bank.old (steps.Instrument (form.AddInstrument at instrument)) ≡ None }
     ensures { IsStepChange bank.old bank.new (steps.Instrument (form.AddInstrument at instrument)) result }
@@ -57,7 +57,7 @@ fn add_instrument<'a>(bank: &mut Bank<'a>, at: u32, instrument: Instrument) -> B
 
 // ---- remove-inst
 
-fn remove_instrument<'a>(alloc: Global, bank: &mut Bank<'a>, instrument: u32) -> Back<'a>
+fn remove_instrument<'a>(alloc: Global, bank: &mut Bank<'a>, instrument: u32) -> InverseOrStep<'a>
     requires sound { IsSound bank.old }
     requires accepted { refusal bank.old (steps.Instrument (form.RemoveInstrument instrument)) ≡ None }
     ensures { IsStepChange bank.old bank.new (steps.Instrument (form.RemoveInstrument instrument)) result }

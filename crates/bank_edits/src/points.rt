@@ -3,10 +3,10 @@ ghost use Rattle.std.specs.Prelude.{◌≡◌, None, Ok, IsOk};
 ghost use Rattle.bank_parts.specs.Sound.{IsSound};
 ghost use Rattle.edit_forms.specs.declared.points.PointStep.TheVariants as form;
 ghost use Rattle.edit_forms.specs.declared.step.Step.TheVariants as steps;
-ghost use Rattle.edit_forms.specs.Steps.{refusal, GrowsNothing};
+ghost use Rattle.edit_forms.specs.Steps.{refusal, AllocatesNothing};
 ghost use Rattle.bank_edits.specs.StepChanges.{IsStepChange};
 
-use crate::step_changes::Back;
+use crate::step_changes::InverseOrStep;
 use bank_core::Bank;
 use bank_parts::Kind;
 use edit_forms::{PointStep, Step};
@@ -18,11 +18,11 @@ pub(crate) fn change_points<'a>(
     bank: &mut Bank<'a>,
     sample: u32,
     step: PointStep<'a>,
-) -> Back<'a>
+) -> InverseOrStep<'a>
     requires sound { IsSound bank.old }
     requires accepted { refusal bank.old (steps.Points sample step) ≡ None }
     ensures outcome { IsStepChange bank.old bank.new (steps.Points sample step.entry) result }
-    ensures no_memory { GrowsNothing (steps.Points sample step.entry) → IsOk result }
+    ensures no_memory { AllocatesNothing (steps.Points sample step.entry) → IsOk result }
 {
     match step {
         PointStep::Trim { front, back, .. } => trim(alloc, bank, sample, front, back),
@@ -43,7 +43,13 @@ pub(crate) fn change_points<'a>(
 
 // ---- trim
 
-fn trim<'a>(alloc: Global, bank: &mut Bank<'a>, sample: u32, front: u32, back: u32) -> Back<'a>
+fn trim<'a>(
+    alloc: Global,
+    bank: &mut Bank<'a>,
+    sample: u32,
+    front: u32,
+    back: u32,
+) -> InverseOrStep<'a>
     requires sound { IsSound bank.old }
     requires accepted { refusal bank.old (steps.Points sample (form.Trim front back)) ≡ None }
     ensures { IsStepChange bank.old bank.new (steps.Points sample (form.Trim front back)) result }
@@ -62,7 +68,12 @@ fn trim<'a>(alloc: Global, bank: &mut Bank<'a>, sample: u32, front: u32, back: u
 
 // ---- extend
 
-fn extend<'a>(bank: &mut Bank<'a>, sample: u32, front: Points<'a>, back: Points<'a>) -> Back<'a>
+fn extend<'a>(
+    bank: &mut Bank<'a>,
+    sample: u32,
+    front: Points<'a>,
+    back: Points<'a>,
+) -> InverseOrStep<'a>
     requires sound { IsSound bank.old }
     requires accepted { refusal bank.old (steps.Points sample (form.Extend front back)) ≡ None }
     ensures { IsStepChange bank.old bank.new (steps.Points sample (form.Extend front.entry back.entry)) result }

@@ -3,21 +3,25 @@ ghost use Rattle.std.specs.Prelude.{◌≡◌, None, Ok, IsOk};
 ghost use Rattle.bank_parts.specs.Sound.{IsSound};
 ghost use Rattle.edit_forms.specs.declared.presets.PresetStep.TheVariants as form;
 ghost use Rattle.edit_forms.specs.declared.step.Step.TheVariants as steps;
-ghost use Rattle.edit_forms.specs.Steps.{refusal, GrowsNothing};
+ghost use Rattle.edit_forms.specs.Steps.{refusal, AllocatesNothing};
 ghost use Rattle.bank_edits.specs.StepChanges.{IsStepChange};
 
-use crate::step_changes::Back;
+use crate::step_changes::InverseOrStep;
 use bank_core::Bank;
 use bank_parts::Preset;
 use edit_forms::{PresetStep, Step};
 use sf_base::Name20;
 use std::alloc::Global;
 
-pub(crate) fn change_preset<'a>(alloc: Global, bank: &mut Bank<'a>, step: PresetStep) -> Back<'a>
+pub(crate) fn change_preset<'a>(
+    alloc: Global,
+    bank: &mut Bank<'a>,
+    step: PresetStep,
+) -> InverseOrStep<'a>
     requires sound { IsSound bank.old }
     requires accepted { refusal bank.old (steps.Preset step) ≡ None }
     ensures outcome { IsStepChange bank.old bank.new (steps.Preset step) result }
-    ensures no_memory { GrowsNothing (steps.Preset step) → IsOk result }
+    ensures no_memory { AllocatesNothing (steps.Preset step) → IsOk result }
 {
     match step {
         PresetStep::AddPreset { at, .. } => add_preset(bank, at, step.into_preset()),
@@ -34,7 +38,7 @@ pub(crate) fn change_preset<'a>(alloc: Global, bank: &mut Bank<'a>, step: Preset
 
 // ---- add-preset
 
-fn add_preset<'a>(bank: &mut Bank<'a>, at: u32, preset: Preset) -> Back<'a>
+fn add_preset<'a>(bank: &mut Bank<'a>, at: u32, preset: Preset) -> InverseOrStep<'a>
     requires sound { IsSound bank.old }
     requires accepted { refusal bank.old (steps.Preset (form.AddPreset at preset)) ≡ None }
     ensures { IsStepChange bank.old bank.new (steps.Preset (form.AddPreset at preset)) result }
@@ -48,7 +52,7 @@ fn add_preset<'a>(bank: &mut Bank<'a>, at: u32, preset: Preset) -> Back<'a>
 
 // ---- remove-preset
 
-fn remove_preset<'a>(alloc: Global, bank: &mut Bank<'a>, preset: u32) -> Back<'a>
+fn remove_preset<'a>(alloc: Global, bank: &mut Bank<'a>, preset: u32) -> InverseOrStep<'a>
     requires sound { IsSound bank.old }
     requires accepted { refusal bank.old (steps.Preset (form.RemovePreset preset)) ≡ None }
     ensures { IsStepChange bank.old bank.new (steps.Preset (form.RemovePreset preset)) result }

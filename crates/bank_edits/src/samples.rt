@@ -3,20 +3,20 @@ ghost use Rattle.std.specs.Prelude.{◌≡◌, None, Ok, IsOk};
 ghost use Rattle.bank_parts.specs.Sound.{IsSound};
 ghost use Rattle.edit_forms.specs.declared.samples.SampleStep.TheVariants as form;
 ghost use Rattle.edit_forms.specs.declared.step.Step.TheVariants as steps;
-ghost use Rattle.edit_forms.specs.Steps.{refusal, GrowsNothing};
+ghost use Rattle.edit_forms.specs.Steps.{refusal, AllocatesNothing};
 ghost use Rattle.bank_edits.specs.StepChanges.{IsStepChange};
 
-use crate::step_changes::Back;
+use crate::step_changes::InverseOrStep;
 use bank_core::Bank;
 use bank_parts::Sample;
 use edit_forms::{SampleStep, Step};
 use sf_base::Name20;
 
-pub(crate) fn change_sample<'a>(bank: &mut Bank<'a>, step: SampleStep<'a>) -> Back<'a>
+pub(crate) fn change_sample<'a>(bank: &mut Bank<'a>, step: SampleStep<'a>) -> InverseOrStep<'a>
     requires sound { IsSound bank.old }
     requires accepted { refusal bank.old (steps.Sample step) ≡ None }
     ensures outcome { IsStepChange bank.old bank.new (steps.Sample step.entry) result }
-    ensures no_memory { GrowsNothing (steps.Sample step.entry) → IsOk result }
+    ensures no_memory { AllocatesNothing (steps.Sample step.entry) → IsOk result }
 {
     match step {
         SampleStep::RenameSample { sample, .. } => Ok(rename_sample(
@@ -44,7 +44,7 @@ fn rename_sample<'a>(bank: &mut Bank<'a>, sample: u32, name: Name20) -> Step<'a>
 
 // ---- add-sample
 
-fn add_sample<'a>(bank: &mut Bank<'a>, at: u32, sample: Sample<'a>) -> Back<'a>
+fn add_sample<'a>(bank: &mut Bank<'a>, at: u32, sample: Sample<'a>) -> InverseOrStep<'a>
     requires sound { IsSound bank.old }
     requires accepted { refusal bank.old (steps.Sample (form.AddSample at sample)) ≡ None }
     ensures { IsStepChange bank.old bank.new (steps.Sample (form.AddSample at sample.entry)) result }

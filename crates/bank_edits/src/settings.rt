@@ -3,10 +3,10 @@ ghost use Rattle.std.specs.Prelude.{◌≡◌, None, Ok, IsOk};
 ghost use Rattle.bank_parts.specs.Sound.{IsSound};
 ghost use Rattle.edit_forms.specs.declared.settings.SettingStep.TheVariants as form;
 ghost use Rattle.edit_forms.specs.declared.step.Step.TheVariants as steps;
-ghost use Rattle.edit_forms.specs.Steps.{refusal, GrowsNothing};
+ghost use Rattle.edit_forms.specs.Steps.{refusal, AllocatesNothing};
 ghost use Rattle.bank_edits.specs.StepChanges.{IsStepChange};
 
-use crate::step_changes::Back;
+use crate::step_changes::InverseOrStep;
 use bank_core::{Bank, Owner, Place};
 use bank_parts::modulator_fits;
 use edit_forms::{SettingStep, Step};
@@ -17,11 +17,11 @@ pub(crate) fn change_setting<'a>(
     owner: Owner,
     place: Place,
     step: SettingStep,
-) -> Back<'a>
+) -> InverseOrStep<'a>
     requires sound { IsSound bank.old }
     requires accepted { refusal bank.old (steps.Setting owner place step) ≡ None }
     ensures outcome { IsStepChange bank.old bank.new (steps.Setting owner place step) result }
-    ensures no_memory { GrowsNothing (steps.Setting owner place step) → IsOk result }
+    ensures no_memory { AllocatesNothing (steps.Setting owner place step) → IsOk result }
 {
     match step {
         SettingStep::SetGen { operator, amount } => set_gen(bank, owner, place, operator, amount),
@@ -42,7 +42,7 @@ fn set_gen<'a>(
     place: Place,
     operator: u16,
     amount: u16,
-) -> Back<'a>
+) -> InverseOrStep<'a>
     requires sound { IsSound bank.old }
     requires accepted { refusal bank.old (steps.Setting owner place (form.SetGen operator amount)) ≡ None }
     ensures { IsStepChange bank.old bank.new (steps.Setting owner place (form.SetGen operator amount)) result }
@@ -89,7 +89,7 @@ fn add_mod<'a>(
     place: Place,
     index: u32,
     modulator: Modulator,
-) -> Back<'a>
+) -> InverseOrStep<'a>
     requires sound { IsSound bank.old }
     requires accepted { refusal bank.old (steps.Setting owner place (form.AddMod index modulator)) ≡ None }
     ensures { IsStepChange bank.old bank.new (steps.Setting owner place (form.AddMod index modulator)) result }

@@ -4,7 +4,7 @@ ghost use Rattle.bank_parts.specs.Sound.{IsSound};
 ghost use Rattle.edit_forms.specs.declared.edit.Edit.TheVariants as edits;
 ghost use Rattle.edit_forms.specs.Steps.{refusal};
 ghost use Rattle.edit_refusals.specs.Edits.{refusal as edit_refusal};
-ghost use Rattle.edit_forms.specs.Steps.{GrowsNothing};
+ghost use Rattle.edit_forms.specs.Steps.{AllocatesNothing};
 ghost use Rattle.bank_edits.specs.StepChanges.{IsStepChange};
 ghost use Rattle.bank_edits.specs.EditChanges.{IsDone, IsRefused};
 
@@ -21,7 +21,7 @@ use edit_refusals::{Refusal, refuse};
 use std::alloc::Global;
 
 /// The inverse of a step; or the step itself, if an allocation failed.
-pub(crate) type Back<'a> = Result<Step<'a>, Step<'a>>;
+pub(crate) type InverseOrStep<'a> = Result<Step<'a>, Step<'a>>;
 
 /// Applies the step and returns its inverse. A step that is refused, or for which an allocation fails, is returned
 /// with the reason, and the bank is unchanged.
@@ -32,7 +32,7 @@ pub(crate) fn apply_step<'a>(
 ) -> Result<Edit<'a>, (Refusal, Edit<'a>)>
     ensures outcome { MatchResult result (λ back. IsDone bank.old bank.new (edits.One step.entry) back)
         (λ refused. IsRefused bank.old bank.new (edits.One step.entry) refused.0 refused.1) }
-    ensures no_memory { GrowsNothing step.entry → edit_refusal bank.old (edits.One step.entry) ≡ None → IsOk result }
+    ensures no_memory { AllocatesNothing step.entry → edit_refusal bank.old (edits.One step.entry) ≡ None → IsOk result }
 {
     if let Err(cause) = refuse(bank, &step) {
         return Err((Refusal::Of(cause), Edit::One(step)));
@@ -44,11 +44,15 @@ pub(crate) fn apply_step<'a>(
 }
 
 /// Applies an accepted step and returns its inverse, or returns the step if an allocation failed.
-pub(crate) fn change_step<'a>(alloc: Global, bank: &mut Bank<'a>, step: Step<'a>) -> Back<'a>
+pub(crate) fn change_step<'a>(
+    alloc: Global,
+    bank: &mut Bank<'a>,
+    step: Step<'a>,
+) -> InverseOrStep<'a>
     requires sound { IsSound bank.old }
     requires accepted { refusal bank.old step ≡ None }
     ensures outcome { IsStepChange bank.old bank.new step.entry result }
-    ensures no_memory { GrowsNothing step.entry → IsOk result }
+    ensures no_memory { AllocatesNothing step.entry → IsOk result }
 {
     match step {
         Step::Preset(step) => change_preset(alloc, bank, step),

@@ -3,7 +3,7 @@ ghost use Rattle.std.specs.Prelude.{◌≡◌, None, Ok, IsOk, IfSome};
 ghost use Rattle.bank_parts.specs.Sound.{IsSound};
 ghost use Rattle.edit_forms.specs.declared.zones.ZoneStep.TheVariants as form;
 ghost use Rattle.edit_forms.specs.declared.step.Step.TheVariants as steps;
-ghost use Rattle.edit_forms.specs.Steps.{refusal, GrowsNothing};
+ghost use Rattle.edit_forms.specs.Steps.{refusal, AllocatesNothing};
 ghost use Rattle.bank_edits.specs.StepChanges.{IsStepChange};
 ghost use Rattle.bank_changes.specs.declared.members.Place.TheVariants as place;
 ghost use Rattle.bank_changes.specs.Members.{zone_of, amount_of};
@@ -11,7 +11,7 @@ ghost use Rattle.bank_zone_ranges.specs.Ranges.{range_operator};
 ghost use Rattle.bank_zone_ranges.specs.Splits.{keep_for};
 ghost use Rattle.bank_zone_ranges.specs.Undone.{own_low};
 
-use crate::step_changes::Back;
+use crate::step_changes::InverseOrStep;
 use bank_core::{Bank, Owner, Place};
 use bank_parts::Zone;
 use bank_zone_ranges::{Axis, Keep, range_operator};
@@ -24,11 +24,11 @@ pub(crate) fn change_zone<'a>(
     bank: &mut Bank<'a>,
     owner: Owner,
     step: ZoneStep,
-) -> Back<'a>
+) -> InverseOrStep<'a>
     requires sound { IsSound bank.old }
     requires accepted { refusal bank.old (steps.Zone owner step) ≡ None }
     ensures outcome { IsStepChange bank.old bank.new (steps.Zone owner step) result }
-    ensures no_memory { GrowsNothing (steps.Zone owner step) → IsOk result }
+    ensures no_memory { AllocatesNothing (steps.Zone owner step) → IsOk result }
 {
     match step {
         ZoneStep::AddZone { at, .. } => add_zone(bank, owner, at, step.into_zone()),
@@ -49,7 +49,7 @@ pub(crate) fn change_zone<'a>(
 
 // ---- add-zone
 
-fn add_zone<'a>(bank: &mut Bank<'a>, owner: Owner, at: u32, zone: Zone) -> Back<'a>
+fn add_zone<'a>(bank: &mut Bank<'a>, owner: Owner, at: u32, zone: Zone) -> InverseOrStep<'a>
     requires sound { IsSound bank.old }
     requires accepted { refusal bank.old (steps.Zone owner (form.AddZone at zone)) ≡ None }
     ensures { IsStepChange bank.old bank.new (steps.Zone owner (form.AddZone at zone)) result }
@@ -63,7 +63,7 @@ fn add_zone<'a>(bank: &mut Bank<'a>, owner: Owner, at: u32, zone: Zone) -> Back<
 
 // ---- remove-zone
 
-fn remove_zone<'a>(alloc: Global, bank: &mut Bank<'a>, owner: Owner, zone: u32) -> Back<'a>
+fn remove_zone<'a>(alloc: Global, bank: &mut Bank<'a>, owner: Owner, zone: u32) -> InverseOrStep<'a>
     requires sound { IsSound bank.old }
     requires accepted { refusal bank.old (steps.Zone owner (form.RemoveZone zone)) ≡ None }
     ensures { IsStepChange bank.old bank.new (steps.Zone owner (form.RemoveZone zone)) result }
@@ -111,7 +111,7 @@ fn split_zone<'a>(
     zone: u32,
     axis: Axis,
     at: u8,
-) -> Back<'a>
+) -> InverseOrStep<'a>
     requires sound { IsSound bank.old }
     requires accepted { refusal bank.old (steps.Zone owner (form.SplitZone zone axis at)) ≡ None }
     ensures { IsStepChange bank.old bank.new (steps.Zone owner (form.SplitZone zone axis at)) result }
@@ -132,7 +132,7 @@ fn join_zone<'a>(
     zone: u32,
     axis: Axis,
     keep: Keep,
-) -> Back<'a>
+) -> InverseOrStep<'a>
     requires sound { IsSound bank.old }
     requires accepted { refusal bank.old (steps.Zone owner (form.JoinZone zone axis keep)) ≡ None }
     ensures { IsStepChange bank.old bank.new (steps.Zone owner (form.JoinZone zone axis keep)) result }

@@ -4,9 +4,9 @@ use Rattle.sample_view.specs.Pieces.{joined_bytes}
 use Rattle.bank_equality.specs.declared.points.Unread.{Unread}
 
 -- the unread bytes
-abbrev pub bytes_left : Unread → List ℕ
-bytes_left unread = unread.first.now ++ joined_bytes unread.others.now
+abbrev pub remaining_bytes : Unread → List ℕ
+remaining_bytes unread = unread.first.now ++ joined_bytes unread.others.now
 
 -- how many slices are still unread as a whole
-abbrev pub slices_left : Unread → ℕ
-slices_left unread = length unread.others.now
+abbrev pub remaining_slices : Unread → ℕ
+remaining_slices unread = length unread.others.now

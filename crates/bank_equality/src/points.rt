@@ -1,7 +1,7 @@
 //! Whether two lists of points are equal, however they are split into slices.
 ghost use Rattle.std.specs.Prelude.{◌≡◌, ◌≢◌, ◌+◌, ◌<◌, ◌↔◌, ◌++◌, ℕ, List, min, length, IsTrue, IfSome, MatchOption};
 ghost use Rattle.sample_view.specs.Pieces.{joined_bytes};
-ghost use Rattle.bank_equality.specs.Unread.{bytes_left, slices_left};
+ghost use Rattle.bank_equality.specs.Unread.{remaining_bytes, remaining_slices};
 
 use sample_view::Points;
 
@@ -31,7 +31,7 @@ fn same_bytes(a: &[&[u8]], b: &[&[u8]]) -> bool
         others: b,
     };
     while !left.others.is_empty() || !right.others.is_empty() {
-        match read_on(left, right) {
+        match skip_common(left, right) {
             Some((next, other)) => {
                 left = next;
                 right = other;
@@ -44,12 +44,12 @@ fn same_bytes(a: &[&[u8]], b: &[&[u8]]) -> bool
 
 // Skips the equal bytes at the start of both, up to the end of the shorter slice, and moves on to the slice after it.
 // None if both lists differ.
-fn read_on<'a, 'b>(left: Unread<'a>, right: Unread<'b>) -> Option<(Unread<'a>, Unread<'b>)>
-    requires { 0 < slices_left left + slices_left right }
-    ensures value { MatchOption result (bytes_left left.entry ≢ bytes_left right.entry) (λ both. (bytes_left left.entry ≡ bytes_left right.entry) ↔ (bytes_left both.0 ≡ bytes_left both.1)) }
-    ensures fewer { IfSome result (λ both. slices_left both.0 + slices_left both.1 < slices_left left.entry + slices_left right.entry) }
+fn skip_common<'a, 'b>(left: Unread<'a>, right: Unread<'b>) -> Option<(Unread<'a>, Unread<'b>)>
+    requires { 0 < remaining_slices left + remaining_slices right }
+    ensures value { MatchOption result (remaining_bytes left.entry ≢ remaining_bytes right.entry) (λ both. (remaining_bytes left.entry ≡ remaining_bytes right.entry) ↔ (remaining_bytes both.0 ≡ remaining_bytes both.1)) }
+    ensures fewer { IfSome result (λ both. remaining_slices both.0 + remaining_slices both.1 < remaining_slices left.entry + remaining_slices right.entry) }
 {
-    let (first, second) = after_common(left.first, right.first)?;
+    let (first, second) = strip_common_prefix(left.first, right.first)?;
     if first.is_empty() {
         if let Some((next, others)) = left.others.split_first() {
             let left = Unread {
@@ -79,7 +79,7 @@ fn read_on<'a, 'b>(left: Unread<'a>, right: Unread<'b>) -> Option<(Unread<'a>, U
 }
 
 // The rest of both after the length of the shorter one; none if they differ up to there.
-fn after_common<'a, 'b>(a: &'a [u8], b: &'b [u8]) -> Option<(&'a [u8], &'b [u8])>
+fn strip_common_prefix<'a, 'b>(a: &'a [u8], b: &'b [u8]) -> Option<(&'a [u8], &'b [u8])>
     ensures value { (xs ys : List ℕ) → MatchOption result (a.now ++ xs ≢ b.now ++ ys) (λ rest. (a.now ++ xs ≡ b.now ++ ys) ↔ (rest.0.now ++ xs ≡ rest.1.now ++ ys)) }
     ensures shorter { IfSome result (λ rest. min (length rest.0.now) (length rest.1.now) ≡ 0) }
 {

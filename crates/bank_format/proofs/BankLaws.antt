@@ -11,7 +11,7 @@ use Rattle.bank_parts.specs.declared.parts.Sample.{Sample}
 use Rattle.bank_parts.specs.declared.parts.Parts.{Parts}
 use Rattle.hydra_records.specs.declared.head.SampleHead.{SampleHead}
 use Rattle.bank_format.specs.Ids.{SMPL, SM24}
-use Rattle.bank_format.specs.Windows.{rows}
+use Rattle.bank_format.specs.Windows.{without_terminal}
 use Rattle.bank_format.specs.Tables.{tables_of, all_points, points_written, sample_heads_from, sample_end}
 use Rattle.bank_format.specs.Samples.{sample_read, is_loop_lost, is_link_lost}
 use Rattle.bank_format.specs.Canon.{info, sdta}
@@ -19,7 +19,7 @@ use Rattle.bank_format.specs.Chunks.{points_in}
 use Rattle.bank_format.specs.Reading.{samples_read, bank_of, counts_of, no_counts, Content, content_of}
 use Rattle.bank_format.proofs.CountLaws.{one_if}
 use Rattle.bank_format.proofs.TextLaws.{texts-again, texts_counted, minor-again}
-use Rattle.bank_format.proofs.WindowLaws.{rows-push}
+use Rattle.bank_format.proofs.WindowLaws.{without_terminal-push}
 use Rattle.bank_format.proofs.TableLaws.{all_presets-again, all_instruments-again, zones_counted, gens_counted}
 use Rattle.bank_format.proofs.TableLaws.{ranges_counted}
 use Rattle.bank_format.proofs.SampleLaws.{length-sample_heads, length-points_written, samples-again, loops_counted}
@@ -44,17 +44,17 @@ pub length-all_points : (b : Parts) → length (all_points b) ≡ point_total b.
 unfolding all_points
 length-all_points b = length-flat_points b.samples
 
-pub rows-shdr : (b : Parts) → rows (tables_of b).shdr ≡ sample_heads_from 0 b.samples
+pub without_terminal-shdr : (b : Parts) → without_terminal (tables_of b).shdr ≡ sample_heads_from 0 b.samples
 unfolding tables_of
-rows-shdr b = rows-push (sample_heads_from 0 b.samples) sample_end
+without_terminal-shdr b = without_terminal-push (sample_heads_from 0 b.samples) sample_end
 
 -- ---- the bank and the counts
 
-samples_are : (b : Parts) → IsValid b → samples_read (points_in (sdta b)) (rows (tables_of b).shdr) ≡ b.samples
+samples_are : (b : Parts) → IsValid b → samples_read (points_in (sdta b)) (without_terminal (tables_of b).shdr) ≡ b.samples
 unfolding all_points
 samples_are b v =
     let n : length (sample_heads_from 0 b.samples) ≡ length b.samples = length-sample_heads 0 b.samples in
-    (λ i. samples_read (points-again b i) (rows-shdr b i))
+    (λ i. samples_read (points-again b i) (without_terminal-shdr b i))
     ∙ ap (λ (k : ℕ). map (sample_read k (all_points b)) (sample_heads_from 0 b.samples)) n
     ∙ samples-again (length b.samples) [] b.samples v.samples
 
@@ -77,18 +77,18 @@ no_sm24 b = refl
 counts-again : (b : Parts) → IsValid b → counts_of (info b) (sdta b) (tables_of b) ≡ no_counts
 unfolding counts_of
 counts-again b v =
-    let n : length (rows (tables_of b).shdr) ≡ length b.samples =
-    ap length (rows-shdr b) ∙ length-sample_heads 0 b.samples in
+    let n : length (without_terminal (tables_of b).shdr) ≡ length b.samples =
+    ap length (without_terminal-shdr b) ∙ length-sample_heads 0 b.samples in
     let texts = texts_counted b v.texts in
     let sm24 = ap (λ (o : Option (List ℕ)). one_if (is_some o)) (no_sm24 b) in
     let zones = zones_counted b v in
     let gens = gens_counted b v in
     let ranges = ranges_counted b v in
     let loops =
-    ap (λ (hs : List SampleHead). count_by is_loop_lost hs) (rows-shdr b)
+    ap (λ (hs : List SampleHead). count_by is_loop_lost hs) (without_terminal-shdr b)
     ∙ loops_counted (length b.samples) 0 b.samples v.samples in
-    let links : count_by (is_link_lost (length (rows (tables_of b).shdr))) (rows (tables_of b).shdr) ≡ 0 =
-    (λ i. count_by (is_link_lost (n i)) (rows-shdr b i)) ∙ links_counted (length b.samples) 0 b.samples v.samples in
+    let links : count_by (is_link_lost (length (without_terminal (tables_of b).shdr))) (without_terminal (tables_of b).shdr) ≡ 0 =
+    (λ i. count_by (is_link_lost (n i)) (without_terminal-shdr b i)) ∙ links_counted (length b.samples) 0 b.samples v.samples in
     λ i.
     record {
       texts =

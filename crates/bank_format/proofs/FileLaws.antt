@@ -8,74 +8,74 @@ use Rattle.std.proofs.lemmas.List.{length-append, length-replicate}
 use Rattle.sample_view.specs.Words.{word_bytes}
 use Rattle.sample_view.proofs.WordLaws.{length-word_bytes}
 use Rattle.riff_chunks.specs.Walk.{Chunk}
-use Rattle.riff_chunks.specs.Spelling.{chunk, spell, FitsChunk}
-use Rattle.riff_chunks.proofs.SpellingLaws.{length-chunk}
+use Rattle.riff_chunks.specs.Encoding.{chunk, encode, FitsChunk}
+use Rattle.riff_chunks.proofs.EncodingLaws.{length-chunk}
 use Rattle.bank_parts.specs.Valid.{IsValid, point_total}
 use Rattle.bank_parts.specs.Fits.{Fits}
 use Rattle.bank_parts.specs.declared.parts.Parts.{Parts}
 use Rattle.hydra_records.specs.declared.head.SampleHead.{SampleHead}
-use Rattle.hydra_records.specs.Spelling.{preset_head_bytes, bag_bytes, modulator_bytes, generator_bytes}
-use Rattle.hydra_records.specs.Spelling.{instrument_head_bytes, sample_head_bytes}
+use Rattle.hydra_records.specs.Encoding.{preset_head_bytes, bag_bytes, modulator_bytes, generator_bytes}
+use Rattle.hydra_records.specs.Encoding.{instrument_head_bytes, sample_head_bytes}
 use Rattle.bank_format.specs.Ids.{IFIL, ISNG, INAM, ICRD, IENG, IPRD, ICOP, ICMT, ISFT, SMPL, PHDR, PBAG, PMOD, PGEN}
 use Rattle.bank_format.specs.Ids.{INST, IBAG, IMOD, IGEN, SHDR}
-use Rattle.bank_format.specs.Steps.{first_broken}
-use Rattle.bank_format.specs.Windows.{rows}
+use Rattle.bank_format.specs.FaultChecks.{first_fault}
+use Rattle.bank_format.specs.Windows.{without_terminal}
 use Rattle.bank_format.specs.Tables.{Tables, tables_of, all_points}
 use Rattle.bank_format.specs.Texts.{text_body}
-use Rattle.bank_format.specs.Canon.{made, text_chunk_if, version, info, sdta, pdta}
+use Rattle.bank_format.specs.Canon.{chunk_of, text_chunk_if, version, info, sdta, pdta}
 use Rattle.bank_format.specs.Chunks.{points_in}
 use Rattle.bank_format.specs.Reading.{bank_of}
-use Rattle.bank_format.specs.ReadSteps.{chunk_steps, size_steps, count_steps, point_steps, all_index_steps}
-use Rattle.bank_format.specs.ReadSteps.{sample_step, target_steps, total_steps, content_steps}
-use Rattle.bank_format.proofs.StepLaws.{then_none}
+use Rattle.bank_format.specs.ReadChecks.{chunk_checks, size_checks, count_checks, point_checks, all_index_checks}
+use Rattle.bank_format.specs.ReadChecks.{sample_checks, target_checks, total_checks, content_checks}
+use Rattle.bank_format.proofs.CheckLaws.{then_none}
 use Rattle.bank_format.proofs.SampleLaws.{sample_steps_hold, total_steps_hold}
-use Rattle.bank_format.proofs.IndexSteps.{index_steps_hold, target_steps_hold}
-use Rattle.bank_format.proofs.BankLaws.{points-again, length-all_points, rows-shdr, bank-again}
+use Rattle.bank_format.proofs.IndexChecks.{index_steps_hold, target_steps_hold}
+use Rattle.bank_format.proofs.BankLaws.{points-again, length-all_points, without_terminal-shdr, bank-again}
 use Rattle.bank_format.proofs.PdtaLaws.{Measured, measured, TablesCount, tables_fit, tables_count, count_steps_hold}
 use Rattle.bank_format.proofs.PdtaLaws.{size_steps_hold}
 
 -- ---- the checks of the chunks
 
-chunk_steps_hold : (b : Parts) (t : Tables) → first_broken (chunk_steps (info b) (pdta t)) ≡ None
-unfolding chunk_steps info pdta IFIL PHDR PBAG PMOD PGEN INST IBAG IMOD IGEN SHDR
+chunk_steps_hold : (b : Parts) (t : Tables) → first_fault (chunk_checks (info b) (pdta t)) ≡ None
+unfolding chunk_checks info pdta IFIL PHDR PBAG PMOD PGEN INST IBAG IMOD IGEN SHDR
 chunk_steps_hold b t = refl
 
-point_steps_hold : (b : Parts) → first_broken (point_steps (sdta b)) ≡ None
-unfolding point_steps sdta SMPL
+point_steps_hold : (b : Parts) → first_fault (point_checks (sdta b)) ≡ None
+unfolding point_checks sdta SMPL
 point_steps_hold b =
     let l = length-word_bytes (all_points b) in
     let even : eqb (length (flat_map word_bytes (all_points b)) % 2) 0 ≡ true = eq-eqb _ _ (omega (arith, l)) in
     rw even refl
 
 pub content_steps_hold : (b : Parts) → IsValid b → Fits b
-    → first_broken (content_steps (info b) (sdta b) (pdta (tables_of b)) (tables_of b)) ≡ None
-unfolding content_steps
+    → first_fault (content_checks (info b) (sdta b) (pdta (tables_of b)) (tables_of b)) ≡ None
+unfolding content_checks
 content_steps_hold b v f =
     let n = length (points_in (sdta b)) in
     let ln : n ≡ point_total b.samples = ap length (points-again b) ∙ length-all_points b in
-    let samples : first_broken (flat_map (sample_step n) (rows (tables_of b).shdr)) ≡ None =
-    ap (λ (hs : List SampleHead). first_broken (flat_map (sample_step n) hs)) (rows-shdr b)
+    let samples : first_fault (flat_map (sample_checks n) (without_terminal (tables_of b).shdr)) ≡ None =
+    ap (λ (hs : List SampleHead). first_fault (flat_map (sample_checks n) hs)) (without_terminal-shdr b)
     ∙ sample_steps_hold n 0 b.samples (omega (arith, ln)) in
-    let targets : first_broken (target_steps (bank_of (info b) (sdta b) (tables_of b))) ≡ None =
-    ap (λ (x : Parts). first_broken (target_steps x)) (bank-again b v f) ∙ target_steps_hold b v in
-    let totals : first_broken (total_steps (rows (tables_of b).shdr)) ≡ None =
-    ap (λ (hs : List SampleHead). first_broken (total_steps hs)) (rows-shdr b)
+    let targets : first_fault (target_checks (bank_of (info b) (sdta b) (tables_of b))) ≡ None =
+    ap (λ (x : Parts). first_fault (target_checks x)) (bank-again b v f) ∙ target_steps_hold b v in
+    let totals : first_fault (total_checks (without_terminal (tables_of b).shdr)) ≡ None =
+    ap (λ (hs : List SampleHead). first_fault (total_checks hs)) (without_terminal-shdr b)
     ∙ total_steps_hold 0 b.samples v.limits.points in
-    then_none (chunk_steps (info b) (pdta (tables_of b))) _ (chunk_steps_hold b (tables_of b))
-    (then_none (size_steps (pdta (tables_of b))) _
+    then_none (chunk_checks (info b) (pdta (tables_of b))) _ (chunk_steps_hold b (tables_of b))
+    (then_none (size_checks (pdta (tables_of b))) _
     (size_steps_hold (tables_of b) (measured (tables_of b) (tables_fit b v f)))
-    (then_none (count_steps (tables_of b)) _ (count_steps_hold (tables_of b) (tables_count b v))
-    (then_none (point_steps (sdta b)) _ (point_steps_hold b)
-    (then_none (all_index_steps (tables_of b)) _ (index_steps_hold b)
-    (then_none (flat_map (sample_step n) (rows (tables_of b).shdr)) _ samples
-    (then_none (target_steps (bank_of (info b) (sdta b) (tables_of b))) _ targets totals))))))
+    (then_none (count_checks (tables_of b)) _ (count_steps_hold (tables_of b) (tables_count b v))
+    (then_none (point_checks (sdta b)) _ (point_steps_hold b)
+    (then_none (all_index_checks (tables_of b)) _ (index_steps_hold b)
+    (then_none (flat_map (sample_checks n) (without_terminal (tables_of b).shdr)) _ samples
+    (then_none (target_checks (bank_of (info b) (sdta b) (tables_of b))) _ targets totals))))))
 
 -- ---- sizes
 
 length-spell_cons : (name body : List ℕ) (cs : List Chunk) → length name ≡ 4
-    → length (spell (made name body ∷ cs)) ≤ 9 + length body + length (spell cs)
+    → length (encode (chunk_of name body ∷ cs)) ≤ 9 + length body + length (encode cs)
 length-spell_cons name body cs e =
-    let l = length-chunk name body e in let a = length-append (chunk name body) (spell cs) in omega (arith, l, a)
+    let l = length-chunk name body e in let a = length-append (chunk name body) (encode cs) in omega (arith, l, a)
 
 length-text_body : (x : List ℕ) → length (text_body x) ≤ length x + 2
 length-text_body x =
@@ -91,10 +91,10 @@ length-text_body x =
 -- chunks whose sizes fit in 32 bits, and whose total length is at most `most`
 pub record Small (most : ℕ) (cs : List Chunk) : Type 0 where
   pub fits : AllByRecursion FitsChunk cs
-  pub small_enough : length (spell cs) ≤ most
+  pub small_enough : length (encode cs) ≤ most
 
 pub small_cons : (name body : List ℕ) (cs : List Chunk) (most n : ℕ) → length name ≡ 4 → length body ≤ n → n < 2 ^ 32
-    → Small most cs → Small (9 + n + most) (made name body ∷ cs)
+    → Small most cs → Small (9 + n + most) (chunk_of name body ∷ cs)
 small_cons name body cs most n e le lt s =
     let a = length-spell_cons name body cs e in
     let r = s.small_enough in

@@ -20,11 +20,11 @@ use Rattle.bank_parts.specs.declared.parts.Kind.TheVariants.{Mono, Right, Left, 
 use Rattle.bank_parts.specs.declared.parts.GlobalZone.{GlobalZone}
 use Rattle.bank_parts.specs.declared.parts.Zone.{Zone}
 use Rattle.bank_parts.specs.declared.parts.Head.{Head}
-use Rattle.bank_parts.specs.declared.parts.WithZones.{WithZones}
+use Rattle.bank_parts.specs.declared.parts.ZoneOwner.{ZoneOwner}
 use Rattle.bank_parts.specs.declared.parts.Sample.{Sample}
 use Rattle.hydra_records.specs.Fits.{FitsBag, FitsGenerator, FitsPresetHead, FitsInstrumentHead, FitsSampleHead}
 use Rattle.bank_format.specs.Ids.{EOP, EOI, EOS}
-use Rattle.bank_format.specs.Windows.{ends, starts, together}
+use Rattle.bank_format.specs.Windows.{ends, starts, zip_with}
 use Rattle.bank_format.specs.Zones.{Bagged, bags_written, generator, gens_written, zone_written}
 use Rattle.bank_format.specs.Tables.{bag, bag_list, gen_list, mod_list, modulator_end, bags_of, Headers, presets}
 use Rattle.bank_format.specs.Tables.{instruments, heads_from, preset_end, instrument_end, sample_end, sample_heads_from}
@@ -32,7 +32,7 @@ use Rattle.bank_format.specs.Tables.{kind_word, link_word, loop_start_at, loop_e
 use Rattle.bank_format.proofs.AllLaws.{all-append, all-flat_map}
 use Rattle.bank_format.proofs.NameLaws.{length-filled}
 use Rattle.bank_format.proofs.WindowLaws.{sizes, total}
-use Rattle.bank_format.proofs.ZoneLaws.{Entries, spelled}
+use Rattle.bank_format.proofs.ZoneLaws.{Entries, generator_records}
 use Rattle.bank_format.proofs.TableLaws.{gens_in_bag, mods_in_bag}
 
 -- ---- totals
@@ -127,7 +127,7 @@ small_starts : (ns : List ℕ) → total ns ≤ 65535 → AllByRecursion (λ n. 
 small_starts ns h = (omega arith, small_ends 0 ns (omega (arith, h)))
 
 all_bags : (xs ys : List ℕ) → AllByRecursion (λ n. n < 2 ^ 16) xs → AllByRecursion (λ n. n < 2 ^ 16) ys
-    → AllByRecursion FitsBag (together bag xs ys)
+    → AllByRecursion FitsBag (zip_with bag xs ys)
 all_bags [] ys v k = tt
 all_bags (x ∷ xs) [] v k = tt
 all_bags (x ∷ xs) (y ∷ ys) v k = (record { gens = v.0; mods = k.0 }, all_bags xs ys v.1 k.1)
@@ -145,9 +145,9 @@ pub record FitsBagged (r : Bagged) : Type 0 where
   pub gens : AllByRecursion FitsGenerator r.gens
   pub mods : AllByRecursion FitsModulator r.mods
 
-spelled_fit : (es : Entries) → FitEntries es → AllByRecursion FitsGenerator (spelled es)
-spelled_fit [] v = tt
-spelled_fit (e ∷ es) v = (record { operator = v.0.0; amount = v.0.1 }, spelled_fit es v.1)
+generator_records_fit : (es : Entries) → FitEntries es → AllByRecursion FitsGenerator (generator_records es)
+generator_records_fit [] v = tt
+generator_records_fit (e ∷ es) v = (record { operator = v.0.0; amount = v.0.1 }, generator_records_fit es v.1)
 
 small_target : (at : Level) → target_operator at < 2 ^ 16
 small_target level.Preset = omega arith
@@ -159,7 +159,7 @@ zones_fit at [] v = tt
 zones_fit at (z ∷ zs) v = (
   record {
     gens =
-        all-append FitsGenerator _ _ (spelled_fit (entries z.gens) v.0.gens)
+        all-append FitsGenerator _ _ (generator_records_fit (entries z.gens) v.0.gens)
         (record { operator = small_target at; amount = v.0.target }, tt);
     mods =
         v.0.mods;
@@ -176,7 +176,7 @@ written_fit at g zs vg v =
       | inr some ↦
           (let t : eqb (len g.gens + length g.mods) 0 ≡ false =
           ne_eqb _ _ some in rw t
-          (record { gens = spelled_fit (entries g.gens) vg.gens; mods = vg.mods }, zones_fit at zs v))
+          (record { gens = generator_records_fit (entries g.gens) vg.gens; mods = vg.mods }, zones_fit at zs v))
     ]
 
 pub gen_list_fit : (bags : List Bagged) → AllByRecursion FitsBagged bags → AllByRecursion FitsGenerator (gen_list bags)
@@ -250,17 +250,17 @@ ends_fit at lt = (
 module _ {H R : Type 0} (h : Headers H R) (IsFit : H → Type 0) (FitsRecord : R → Type 0)
     (written : (at : ℕ) (x : H) → at < 2 ^ 16 → IsFit x → FitsRecord (h.written at x))
     (last : (at : ℕ) → at < 2 ^ 16 → FitsRecord (h.last at)) where
-  pub heads_fit : (at : ℕ) (xs : List (WithZones H)) → AllByRecursion (FitsOwner IsFit) xs
+  pub heads_fit : (at : ℕ) (xs : List (ZoneOwner H)) → AllByRecursion (FitsOwner IsFit) xs
       → at + owner_total zone_count xs ≤ 65535 → AllByRecursion FitsRecord (heads_from h at xs)
   heads_fit at [] f le = (last at (omega (arith, le)), tt)
   heads_fit at (x ∷ xs) f le =
-      let w = sum_by-cons (λ (x : WithZones H). zone_count x.global x.zones) x xs in
+      let w = sum_by-cons (λ (x : ZoneOwner H). zone_count x.global x.zones) x xs in
       let z = (holds h.level x.global x.zones).zones_are in (
         written at x.head (omega (arith, le)) f.0.head,
         heads_fit (at + length (bags_of h.level x)) xs f.1 (omega (arith, w, z, le)),
       )
 
-pub preset_heads_fit : (xs : List (WithZones Head)) → AllByRecursion (FitsOwner FitsHead) xs
+pub preset_heads_fit : (xs : List (ZoneOwner Head)) → AllByRecursion (FitsOwner FitsHead) xs
     → owner_total zone_count xs ≤ 65535 → AllByRecursion FitsPresetHead (heads_from presets 0 xs)
 preset_heads_fit xs f le =
     heads_fit presets FitsHead FitsPresetHead
@@ -279,7 +279,7 @@ preset_heads_fit xs f le =
     })
     (λ at lt. (ends_fit at lt).0) 0 xs f (omega (arith, le))
 
-pub instrument_heads_fit : (xs : List (WithZones (List ℕ))) → AllByRecursion (FitsOwner IsName) xs
+pub instrument_heads_fit : (xs : List (ZoneOwner (List ℕ))) → AllByRecursion (FitsOwner IsName) xs
     → owner_total zone_count xs ≤ 65535 → AllByRecursion FitsInstrumentHead (heads_from instruments 0 xs)
 instrument_heads_fit xs f le =
     heads_fit instruments IsName FitsInstrumentHead (λ at x lt v. record { name = length-filled x v.0; bag = lt })

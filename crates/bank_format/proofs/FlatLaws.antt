@@ -13,11 +13,11 @@ use Rattle.flat_records.specs.Runs as runs
 use Rattle.bank_owner_bags.specs.Owned as owned
 use Rattle.bank_parts.specs.declared.parts.GlobalZone.{GlobalZone}
 use Rattle.bank_parts.specs.declared.parts.Zone.{Zone}
-use Rattle.bank_parts.specs.declared.parts.WithZones.{WithZones}
+use Rattle.bank_parts.specs.declared.parts.ZoneOwner.{ZoneOwner}
 use Rattle.bank_parts.specs.declared.parts.Parts.{Parts}
 use Rattle.bank_parts.specs.Bagged as parts
 use Rattle.bank_parts.specs.FlatLists.{lists_of}
-use Rattle.bank_format.specs.Windows.{ends, together}
+use Rattle.bank_format.specs.Windows.{ends, zip_with}
 use Rattle.bank_format.specs.Zones.{Bagged, zone_written, bags_written}
 use Rattle.bank_format.specs.Tables.{Headers, bag, bag_list, mod_list, gen_list, modulator_end, generator_end}
 use Rattle.bank_format.specs.Tables.{bags_of, all_bags, heads_from, presets, instruments, tables_of}
@@ -46,7 +46,7 @@ global-by g false = refl
 
 -- ---- the bags of a preset or an instrument, and of all
 
-own-as : {H : Type 0} (at : Level) (x : WithZones H)
+own-as : {H : Type 0} (at : Level) (x : ZoneOwner H)
     → bags_of at x ≡ map as_bagged (parts.bags_of (target_operator at) x)
 unfolding bags_written
 own-as at x =
@@ -54,21 +54,21 @@ own-as at x =
     ∙ sym (map-append as_bagged (parts.global_bags x.global) (map (parts.zone_bag (target_operator at)) x.zones))
 
 module _ {H : Type 0} (at : Level) where
-  abbrev flat_bags : List (WithZones H) → List (List Bag)
+  abbrev flat_bags : List (ZoneOwner H) → List (List Bag)
   flat_bags xs = map (parts.bags_of (target_operator at)) xs
 
-  all-as : (xs : List (WithZones H)) → all_bags at xs ≡ map as_bagged (owned.all_bags (flat_bags xs))
+  all-as : (xs : List (ZoneOwner H)) → all_bags at xs ≡ map as_bagged (owned.all_bags (flat_bags xs))
   all-as [] = refl
   all-as (x ∷ xs) =
       (λ i. own-as at x i ++ all-as xs i)
       ∙ sym (map-append as_bagged (parts.bags_of (target_operator at) x) (owned.all_bags (flat_bags xs)))
 
-  own-count : (x : WithZones H) → length (bags_of at x) ≡ length (parts.bags_of (target_operator at) x)
+  own-count : (x : ZoneOwner H) → length (bags_of at x) ≡ length (parts.bags_of (target_operator at) x)
   own-count x = ap length (own-as at x) ∙ length-map (parts.bags_of (target_operator at) x) as_bagged
 
 -- ---- headers
 
-heads-as : {H R : Type 0} (h : Headers H R) (from : ℕ) (xs : List (WithZones H))
+heads-as : {H R : Type 0} (h : Headers H R) (from : ℕ) (xs : List (ZoneOwner H))
     → heads_from h from xs ≡ headers_of h xs (runs.starts owned.past_owner from (flat_bags h.level xs))
 heads-as h from [] = refl
 heads-as h from (x ∷ xs) =
@@ -79,7 +79,7 @@ heads-as h from (x ∷ xs) =
 -- ---- lists
 
 bags-from : (gens mods : ℕ) (bs : List Bag)
-    → together bag (gens ∷ ends gens (map (λ (r : Bagged). length r.gens) (map as_bagged bs)))
+    → zip_with bag (gens ∷ ends gens (map (λ (r : Bagged). length r.gens) (map as_bagged bs)))
     (mods ∷ ends mods (map (λ (r : Bagged). length r.mods) (map as_bagged bs)))
     ≡ map bag_of (runs.starts past_bag (gens, mods) bs)
 bags-from gens mods [] = refl
@@ -87,7 +87,7 @@ bags-from gens mods (b ∷ bs) =
     let count = length-map b.gens generator_of in
     ap
     (λ n. bag gens mods
-    ∷ together bag ((gens + n) ∷ ends (gens + n) (map (λ (r : Bagged). length r.gens) (map as_bagged bs)))
+    ∷ zip_with bag ((gens + n) ∷ ends (gens + n) (map (λ (r : Bagged). length r.gens) (map as_bagged bs)))
     ((mods + length b.mods)
     ∷ ends (mods + length b.mods) (map (λ (r : Bagged). length r.mods) (map as_bagged bs)))) count
     ∙ ap (λ rest. bag gens mods ∷ rest) (bags-from (gens + length b.gens) (mods + length b.mods) bs)
@@ -117,7 +117,7 @@ gen_list-as bs =
 
 -- ---- the tables of a level, and of a bank
 
-module _ {H : Type 0} (at : Level) (xs : List (WithZones H)) where
+module _ {H : Type 0} (at : Level) (xs : List (ZoneOwner H)) where
   pub bags-flat : bag_list (all_bags at xs) ≡ map bag_of (lists_of at xs).bags
   bags-flat = ap bag_list (all-as at xs) ∙ bag_list-as (owned.all_bags (flat_bags at xs))
 
@@ -127,11 +127,11 @@ module _ {H : Type 0} (at : Level) (xs : List (WithZones H)) where
   pub gens-flat : gen_list (all_bags at xs) ≡ map generator_of (lists_of at xs).gens
   gens-flat = ap gen_list (all-as at xs) ∙ gen_list-as (owned.all_bags (flat_bags at xs))
 
-pub heads-flat : {H R : Type 0} (h : Headers H R) (xs : List (WithZones H))
+pub heads-flat : {H R : Type 0} (h : Headers H R) (xs : List (ZoneOwner H))
     → heads_from h 0 xs ≡ headers_of h xs (lists_of h.level xs).first_bags
 heads-flat h xs = heads-as h 0 xs
 
-level-flat : {H R : Type 0} (h : Headers H R) (xs : List (WithZones H))
+level-flat : {H R : Type 0} (h : Headers H R) (xs : List (ZoneOwner H))
     → AreOfLists h xs (lists_of h.level xs) (heads_from h 0 xs) (bag_list (all_bags h.level xs))
     (mod_list (all_bags h.level xs)) (gen_list (all_bags h.level xs))
 level-flat h xs =

@@ -5,12 +5,12 @@ use Rattle.std.specs.Prelude.{bytes_eq}
 use Rattle.std.proofs.lemmas.Bool.{le-leb}
 use Rattle.std.proofs.lemmas.List.{length-append, take_at, drop_at}
 use Rattle.std.proofs.lemmas.Slice.Eq.{bytes_eq-Decides}
-use Rattle.riff_chunks.specs.Spelling.{chunk_head, pad, chunk}
-use Rattle.riff_chunks.proofs.SpellingLaws.{length-pad, length-chunk_head, Headed, chunk_head-Headed}
+use Rattle.riff_chunks.specs.Encoding.{chunk_head, pad, chunk}
+use Rattle.riff_chunks.proofs.EncodingLaws.{length-pad, length-chunk_head, Headed, chunk_head-Headed}
 use Rattle.bank_format.specs.Ids.{RIFF}
-use Rattle.bank_format.specs.Steps.{first_broken}
+use Rattle.bank_format.specs.FaultChecks.{first_fault}
 use Rattle.bank_format.specs.Chunks.{riff_size, window}
-use Rattle.bank_format.specs.ReadSteps.{form_steps}
+use Rattle.bank_format.specs.ReadChecks.{form_checks}
 
 pub same_bytes : (xs ys : List ℕ) → xs ≡ ys → bytes_eq xs ys ≡ true
 same_bytes xs ys e = (bytes_eq-Decides xs ys).1 e
@@ -48,8 +48,8 @@ module _ (form body : List ℕ) (four : length form ≡ 4) (small : length (form
       ap (λ (k : ℕ). drop 12 (take (8 + k) file)) (sym headed.sized) ∙ ap (drop 12) front ∙ rest
 
   pub form_holds : {F : Type 0} (not_riff truncated other_form : F)
-      → first_broken (form_steps form not_riff truncated other_form (chunk RIFF (form ++ body))) ≡ None
-  unfolding form_steps
+      → first_fault (form_checks form not_riff truncated other_form (chunk RIFF (form ++ body))) ≡ None
+  unfolding form_checks
   form_holds not_riff truncated other_form =
       let size = sym headed.sized in
       let least : 4 ≤ n = omega (arith, length-append form body, four) in

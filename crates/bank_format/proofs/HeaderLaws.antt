@@ -11,13 +11,13 @@ use Rattle.modulators.specs.declared.modulator.Modulator.{Modulator}
 use Rattle.bank_parts.specs.Valid.{AreGenerators, IsZone, AreZones}
 use Rattle.bank_parts.specs.declared.parts.GlobalZone.{GlobalZone}
 use Rattle.bank_parts.specs.declared.parts.Zone.{Zone}
-use Rattle.bank_format.specs.Zones.{Bagged, gens_written, zone_written, bags_written, kept, is_mended, gens_of}
-use Rattle.bank_format.specs.Zones.{zone_read, zones_read, no_global, global_read, has_target, dropped, looked_at}
-use Rattle.bank_format.specs.Zones.{ignored, gens_dropped, ranges_mended}
+use Rattle.bank_format.specs.Zones.{Bagged, gens_written, zone_written, bags_written, kept, needs_repair, gens_of}
+use Rattle.bank_format.specs.Zones.{zone_read, zones_read, no_global, global_read, has_target, dropped, counted_bags}
+use Rattle.bank_format.specs.Zones.{ignored, gens_dropped, repaired_range_count}
 use Rattle.bank_format.proofs.CountLaws.{sum-none, count-none}
-use Rattle.bank_format.proofs.ZoneLaws.{Entries, spelled, gens_of-again, gens_read-global, zone_read-again}
+use Rattle.bank_format.proofs.ZoneLaws.{Entries, generator_records, gens_of-again, gens_read-global, zone_read-again}
 use Rattle.bank_format.proofs.ZoneLaws.{has_target-zone, has_target-global, dropped-zone, dropped-global}
-use Rattle.bank_format.proofs.ZoneLaws.{mended-zone, mended-global, target_of-none}
+use Rattle.bank_format.proofs.ZoneLaws.{repaired-zone, repaired-global, target_of-none}
 
 abbrev made_global : Gens → List Modulator → GlobalZone
 made_global gs ms = record { gens = gs; mods = ms }
@@ -59,12 +59,12 @@ module _ (at : Level) (n : ℕ) where
       sum-none (λ (r : Bagged). dropped at r.gens) (zone_written at x) (written zs)
       (dropped-zone at x.gens x.target v.0.gens) (none_dropped zs v.1)
 
-  none_mended : (zs : List Zone) → Zones zs
-      → sum_by (λ (r : Bagged). count_by is_mended (kept at r.gens)) (written zs) ≡ 0
-  none_mended [] v = refl
-  none_mended (x ∷ zs) v =
-      sum-none (λ (r : Bagged). count_by is_mended (kept at r.gens)) (zone_written at x) (written zs)
-      (mended-zone at x.gens x.target v.0.gens) (none_mended zs v.1)
+  none_repaired : (zs : List Zone) → Zones zs
+      → sum_by (λ (r : Bagged). count_by needs_repair (kept at r.gens)) (written zs) ≡ 0
+  none_repaired [] v = refl
+  none_repaired (x ∷ zs) v =
+      sum-none (λ (r : Bagged). count_by needs_repair (kept at r.gens)) (zone_written at x) (written zs)
+      (repaired-zone at x.gens x.target v.0.gens) (none_repaired zs v.1)
 
   -- ---- with the global zone
 
@@ -74,12 +74,12 @@ module _ (at : Level) (n : ℕ) where
     pub zones : zones_read at bags ≡ zs
     pub ignored : ignored at bags ≡ 0
     pub dropped : gens_dropped at bags ≡ 0
-    pub mended : ranges_mended at bags ≡ 0
+    pub repaired : repaired_range_count at bags ≡ 0
 
   -- a header without a bag for the global zone
   without : (zs : List Zone) → Zones zs → Again (written zs) no_global zs
-  unfolding global_read zones_read ignored gens_dropped ranges_mended looked_at
-  without [] v = record { global = refl; zones = refl; ignored = refl; dropped = refl; mended = refl }
+  unfolding global_read zones_read ignored gens_dropped repaired_range_count counted_bags
+  without [] v = record { global = refl; zones = refl; ignored = refl; dropped = refl; repaired = refl }
   without (x ∷ zs) v =
       let first = all_targets zs v.1 in
       record {
@@ -87,12 +87,12 @@ module _ (at : Level) (n : ℕ) where
         zones = zones-again (x ∷ zs) v;
         ignored = none_ignored zs v.1;
         dropped = rw first (none_dropped (x ∷ zs) v);
-        mended = rw first (none_mended (x ∷ zs) v);
+        repaired = rw first (none_repaired (x ∷ zs) v);
       }
 
   with_bag : (gs : Gens) (ms : List Modulator) (zs : List Zone) → AreGenerators at gs → Zones zs
       → Again (global_bag gs ms ∷ written zs) (made_global gs ms) zs
-  unfolding global_read zones_read ignored gens_dropped ranges_mended looked_at
+  unfolding global_read zones_read ignored gens_dropped repaired_range_count counted_bags
   with_bag gs ms zs g v =
       let first = all_targets zs v in
       record {
@@ -103,10 +103,10 @@ module _ (at : Level) (n : ℕ) where
             rw first
             (sum-none (λ (r : Bagged). dropped at r.gens) (global_bag gs ms) (written zs)
             (dropped-global at gs g) (none_dropped zs v));
-        mended =
+        repaired =
             rw first
-            (sum-none (λ (r : Bagged). count_by is_mended (kept at r.gens)) (global_bag gs ms) (written zs)
-            (mended-global at gs g) (none_mended zs v));
+            (sum-none (λ (r : Bagged). count_by needs_repair (kept at r.gens)) (global_bag gs ms) (written zs)
+            (repaired-global at gs g) (none_repaired zs v));
       }
 
   -- a global zone without generators and modulators equals the empty one
@@ -114,7 +114,7 @@ module _ (at : Level) (n : ℕ) where
   empty_global g e =
       let l = len-entries g.gens in
       let gens : gens_of [] ≡ g.gens =
-      ap (λ (es : Entries). gens_of (spelled es)) (sym (no_elements (entries g.gens) (omega (arith, e, l))))
+      ap (λ (es : Entries). gens_of (generator_records es)) (sym (no_elements (entries g.gens) (omega (arith, e, l))))
       ∙ gens_of-again g.gens in
       let mods : [] ≡ g.mods = sym (no_elements g.mods (omega (arith, e))) in
       λ i. record { gens = gens i; mods = mods i }

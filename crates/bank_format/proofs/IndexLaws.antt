@@ -10,15 +10,15 @@ use Rattle.generators.specs.declared.level.Level.TheVariants as level
 use Rattle.bank_parts.specs.Valid.{owner_total, zone_count, gen_count, mod_count}
 use Rattle.bank_parts.specs.declared.parts.GlobalZone.{GlobalZone}
 use Rattle.bank_parts.specs.declared.parts.Zone.{Zone}
-use Rattle.bank_parts.specs.declared.parts.WithZones.{WithZones}
+use Rattle.bank_parts.specs.declared.parts.ZoneOwner.{ZoneOwner}
 use Rattle.bank_parts.specs.declared.parts.Parts.{Parts}
-use Rattle.bank_format.specs.Windows.{ends, starts, together}
+use Rattle.bank_format.specs.Windows.{ends, starts, zip_with}
 use Rattle.bank_format.specs.Zones.{Bagged, bags_written, global_written, zone_written}
 use Rattle.bank_format.specs.Tables.{bag, bag_list, bags_of, presets, instruments, tables_of}
 use Rattle.bank_format.specs.Indexes.{AreSums, IndexesAreSums}
 use Rattle.bank_format.proofs.WindowLaws.{sizes, total, length-starts}
 use Rattle.bank_format.proofs.TableLaws.{gens_in_bag, mods_in_bag, head_indexes}
-use Rattle.bank_format.proofs.IndexSteps.{length-bag_list}
+use Rattle.bank_format.proofs.IndexChecks.{length-bag_list}
 use Rattle.bank_format.proofs.FitLaws.{sizes-append, total-by, length-by, Holds, holds}
 
 -- ---- bags
@@ -26,7 +26,7 @@ use Rattle.bank_format.proofs.FitLaws.{sizes-append, total-by, length-by, Holds,
 -- the bag after these, when the generator and modulator indexes start at g and m
 bag_behind : (xs ys : List Bagged) (g m : ℕ)
     → slice_get
-    (together bag (g ∷ ends g (sizes gens_in_bag (xs ++ ys))) (m ∷ ends m (sizes mods_in_bag (xs ++ ys))))
+    (zip_with bag (g ∷ ends g (sizes gens_in_bag (xs ++ ys))) (m ∷ ends m (sizes mods_in_bag (xs ++ ys))))
     (length xs)
     ≡ Some (bag (g + total (sizes gens_in_bag xs)) (m + total (sizes mods_in_bag xs)))
 bag_behind [] ys g m =
@@ -82,42 +82,42 @@ drop-found (y ∷ ys) (suc i) x e = drop-found ys i x e
 -- ---- the presets, or the instruments
 
 module _ {H : Type 0} (at : Level) where
-  abbrev own_bags : WithZones H → List Bagged
+  abbrev own_bags : ZoneOwner H → List Bagged
   own_bags o = bags_of at o
 
-  all_hold : (os : List (WithZones H))
+  all_hold : (os : List (ZoneOwner H))
       → Holds (flat_map own_bags os) (owner_total zone_count os) (owner_total gen_count os)
       (owner_total mod_count os)
   all_hold os = record {
     zones_are =
-        length-by own_bags (λ (o : WithZones H). zone_count o.global o.zones)
-        (λ (o : WithZones H). (holds at o.global o.zones).zones_are) os;
+        length-by own_bags (λ (o : ZoneOwner H). zone_count o.global o.zones)
+        (λ (o : ZoneOwner H). (holds at o.global o.zones).zones_are) os;
     gens_are =
-        total-by gens_in_bag own_bags (λ (o : WithZones H). gen_count o.global o.zones)
-        (λ (o : WithZones H). (holds at o.global o.zones).gens_are) os;
+        total-by gens_in_bag own_bags (λ (o : ZoneOwner H). gen_count o.global o.zones)
+        (λ (o : ZoneOwner H). (holds at o.global o.zones).gens_are) os;
     mods_are =
-        total-by mods_in_bag own_bags (λ (o : WithZones H). mod_count o.global o.zones)
-        (λ (o : WithZones H). (holds at o.global o.zones).mods_are) os;
+        total-by mods_in_bag own_bags (λ (o : ZoneOwner H). mod_count o.global o.zones)
+        (λ (o : ZoneOwner H). (holds at o.global o.zones).mods_are) os;
   }
 
-  index_at : (i from : ℕ) (os : List (WithZones H)) → i ≤ length os
+  index_at : (i from : ℕ) (os : List (ZoneOwner H)) → i ≤ length os
       → slice_get (from ∷ ends from (sizes own_bags os)) i ≡ Some (from + owner_total zone_count (take i os))
   index_at zero from os le = let e : from ≡ from + 0 = omega arith in ap Some e
   index_at (suc i) from [] le = absurd (omega (arith, le))
   index_at (suc i) from (o ∷ os) le =
       let one = (holds at o.global o.zones).zones_are in
-      let sum = sum_by-cons (λ (o : WithZones H). zone_count o.global o.zones) o (take i os) in
+      let sum = sum_by-cons (λ (o : ZoneOwner H). zone_count o.global o.zones) o (take i os) in
       let e : from + length (own_bags o) + owner_total zone_count (take i os)
       ≡ from + owner_total zone_count (o ∷ take i os) =
       omega (arith, one, sum) in
       index_at i (from + length (own_bags o)) os (omega (arith, le)) ∙ ap Some e
 
-  split : (i : ℕ) (os : List (WithZones H))
+  split : (i : ℕ) (os : List (ZoneOwner H))
       → flat_map own_bags (take i os) ++ flat_map own_bags (drop i os) ≡ flat_map own_bags os
   split i os = sym (flat_map-append own_bags (take i os) (drop i os)) ∙ ap (flat_map own_bags) (take-append-drop i os)
 
   -- the bags of the first i owners, and of the first j zones of owner i
-  split-zones : (i j : ℕ) (os : List (WithZones H)) (o : WithZones H) → slice_get os i ≡ Some o
+  split-zones : (i j : ℕ) (os : List (ZoneOwner H)) (o : ZoneOwner H) → slice_get os i ≡ Some o
       → (flat_map own_bags (take i os) ++ bags_written at o.global (take j o.zones))
       ++ (map (zone_written at) (drop j o.zones) ++ flat_map own_bags (drop (suc i) os))
       ≡ flat_map own_bags os
@@ -129,10 +129,10 @@ module _ {H : Type 0} (at : Level) where
       append_assoc before own (rest ++ later)
       ∙ ap (λ (l : List Bagged). before ++ l)
       (sym (append_assoc own rest later) ∙ ap (λ (l : List Bagged). l ++ later) (bags-split at o.global o.zones j))
-      ∙ ap (λ (l : List (WithZones H)). before ++ flat_map own_bags l) (sym (drop-found os i o e))
+      ∙ ap (λ (l : List (ZoneOwner H)). before ++ flat_map own_bags l) (sym (drop-found os i o e))
       ∙ split i os
 
-  pub sums : (os : List (WithZones H)) (first_bags : List ℕ) → first_bags ≡ starts (sizes own_bags os)
+  pub sums : (os : List (ZoneOwner H)) (first_bags : List ℕ) → first_bags ≡ starts (sizes own_bags os)
       → AreSums os first_bags (bag_list (flat_map own_bags os))
   sums os first_bags e = record {
     header_count = let l = length-starts own_bags os in ap length e ∙ omega (arith, l);

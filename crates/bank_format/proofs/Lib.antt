@@ -1,4 +1,4 @@
-pub mod StepLaws
+pub mod CheckLaws
 pub mod FormLaws
 pub mod AllLaws
 pub mod CountLaws
@@ -11,7 +11,7 @@ pub mod ZoneLaws
 pub mod HeaderLaws
 pub mod TableLaws
 pub mod SampleLaws
-pub mod IndexSteps
+pub mod IndexChecks
 pub mod FitLaws
 pub mod FlatLaws
 pub mod IndexLaws

@@ -11,26 +11,26 @@ use Rattle.modulators.specs.declared.modulator.Modulator.{Modulator}
 use Rattle.modulators.specs.Modulators.{FitsModulator}
 use Rattle.bank_parts.specs.Valid.{IsValid, zone_count, gen_count, mod_count, owner_total}
 use Rattle.bank_parts.specs.Fits.{Fits, FitsHead, FitsOwner}
-use Rattle.bank_parts.specs.declared.parts.WithZones.{WithZones}
+use Rattle.bank_parts.specs.declared.parts.ZoneOwner.{ZoneOwner}
 use Rattle.bank_parts.specs.declared.parts.Parts.{Parts}
 use Rattle.hydra_records.specs.Fits.{FitsBag, FitsGenerator, FitsPresetHead, FitsInstrumentHead, FitsSampleHead}
-use Rattle.hydra_records.specs.Spelling.{preset_head_bytes, bag_bytes, modulator_bytes, generator_bytes}
-use Rattle.hydra_records.specs.Spelling.{instrument_head_bytes, sample_head_bytes}
-use Rattle.hydra_records.proofs.KindLaws.{preset_head_lawful, bag_lawful, modulator_lawful, generator_lawful}
-use Rattle.hydra_records.proofs.KindLaws.{instrument_head_lawful, sample_head_lawful}
+use Rattle.hydra_records.specs.Encoding.{preset_head_bytes, bag_bytes, modulator_bytes, generator_bytes}
+use Rattle.hydra_records.specs.Encoding.{instrument_head_bytes, sample_head_bytes}
+use Rattle.hydra_records.proofs.RecordTypeLaws.{preset_head_lawful, bag_lawful, modulator_lawful, generator_lawful}
+use Rattle.hydra_records.proofs.RecordTypeLaws.{instrument_head_lawful, sample_head_lawful}
 use Rattle.bank_format.specs.Ids.{PHDR, PBAG, PMOD, PGEN, INST, IBAG, IMOD, IGEN, SHDR}
-use Rattle.bank_format.specs.Steps.{first_broken}
+use Rattle.bank_format.specs.FaultChecks.{first_fault}
 use Rattle.bank_format.specs.Zones.{Bagged}
 use Rattle.bank_format.specs.Tables.{Tables, tables_of, bag_list, gen_list, mod_list, generator_end, modulator_end}
 use Rattle.bank_format.specs.Tables.{sample_end, presets, instruments, bags_of, all_bags, sample_heads_from}
 use Rattle.bank_format.specs.Canon.{pdta}
-use Rattle.bank_format.specs.Chunks.{or_zero, tables_in}
-use Rattle.bank_format.specs.ReadSteps.{size_steps, count_steps}
+use Rattle.bank_format.specs.Chunks.{or_terminal, tables_in}
+use Rattle.bank_format.specs.ReadChecks.{size_checks, count_checks}
 use Rattle.bank_format.proofs.AllLaws.{all-flat_map}
 use Rattle.bank_format.proofs.WindowLaws.{sizes, total, length-flat}
 use Rattle.bank_format.proofs.TableLaws.{gens_in_bag, mods_in_bag, length-heads}
 use Rattle.bank_format.proofs.SampleLaws.{length-sample_heads}
-use Rattle.bank_format.proofs.IndexSteps.{length-bag_list}
+use Rattle.bank_format.proofs.IndexChecks.{length-bag_list}
 use Rattle.bank_format.proofs.FitLaws.{total-by, length-by, holds, bags_fit, FitsBagged, written_fit, gen_list_fit}
 use Rattle.bank_format.proofs.FitLaws.{mod_list_fit, preset_heads_fit, instrument_heads_fit, sample_heads_fit}
 
@@ -59,20 +59,20 @@ pub record TablesCount (t : Tables) : Type 0 where
   pub igen : IsCount (length t.igen)
   pub shdr : IsCount (length t.shdr)
 
-or_zero-again : (ms : List Modulator) → 1 ≤ length ms → or_zero ms ≡ ms
-or_zero-again [] h = absurd (omega arith)
-or_zero-again (m ∷ ms) h = refl
+or_terminal-again : (ms : List Modulator) → 1 ≤ length ms → or_terminal ms ≡ ms
+or_terminal-again [] h = absurd (omega arith)
+or_terminal-again (m ∷ ms) h = refl
 
 pub tables-again : (t : Tables) → TablesFit t → TablesCount t → tables_in (pdta t) ≡ t
 unfolding tables_in pdta PHDR PBAG PMOD PGEN INST IBAG IMOD IGEN SHDR
 tables-again t v c =
     let phdr = preset_head_lawful.records_read_back t.phdr v.phdr in
     let pbag = bag_lawful.records_read_back t.pbag v.pbag in
-    let pmod = ap or_zero (modulator_lawful.records_read_back t.pmod v.pmod) ∙ or_zero-again t.pmod c.pmod.0 in
+    let pmod = ap or_terminal (modulator_lawful.records_read_back t.pmod v.pmod) ∙ or_terminal-again t.pmod c.pmod.0 in
     let pgen = generator_lawful.records_read_back t.pgen v.pgen in
     let inst = instrument_head_lawful.records_read_back t.inst v.inst in
     let ibag = bag_lawful.records_read_back t.ibag v.ibag in
-    let imod = ap or_zero (modulator_lawful.records_read_back t.imod v.imod) ∙ or_zero-again t.imod c.imod.0 in
+    let imod = ap or_terminal (modulator_lawful.records_read_back t.imod v.imod) ∙ or_terminal-again t.imod c.imod.0 in
     let igen = generator_lawful.records_read_back t.igen v.igen in
     let shdr = sample_head_lawful.records_read_back t.shdr v.shdr in
     λ i.
@@ -96,20 +96,20 @@ tables-again t v c =
 
 module _ (b : Parts) (v : IsValid b) where
   -- the bags of one level
-  module _ {H : Type 0} (at : Level) (xs : List (WithZones H)) where
+  module _ {H : Type 0} (at : Level) (xs : List (ZoneOwner H)) where
     gens_are : total (sizes gens_in_bag (all_bags at xs)) ≡ owner_total gen_count xs
     gens_are =
-        total-by gens_in_bag (bags_of at) (λ (x : WithZones H). gen_count x.global x.zones)
+        total-by gens_in_bag (bags_of at) (λ (x : ZoneOwner H). gen_count x.global x.zones)
         (λ x. (holds at x.global x.zones).gens_are) xs
 
     mods_are : total (sizes mods_in_bag (all_bags at xs)) ≡ owner_total mod_count xs
     mods_are =
-        total-by mods_in_bag (bags_of at) (λ (x : WithZones H). mod_count x.global x.zones)
+        total-by mods_in_bag (bags_of at) (λ (x : ZoneOwner H). mod_count x.global x.zones)
         (λ x. (holds at x.global x.zones).mods_are) xs
 
     zones_are : length (all_bags at xs) ≡ owner_total zone_count xs
     zones_are =
-        length-by (bags_of at) (λ (x : WithZones H). zone_count x.global x.zones)
+        length-by (bags_of at) (λ (x : ZoneOwner H). zone_count x.global x.zones)
         (λ x. (holds at x.global x.zones).zones_are) xs
 
     all_bags_fit : (IsFit : H → Type 0) → AllByRecursion (FitsOwner IsFit) xs
@@ -184,8 +184,8 @@ module _ (b : Parts) (v : IsValid b) where
 
 -- ---- checks
 
-pub count_steps_hold : (t : Tables) → TablesCount t → first_broken (count_steps t) ≡ None
-unfolding count_steps
+pub count_steps_hold : (t : Tables) → TablesCount t → first_fault (count_checks t) ≡ None
+unfolding count_checks
 count_steps_hold t c =
     let least : (n : ℕ) → IsCount n → leb 1 n ≡ true = λ n i. le-leb _ _ i.0 in
     let most : (n : ℕ) → IsCount n → leb n 65536 ≡ true = λ n i. le-leb _ _ i.1 in
@@ -238,8 +238,8 @@ measured t v = record {
   shdr = sample_head_lawful.records_have_size t.shdr v.shdr;
 }
 
-pub size_steps_hold : (t : Tables) → Measured t → first_broken (size_steps (pdta t)) ≡ None
-unfolding size_steps pdta PHDR PBAG PMOD PGEN INST IBAG IMOD IGEN SHDR
+pub size_steps_hold : (t : Tables) → Measured t → first_fault (size_checks (pdta t)) ≡ None
+unfolding size_checks pdta PHDR PBAG PMOD PGEN INST IBAG IMOD IGEN SHDR
 size_steps_hold t m =
     let s1 : eqb (length (flat_map preset_head_bytes t.phdr) % 38) 0 ≡ true =
     eq-eqb _ _ (let e = m.phdr in omega (arith, e)) in

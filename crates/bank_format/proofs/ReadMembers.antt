@@ -6,24 +6,24 @@ use Rattle.std.proofs.lemmas.Bool.{ltb-true}
 use Rattle.sf_base.specs.Names.{IsName, before_zero}
 use Rattle.generators.specs.declared.level.Level.{Level}
 use Rattle.bank_parts.specs.declared.parts.Zone.{Zone}
-use Rattle.bank_parts.specs.declared.parts.WithZones.{WithZones}
+use Rattle.bank_parts.specs.declared.parts.ZoneOwner.{ZoneOwner}
 use Rattle.bank_parts.specs.Valid.{AreGenerators, IsZone, IsOwner, zone_count, gen_count, mod_count, owner_total}
 use Rattle.bank_parts.specs.Fits.{FitsHead, FitsOwner}
 use Rattle.hydra_records.specs.declared.head.PresetHead.{PresetHead}
 use Rattle.hydra_records.specs.declared.head.InstrumentHead.{InstrumentHead}
 use Rattle.hydra_records.specs.Fits.{FitsPresetHead, FitsInstrumentHead}
 use Rattle.hydra_records.specs.Records.{AreBytes, ReadFits, records}
-use Rattle.hydra_records.specs.Spelling.{preset_head_of, instrument_head_of}
-use Rattle.hydra_records.proofs.KindLaws.{preset_head_lawful, instrument_head_lawful}
+use Rattle.hydra_records.specs.Encoding.{preset_head_of, instrument_head_of}
+use Rattle.hydra_records.proofs.RecordTypeLaws.{preset_head_lawful, instrument_head_lawful}
 use Rattle.hydra_records.proofs.RecordLaws.{records-fit}
 use Rattle.bank_format.specs.declared.fault.ReadFault.{ReadFault}
-use Rattle.bank_format.specs.Steps.{first_broken}
-use Rattle.bank_format.specs.Windows.{together}
+use Rattle.bank_format.specs.FaultChecks.{first_fault}
+use Rattle.bank_format.specs.Windows.{zip_with}
 use Rattle.bank_format.specs.Zones.{Bagged}
 use Rattle.bank_format.specs.Tables.{Headers, presets}
 use Rattle.bank_format.specs.Reading.{owner_read}
-use Rattle.bank_format.specs.ReadSteps.{target_step, targets_of}
-use Rattle.bank_format.proofs.StepLaws.{split_none}
+use Rattle.bank_format.specs.ReadChecks.{target_check, targets_of}
+use Rattle.bank_format.proofs.CheckLaws.{split_none}
 use Rattle.bank_format.proofs.ReadBytes.{take_bytes}
 use Rattle.bank_format.proofs.ReadTexts.{name_valid}
 use Rattle.bank_format.proofs.ReadWindows.{all_together, sum-right}
@@ -74,11 +74,11 @@ nothing_holds (x ∷ xs) = (tt, nothing_holds xs)
 abbrev HasTarget : ℕ → Zone → Type 0
 HasTarget n z = z.target < n
 
-zone_targets : (n : ℕ) (f : ReadFault) (zs : List Zone) → first_broken (map (target_step n f) zs) ≡ None
+zone_targets : (n : ℕ) (f : ReadFault) (zs : List Zone) → first_fault (map (target_check n f) zs) ≡ None
     → AllByRecursion (HasTarget n) zs
 zone_targets n f [] e = tt
 zone_targets n f (z ∷ zs) e =
-    let both = split_none (ltb z.target n) (first_broken (map (target_step n f) zs)) f e in
+    let both = split_none (ltb z.target n) (first_fault (map (target_check n f) zs)) f e in
     (ltb-true _ _ both.0, zone_targets n f zs both.1)
 
 split_all : {X : Type 0} (P : X → Type 0) (xs ys : List X) → AllByRecursion P (xs ++ ys)
@@ -99,11 +99,11 @@ zones_valid at n zs g t =
 -- ---- presets, or instruments
 
 module _ {H R : Type 0} (h : Headers H R) (rs : List R) (ws : List (List Bagged)) where
-  abbrev owners : List (WithZones H)
-  owners = together (owner_read h) rs ws
+  abbrev owners : List (ZoneOwner H)
+  owners = zip_with (owner_read h) rs ws
 
   -- valid except for targets
-  record IsNear (name_of : H → List ℕ) (x : WithZones H) : Type 0 where
+  record IsNear (name_of : H → List ℕ) (x : ZoneOwner H) : Type 0 where
     name : IsName (name_of x.head)
     global : AreGenerators h.level x.global.gens
     zones : AllByRecursion (HasGenerators h.level) x.zones
@@ -116,11 +116,11 @@ module _ {H R : Type 0} (h : Headers H R) (rs : List R) (ws : List (List Bagged)
         rs ws v (nothing_holds ws)
 
     pub owners_valid : (n : ℕ) (f : ReadFault) → AllByRecursion IsRead rs
-        → first_broken (targets_of n f owners) ≡ None → AllByRecursion (IsOwner name_of h.level n) owners
+        → first_fault (targets_of n f owners) ≡ None → AllByRecursion (IsOwner name_of h.level n) owners
     owners_valid n f v e =
         let targets =
-        split_flat (HasTarget n) (λ (x : WithZones H). x.zones) owners
-        (zone_targets n f (flat_map (λ (x : WithZones H). x.zones) owners) e) in
+        split_flat (HasTarget n) (λ (x : ZoneOwner H). x.zones) owners
+        (zone_targets n f (flat_map (λ (x : ZoneOwner H). x.zones) owners) e) in
         both_hold (IsNear name_of) (λ x. AllByRecursion (HasTarget n) x.zones) (IsOwner name_of h.level n)
         (λ x q t.
         record {
@@ -152,21 +152,21 @@ module _ {H R : Type 0} (h : Headers H R) (rs : List R) (ws : List (List Bagged)
             omega (
               arith,
               vz,
-              sum-right (owner_read h) (λ (x : WithZones H). zone_count x.global x.zones) length
+              sum-right (owner_read h) (λ (x : ZoneOwner H). zone_count x.global x.zones) length
                   (λ r w. (counted h.level w).zones) rs ws,
             );
         gens =
             omega (
               arith,
               vg,
-              sum-right (owner_read h) (λ (x : WithZones H). gen_count x.global x.zones)
+              sum-right (owner_read h) (λ (x : ZoneOwner H). gen_count x.global x.zones)
                   (λ bags. sum_by gens_in bags) (λ r w. (counted h.level w).gens) rs ws,
             );
         mods =
             omega (
               arith,
               vm,
-              sum-right (owner_read h) (λ (x : WithZones H). mod_count x.global x.zones)
+              sum-right (owner_read h) (λ (x : ZoneOwner H). mod_count x.global x.zones)
                   (λ bags. sum_by mods_in bags) (λ r w. (counted h.level w).mods) rs ws,
             );
       }

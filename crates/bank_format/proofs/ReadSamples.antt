@@ -16,13 +16,13 @@ use Rattle.bank_parts.specs.declared.parts.Sample.{Sample}
 use Rattle.hydra_records.specs.declared.head.SampleHead.{SampleHead}
 use Rattle.hydra_records.specs.Fits.{FitsSampleHead}
 use Rattle.hydra_records.specs.Records.{AreBytes, ReadFits, records}
-use Rattle.hydra_records.specs.Spelling.{sample_head_of}
-use Rattle.hydra_records.proofs.KindLaws.{sample_head_lawful}
+use Rattle.hydra_records.specs.Encoding.{sample_head_of}
+use Rattle.hydra_records.proofs.RecordTypeLaws.{sample_head_lawful}
 use Rattle.hydra_records.proofs.RecordLaws.{records-fit}
-use Rattle.bank_format.specs.Steps.{first_broken}
+use Rattle.bank_format.specs.FaultChecks.{first_fault}
 use Rattle.bank_format.specs.Samples.{has_loop, loop_read, link_read, kind_read, sample_read}
-use Rattle.bank_format.specs.ReadSteps.{sample_step, total_steps}
-use Rattle.bank_format.proofs.StepLaws.{split_none}
+use Rattle.bank_format.specs.ReadChecks.{sample_checks, total_checks}
+use Rattle.bank_format.proofs.CheckLaws.{split_none}
 use Rattle.bank_format.proofs.ReadBytes.{take_bytes}
 use Rattle.bank_format.proofs.ReadTexts.{name_valid}
 
@@ -43,8 +43,8 @@ pub record GoodHead (points : ℕ) (h : SampleHead) : Type 0 where
   pub order : h.start ≤ h.end
   pub inside : h.end ≤ points
 
-pub good_head : (points : ℕ) (h : SampleHead) → first_broken (sample_step points h) ≡ None → GoodHead points h
-unfolding sample_step
+pub good_head : (points : ℕ) (h : SampleHead) → first_fault (sample_checks points h) ≡ None → GoodHead points h
+unfolding sample_checks
 good_head points h e =
     let kind = split_none (eqb (h.kind / 16 % 2) 0) _ _ e in
     let rom = split_none (eqb (h.kind / 32768 % 2) 0) _ _ kind.1 in
@@ -154,6 +154,6 @@ point_total-read n points (h ∷ hs) g =
     in
     omega (arith, len, rest, old, new)
 
-pub total_small : (hs : List SampleHead) → first_broken (total_steps hs) ≡ None → sum_by head_size hs ≤ 500000000
-unfolding total_steps
+pub total_small : (hs : List SampleHead) → first_fault (total_checks hs) ≡ None → sum_by head_size hs ≤ 500000000
+unfolding total_checks
 total_small hs e = leb-true _ _ (split_none (leb (sum_by head_size hs) 500000000) _ _ e).0

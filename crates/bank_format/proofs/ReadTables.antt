@@ -8,12 +8,12 @@ use Rattle.modulators.specs.Modulators.{FitsModulator}
 use Rattle.hydra_records.specs.declared.zone.Bag.{Bag}
 use Rattle.hydra_records.specs.declared.zone.Generator.{Generator}
 use Rattle.hydra_records.specs.Fits.{FitsGenerator}
-use Rattle.bank_format.specs.Steps.{first_broken}
+use Rattle.bank_format.specs.FaultChecks.{first_fault}
 use Rattle.bank_format.specs.Windows.{windows}
 use Rattle.bank_format.specs.Zones.{Bagged}
 use Rattle.bank_format.specs.Reading.{bagged, bags_in}
-use Rattle.bank_format.specs.ReadSteps.{index_steps, bag_steps}
-use Rattle.bank_format.proofs.StepLaws.{both_none}
+use Rattle.bank_format.specs.ReadChecks.{index_checks, bag_checks}
+use Rattle.bank_format.proofs.CheckLaws.{both_none}
 use Rattle.bank_format.proofs.ReadWindows.{AreIndexes, indexes_held, all_windows, lengths_within, sums_within}
 use Rattle.bank_format.proofs.ReadWindows.{all_together, sum-left, sum-right}
 use Rattle.bank_format.proofs.ReadHeaders.{FitsBagged, gens_in, mods_in}
@@ -73,10 +73,10 @@ module _ (bags : List Bag) (gens : List Generator) (mods : List Modulator) where
       )
 
   pub windows_within : (is : List ℕ) → AreFew bags gens mods → AreIndexes is (length bags - 1)
-      → first_broken (bag_steps bags (length gens) (length mods)) ≡ None
+      → first_fault (bag_checks bags (length gens) (length mods)) ≡ None
       → AreWithin (windows (bags_in bags gens mods) is)
   windows_within is few v e =
-      let both = both_none (index_steps gen_indexes (length gens)) (index_steps mod_indexes (length mods)) e in
+      let both = both_none (index_checks gen_indexes (length gens)) (index_checks mod_indexes (length mods)) e in
       let table = bags_in bags gens mods in
       let fb = few.bags in
       let fg = few.gens in

@@ -6,10 +6,10 @@ use Rattle.std.specs.List.{AllByRecursion, slice_range, list_all}
 use Rattle.std.proofs.lemmas.Bool.{leb-true, and_parts}
 use Rattle.std.proofs.lemmas.List.{length-take, drop-drop}
 use Rattle.std.proofs.lemmas.List.Sums.{sum_by-cons, sum_by-take-drop}
-use Rattle.bank_format.specs.Steps.{first_broken}
-use Rattle.bank_format.specs.Windows.{windows_from, windows, together}
-use Rattle.bank_format.specs.ReadSteps.{is_rising_from, is_rising, index_steps}
-use Rattle.bank_format.proofs.StepLaws.{split_none}
+use Rattle.bank_format.specs.FaultChecks.{first_fault}
+use Rattle.bank_format.specs.Windows.{windows_from, windows, zip_with}
+use Rattle.bank_format.specs.ReadChecks.{is_rising_from, is_rising, index_checks}
+use Rattle.bank_format.proofs.CheckLaws.{split_none}
 
 -- ---- non-decreasing indexes, none greater than the last index
 
@@ -17,8 +17,8 @@ pub record AreIndexes (is : List ℕ) (last : ℕ) : Type 0 where
   pub rising : is_rising is ≡ true
   pub inside : list_all (λ i. nat_le i last) is ≡ true
 
-pub indexes_held : (is : List ℕ) (n : ℕ) → first_broken (index_steps is n) ≡ None → AreIndexes is (n - 1)
-unfolding index_steps
+pub indexes_held : (is : List ℕ) (n : ℕ) → first_fault (index_checks is n) ≡ None → AreIndexes is (n - 1)
+unfolding index_checks
 indexes_held is n e =
     let order = split_none (is_rising is) _ _ e in
     let last = split_none (list_all (λ i. nat_le i (n - 1)) is) _ _ order.1 in
@@ -103,35 +103,35 @@ module _ {X : Type 0} (measure : X → ℕ) (table : List X) where
 
 module _ {X Y Z : Type 0} (f : X → Y → Z) where
   pub all_together : (P : X → Type 0) (Q : Y → Type 0) (R : Z → Type 0) → ((x : X) (y : Y) → P x → Q y → R (f x y))
-      → (xs : List X) (ys : List Y) → AllByRecursion P xs → AllByRecursion Q ys → AllByRecursion R (together f xs ys)
+      → (xs : List X) (ys : List Y) → AllByRecursion P xs → AllByRecursion Q ys → AllByRecursion R (zip_with f xs ys)
   all_together P Q R h [] ys p q = tt
   all_together P Q R h (x ∷ xs) [] p q = tt
   all_together P Q R h (x ∷ xs) (y ∷ ys) p q = (h x y p.0 q.0, all_together P Q R h xs ys p.1 q.1)
 
-  pub length-together-le : (xs : List X) (ys : List Y) → length (together f xs ys) ≤ length xs
-  length-together-le [] ys = omega arith
-  length-together-le (x ∷ xs) [] = omega arith
-  length-together-le (x ∷ xs) (y ∷ ys) = let h = length-together-le xs ys in omega (arith, h)
+  pub length-zip_with-le : (xs : List X) (ys : List Y) → length (zip_with f xs ys) ≤ length xs
+  length-zip_with-le [] ys = omega arith
+  length-zip_with-le (x ∷ xs) [] = omega arith
+  length-zip_with-le (x ∷ xs) (y ∷ ys) = let h = length-zip_with-le xs ys in omega (arith, h)
 
   -- the sum over the zipped list is at most the sum over either list
   pub sum-left : (g : Z → ℕ) (k : X → ℕ) → ((x : X) (y : Y) → g (f x y) ≤ k x) → (xs : List X) (ys : List Y)
-      → sum_by g (together f xs ys) ≤ sum_by k xs
+      → sum_by g (zip_with f xs ys) ≤ sum_by k xs
   sum-left g k h [] ys = omega arith
   sum-left g k h (x ∷ xs) [] = omega arith
   sum-left g k h (x ∷ xs) (y ∷ ys) =
       let one = h x y in
       let rest = sum-left g k h xs ys in
       let old = sum_by-cons k x xs in
-      let new = sum_by-cons g (f x y) (together f xs ys) in
+      let new = sum_by-cons g (f x y) (zip_with f xs ys) in
       omega (arith, one, rest, old, new)
 
   pub sum-right : (g : Z → ℕ) (k : Y → ℕ) → ((x : X) (y : Y) → g (f x y) ≤ k y) → (xs : List X) (ys : List Y)
-      → sum_by g (together f xs ys) ≤ sum_by k ys
+      → sum_by g (zip_with f xs ys) ≤ sum_by k ys
   sum-right g k h [] ys = omega arith
   sum-right g k h (x ∷ xs) [] = omega arith
   sum-right g k h (x ∷ xs) (y ∷ ys) =
       let one = h x y in
       let rest = sum-right g k h xs ys in
       let old = sum_by-cons k y ys in
-      let new = sum_by-cons g (f x y) (together f xs ys) in
+      let new = sum_by-cons g (f x y) (zip_with f xs ys) in
       omega (arith, one, rest, old, new)

@@ -19,7 +19,7 @@ use Rattle.bank_parts.specs.Valid.{IsGenerator, AreGenerators}
 use Rattle.hydra_records.specs.declared.zone.Generator.{Generator}
 use Rattle.hydra_records.specs.Fits.{FitsGenerator}
 use Rattle.bank_format.specs.Zones.{is_target, target_of, before_target, allowed_in, last_of_each, kept, is_range}
-use Rattle.bank_format.specs.Zones.{range_mended, mended, gens_of, gens_read}
+use Rattle.bank_format.specs.Zones.{repaired_range, repaired, gens_of, gens_read}
 
 -- ---- a map of entries
 
@@ -101,10 +101,10 @@ module _ (at : Level) where
 
   -- ---- repaired ranges
 
-  mended_is : (r : Generator) → IsAllowed r → IsGenerator at (entry_of (mended r))
-  mended_is r a =
+  repaired_is : (r : Generator) → IsAllowed r → IsGenerator at (entry_of (repaired r))
+  repaired_is r a =
       (elim (is_range r) as (λ b. is_range r ≡ b → IsGenerator at
-      (entry_of (cond b (record { operator = r.operator; amount = range_mended r.amount }) r))) [
+      (entry_of (cond b (record { operator = r.operator; amount = repaired_range r.amount }) r))) [
         | true ↦ λ e. record { allowed = a; range = λ t. range_in_order r.amount }
         | false ↦ λ e. record { allowed = a; range = λ t. absurd (true_not_false (sym t ∙ e)) }
       ]) refl
@@ -112,39 +112,39 @@ module _ (at : Level) where
       true_not_false : true ≡ false → ⊥
       true_not_false e = cc
 
-      range_in_order : (w : ℕ) → IsRange (range_mended w)
+      range_in_order : (w : ℕ) → IsRange (repaired_range w)
       range_in_order w = Prim.grind (arith, nat_tests)
 
-  all_mended : (rs : List Generator) → AllByRecursion IsAllowed rs
-      → AllByRecursion (IsGenerator at) (map entry_of (map mended rs))
-  all_mended [] v = tt
-  all_mended (r ∷ rs) v = (mended_is r v.0, all_mended rs v.1)
+  all_repaired : (rs : List Generator) → AllByRecursion IsAllowed rs
+      → AllByRecursion (IsGenerator at) (map entry_of (map repaired rs))
+  all_repaired [] v = tt
+  all_repaired (r ∷ rs) v = (repaired_is r v.0, all_repaired rs v.1)
 
   pub gens_valid : (rs : List Generator) → AreGenerators at (gens_read at rs)
   gens_valid rs =
-      All-from (IsGenerator at) (map entry_of (map mended (kept at rs))) (all_mended (kept at rs) (kept_allowed rs))
+      All-from (IsGenerator at) (map entry_of (map repaired (kept at rs))) (all_repaired (kept at rs) (kept_allowed rs))
 
   -- ---- numbers in range
 
-  mended_fits : (r : Generator) → FitsGenerator r → FitsEntry (entry_of (mended r))
-  mended_fits r f =
+  repaired_fits : (r : Generator) → FitsGenerator r → FitsEntry (entry_of (repaired r))
+  repaired_fits r f =
       elim (is_range r) as
-      (λ b. FitsEntry (entry_of (cond b (record { operator = r.operator; amount = range_mended r.amount }) r))) [
+      (λ b. FitsEntry (entry_of (cond b (record { operator = r.operator; amount = repaired_range r.amount }) r))) [
         | true ↦ (f.operator, small r.amount)
         | false ↦ (f.operator, f.amount)
       ]
     where
-      small : (w : ℕ) → range_mended w < 2 ^ 16
+      small : (w : ℕ) → repaired_range w < 2 ^ 16
       small w = Prim.grind (arith, nat_tests)
 
   all_fit : (rs : List Generator) → AllByRecursion FitsGenerator rs
-      → AllByRecursion FitsEntry (map entry_of (map mended rs))
+      → AllByRecursion FitsEntry (map entry_of (map repaired rs))
   all_fit [] v = tt
-  all_fit (r ∷ rs) v = (mended_fits r v.0, all_fit rs v.1)
+  all_fit (r ∷ rs) v = (repaired_fits r v.0, all_fit rs v.1)
 
   pub gens_fit : (rs : List Generator) → AllByRecursion FitsGenerator rs → FitGens (gens_read at rs)
   gens_fit rs v =
-      All-from FitsEntry (map entry_of (map mended (kept at rs)))
+      All-from FitsEntry (map entry_of (map repaired (kept at rs)))
       (all_fit (kept at rs) (all_kept FitsGenerator rs v))
 
   -- ---- how many there are
@@ -180,12 +180,12 @@ module _ (at : Level) where
   pub len-gens_read : (rs : List Generator) → len (gens_read at rs) + one_for (target_of at rs) ≤ length rs
   len-gens_read rs =
       let before = before_target at rs in
-      let records = map mended (kept at rs) in
+      let records = map repaired (kept at rs) in
       omega (
         arith,
         len-from (map entry_of records),
         length-map records entry_of,
-        length-map (kept at rs) mended,
+        length-map (kept at rs) repaired,
         length-last (allowed_in at before),
         length-filtered (λ (r : Generator). is_allowed at r.operator) before,
         length-before rs,

@@ -13,13 +13,13 @@ use Rattle.bank_parts.specs.declared.parts.Kind.{Kind}
 use Rattle.bank_parts.specs.declared.parts.Kind.TheVariants.{Mono, Right, Left, Linked}
 use Rattle.bank_parts.specs.declared.parts.Sample.{Sample}
 use Rattle.hydra_records.specs.declared.head.SampleHead.{SampleHead}
-use Rattle.bank_format.specs.Steps.{first_broken}
+use Rattle.bank_format.specs.FaultChecks.{first_fault}
 use Rattle.bank_format.specs.Tables.{sample_head, sample_heads_from, points_written, loop_start_at, loop_end_at}
 use Rattle.bank_format.specs.Tables.{kind_word, link_word}
 use Rattle.bank_format.specs.Samples.{loop_read, is_loop_lost, kind_read, is_link_lost, sample_read}
-use Rattle.bank_format.specs.ReadSteps.{sample_step, total_steps}
+use Rattle.bank_format.specs.ReadChecks.{sample_checks, total_checks}
 use Rattle.bank_format.proofs.CountLaws.{count-none}
-use Rattle.bank_format.proofs.StepLaws.{then_none}
+use Rattle.bank_format.proofs.CheckLaws.{then_none}
 use Rattle.bank_format.proofs.NameLaws.{before_zero-filled}
 use Rattle.bank_format.proofs.WindowLaws.{window-again}
 
@@ -146,8 +146,8 @@ kind_bits (Left n) = (refl, refl)
 kind_bits (Linked n) = (refl, refl)
 
 one_holds : (points start : ℕ) (s : Sample) → start + length s.points ≤ points
-    → first_broken (sample_step points (sample_head start s)) ≡ None
-unfolding sample_step
+    → first_fault (sample_checks points (sample_head start s)) ≡ None
+unfolding sample_checks
 one_holds points start s le =
     let k = kind_bits s.kind in
     let a : leb start (start + length s.points) ≡ true = le-leb _ _ (omega arith) in
@@ -155,11 +155,11 @@ one_holds points start s le =
     rw (k.0, k.1, a, c) refl
 
 pub sample_steps_hold : (points start : ℕ) (ss : List Sample) → start + point_total ss ≤ points
-    → first_broken (flat_map (sample_step points) (sample_heads_from start ss)) ≡ None
+    → first_fault (flat_map (sample_checks points) (sample_heads_from start ss)) ≡ None
 sample_steps_hold points start [] le = refl
 sample_steps_hold points start (s ∷ ss) le =
     let w = sum_by-cons with_gap s ss in
-    then_none (sample_step points (sample_head start s)) _ (one_holds points start s (omega (arith, w, le)))
+    then_none (sample_checks points (sample_head start s)) _ (one_holds points start s (omega (arith, w, le)))
     (sample_steps_hold points (start + length s.points + 46) ss (omega (arith, w, le)))
 
 abbrev head_size : SampleHead → ℕ
@@ -174,8 +174,8 @@ total-heads start (s ∷ ss) =
     omega (arith, r, w, u)
 
 pub total_steps_hold : (start : ℕ) (ss : List Sample) → point_total ss ≤ 500000000
-    → first_broken (total_steps (sample_heads_from start ss)) ≡ None
-unfolding total_steps
+    → first_fault (total_checks (sample_heads_from start ss)) ≡ None
+unfolding total_checks
 total_steps_hold start ss le =
     let t = total-heads start ss in
     let e : leb (sum_by head_size (sample_heads_from start ss)) 500000000 ≡ true =

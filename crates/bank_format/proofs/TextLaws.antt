@@ -17,7 +17,7 @@ use Rattle.bank_parts.specs.declared.parts.Parts.{Parts}
 use Rattle.bank_format.specs.Ids.{IFIL, ISNG, INAM, ICRD, IENG, IPRD, ICOP, ICMT, ISFT}
 use Rattle.bank_format.specs.Canon.{text_chunk_if, version, info}
 use Rattle.bank_format.specs.Chunks.{body_in}
-use Rattle.bank_format.specs.Texts.{text_body, text_in, engine_read, texts_read, over, texts_cut}
+use Rattle.bank_format.specs.Texts.{text_body, text_in, engine_read, texts_read, over, truncated_text_count}
 use Rattle.bank_format.proofs.NameLaws.{before_zero-zeros}
 
 before_zero-body : (t : List ℕ) → AllByRecursion IsTextByte t → before_zero (text_body t) ≡ t
@@ -150,8 +150,8 @@ module _ (b : Parts) (v : AreTexts b.texts) where
   not_over : (n : ℕ) (x t : List ℕ) → x ≡ t → length t ≤ n → over n x ≡ 0
   not_over n x t e le = ap (over n) e ∙ (let f : ltb n (length t) ≡ false = le-ltb _ _ le in rw f refl)
 
-  pub texts_counted : texts_cut (info b) ≡ 0
-  unfolding texts_cut
+  pub texts_counted : truncated_text_count (info b) ≡ 0
+  unfolding truncated_text_count
   texts_counted =
       let a1 = not_over 255 (text_in ISNG (info b)) b.texts.engine engine_in v.engine.0 in
       let a2 = not_over 255 (text_in INAM (info b)) b.texts.name name_in v.name.0 in

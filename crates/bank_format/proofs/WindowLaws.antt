@@ -3,7 +3,7 @@ use Rattle.std.proofs.Common.{◌≡◌, ◌≤◌, ◌+◌, ◌-◌, ℕ, zero,
 use Rattle.std.proofs.Common.{ap, ◌∙◌, append_assoc, arith}
 use Rattle.std.specs.List.{flat_map, slice_range}
 use Rattle.std.proofs.lemmas.List.{length-append, length-map, append-nil, take_at, drop_at}
-use Rattle.bank_format.specs.Windows.{ends, starts, windows_from, windows, together, rows}
+use Rattle.bank_format.specs.Windows.{ends, starts, windows_from, windows, zip_with, without_terminal}
 
 -- a list in the middle of a table
 pub window-again : {X : Type 0} (before xs rest : List X) (a b : ℕ) → a ≡ length before
@@ -11,8 +11,8 @@ pub window-again : {X : Type 0} (before xs rest : List X) (a b : ℕ) → a ≡ 
 window-again before xs rest a b ea eb =
     ap (take (b - a)) (drop_at before (xs ++ rest) a (sym ea)) ∙ take_at xs rest (b - a) (omega (arith, ea, eb))
 
-pub rows-push : {X : Type 0} (xs : List X) (x : X) → rows (xs ++ x ∷ []) ≡ xs
-rows-push xs x = take_at xs (x ∷ []) (length (xs ++ x ∷ []) - 1) (let a = length-append xs (x ∷ []) in omega (arith, a))
+pub without_terminal-push : {X : Type 0} (xs : List X) (x : X) → without_terminal (xs ++ x ∷ []) ≡ xs
+without_terminal-push xs x = take_at xs (x ∷ []) (length (xs ++ x ∷ []) - 1) (let a = length-append xs (x ∷ []) in omega (arith, a))
 
 module _ {X Y : Type 0} (f : Y → List X) where
   abbrev pub sizes : List Y → List ℕ
@@ -69,37 +69,37 @@ length-starts f ys =
 
 -- projecting the zip of two lists
 pub map-together_left : {X Y Z : Type 0} (f : X → Y → Z) (g : Z → X) → ((x : X) (y : Y) → g (f x y) ≡ x)
-    → (xs : List X) (ys : List Y) → length xs ≤ length ys → map g (together f xs ys) ≡ xs
+    → (xs : List X) (ys : List Y) → length xs ≤ length ys → map g (zip_with f xs ys) ≡ xs
 map-together_left f g same [] ys le = refl
 map-together_left f g same (x ∷ xs) [] le = absurd (omega arith)
 map-together_left f g same (x ∷ xs) (y ∷ ys) le = λ i. same x y i ∷ map-together_left f g same xs ys (omega arith) i
 
 pub map-together_right : {X Y Z : Type 0} (f : X → Y → Z) (g : Z → Y) → ((x : X) (y : Y) → g (f x y) ≡ y)
-    → (xs : List X) (ys : List Y) → length ys ≤ length xs → map g (together f xs ys) ≡ ys
+    → (xs : List X) (ys : List Y) → length ys ≤ length xs → map g (zip_with f xs ys) ≡ ys
 map-together_right f g same [] [] le = refl
 map-together_right f g same [] (y ∷ ys) le = absurd (omega arith)
 map-together_right f g same (x ∷ xs) [] le = refl
 map-together_right f g same (x ∷ xs) (y ∷ ys) le = λ i. same x y i ∷ map-together_right f g same xs ys (omega arith) i
 
 -- zipping the two projections of a list
-pub together-maps : {X Y Z W : Type 0} (f : X → Y → Z) (g : W → X) (h : W → Y) (ws : List W)
-    → together f (map g ws) (map h ws) ≡ map (λ w. f (g w) (h w)) ws
-together-maps f g h [] = refl
-together-maps {Z = Z} f g h (w ∷ ws) = ap (λ (zs : List Z). f (g w) (h w) ∷ zs) (together-maps f g h ws)
+pub zip_with-maps : {X Y Z W : Type 0} (f : X → Y → Z) (g : W → X) (h : W → Y) (ws : List W)
+    → zip_with f (map g ws) (map h ws) ≡ map (λ w. f (g w) (h w)) ws
+zip_with-maps f g h [] = refl
+zip_with-maps {Z = Z} f g h (w ∷ ws) = ap (λ (zs : List Z). f (g w) (h w) ∷ zs) (zip_with-maps f g h ws)
 
 -- elements after the shorter list's end are ignored
-pub together-take : {X Y Z : Type 0} (f : X → Y → Z) (n : ℕ) (xs : List X) (ys : List Y) → length ys ≤ n
-    → together f (take n xs) ys ≡ together f xs ys
-together-take f zero [] ys le = refl
-together-take f (suc n) [] ys le = refl
-together-take f zero (x ∷ xs) [] le = refl
-together-take f zero (x ∷ xs) (y ∷ ys) le = absurd (omega arith)
-together-take f (suc n) (x ∷ xs) [] le = refl
-together-take {Z = Z} f (suc n) (x ∷ xs) (y ∷ ys) le =
-    ap (λ (zs : List Z). f x y ∷ zs) (together-take f n xs ys (omega arith))
+pub zip_with-take : {X Y Z : Type 0} (f : X → Y → Z) (n : ℕ) (xs : List X) (ys : List Y) → length ys ≤ n
+    → zip_with f (take n xs) ys ≡ zip_with f xs ys
+zip_with-take f zero [] ys le = refl
+zip_with-take f (suc n) [] ys le = refl
+zip_with-take f zero (x ∷ xs) [] le = refl
+zip_with-take f zero (x ∷ xs) (y ∷ ys) le = absurd (omega arith)
+zip_with-take f (suc n) (x ∷ xs) [] le = refl
+zip_with-take {Z = Z} f (suc n) (x ∷ xs) (y ∷ ys) le =
+    ap (λ (zs : List Z). f x y ∷ zs) (zip_with-take f n xs ys (omega arith))
 
-pub length-together : {X Y Z : Type 0} (f : X → Y → Z) (xs : List X) (ys : List Y) → length xs ≡ length ys
-    → length (together f xs ys) ≡ length xs
-length-together f [] ys e = refl
-length-together f (x ∷ xs) [] e = absurd (omega (arith, e))
-length-together f (x ∷ xs) (y ∷ ys) e = ap suc (length-together f xs ys (omega (arith, e)))
+pub length-zip_with : {X Y Z : Type 0} (f : X → Y → Z) (xs : List X) (ys : List Y) → length xs ≡ length ys
+    → length (zip_with f xs ys) ≡ length xs
+length-zip_with f [] ys e = refl
+length-zip_with f (x ∷ xs) [] e = absurd (omega (arith, e))
+length-zip_with f (x ∷ xs) (y ∷ ys) e = ap suc (length-zip_with f xs ys (omega (arith, e)))

@@ -22,7 +22,7 @@ use Rattle.bank_parts.specs.Valid.{IsGenerator, AreGenerators, IsZone}
 use Rattle.bank_parts.specs.declared.parts.Zone.{Zone}
 use Rattle.hydra_records.specs.declared.zone.Generator.{Generator}
 use Rattle.bank_format.specs.Zones.{generator, gens_written, zone_written, target_of, before_target, allowed_in}
-use Rattle.bank_format.specs.Zones.{last_of_each, kept, mended, is_mended, is_range, range_mended, gens_of}
+use Rattle.bank_format.specs.Zones.{last_of_each, kept, repaired, needs_repair, is_range, repaired_range, gens_of}
 use Rattle.bank_format.specs.Zones.{gens_read, zone_read, has_target, dropped}
 use Rattle.bank_format.proofs.CountLaws.{one_if, count-none}
 
@@ -30,8 +30,8 @@ abbrev pub Entries : Type 0
 Entries = List (ℕ × ℕ)
 
 -- the records of entries
-abbrev pub spelled : Entries → List Generator
-spelled es = map (λ e. generator e.0 e.1) es
+abbrev pub generator_records : Entries → List Generator
+generator_records es = map (λ e. generator e.0 e.1) es
 
 -- ---- no allowed operator is a target operator
 
@@ -44,29 +44,29 @@ module _ (at : Level) where
 
   -- the records before the target, and the target itself
   before_target-again : (es : Entries) (t : ℕ) → AllByRecursion (IsGenerator at) es
-      → before_target at (spelled es ++ generator (target_operator at) t ∷ []) ≡ spelled es
+      → before_target at (generator_records es ++ generator (target_operator at) t ∷ []) ≡ generator_records es
   before_target-again [] t v = rw target_self refl
   before_target-again (e ∷ es) t v =
       rw (no_target e.0 v.0.allowed)
       (ap (λ (rs : List Generator). generator e.0 e.1 ∷ rs) (before_target-again es t v.1))
 
   target_of-again : (es : Entries) (t : ℕ) → AllByRecursion (IsGenerator at) es
-      → target_of at (spelled es ++ generator (target_operator at) t ∷ []) ≡ Some t
+      → target_of at (generator_records es ++ generator (target_operator at) t ∷ []) ≡ Some t
   target_of-again [] t v = rw target_self refl
   target_of-again (e ∷ es) t v = rw (no_target e.0 v.0.allowed) (target_of-again es t v.1)
 
   -- the same for a global zone, which has no target
-  before_target-none : (es : Entries) → AllByRecursion (IsGenerator at) es → before_target at (spelled es) ≡ spelled es
+  before_target-none : (es : Entries) → AllByRecursion (IsGenerator at) es → before_target at (generator_records es) ≡ generator_records es
   before_target-none [] v = refl
   before_target-none (e ∷ es) v =
       rw (no_target e.0 v.0.allowed)
       (ap (λ (rs : List Generator). generator e.0 e.1 ∷ rs) (before_target-none es v.1))
 
-  pub target_of-none : (es : Entries) → AllByRecursion (IsGenerator at) es → target_of at (spelled es) ≡ None
+  pub target_of-none : (es : Entries) → AllByRecursion (IsGenerator at) es → target_of at (generator_records es) ≡ None
   target_of-none [] v = refl
   target_of-none (e ∷ es) v = rw (no_target e.0 v.0.allowed) (target_of-none es v.1)
 
-  allowed_in-again : (es : Entries) → AllByRecursion (IsGenerator at) es → allowed_in at (spelled es) ≡ spelled es
+  allowed_in-again : (es : Entries) → AllByRecursion (IsGenerator at) es → allowed_in at (generator_records es) ≡ generator_records es
   allowed_in-again [] v = refl
   allowed_in-again (e ∷ es) v =
       rw v.0.allowed (ap (λ (rs : List Generator). generator e.0 e.1 ∷ rs) (allowed_in-again es v.1))
@@ -80,13 +80,13 @@ less_other op x h = elim (cases_eq x op) [
 ]
 
 none_same : (op : ℕ) (es : Entries) → IsTrue (below_all operator_cmp op es)
-    → list_any (λ (x : Generator). x.operator == op) (spelled es) ≡ false
+    → list_any (λ (x : Generator). x.operator == op) (generator_records es) ≡ false
 none_same op [] h = refl
 none_same op (e ∷ es) h =
     let both = both_true (is_lt (operator_cmp op e.0)) (below_all operator_cmp op es) h in
     rw (less_other op e.0 both.0) (none_same op es both.1)
 
-last_of_each-again : (es : Entries) → IsTrue (is_sorted operator_cmp es) → last_of_each (spelled es) ≡ spelled es
+last_of_each-again : (es : Entries) → IsTrue (is_sorted operator_cmp es) → last_of_each (generator_records es) ≡ generator_records es
 last_of_each-again [] h = refl
 last_of_each-again (e ∷ es) h =
     let both = both_true (below_all operator_cmp e.0 es) (is_sorted operator_cmp es) h in
@@ -94,40 +94,40 @@ last_of_each-again (e ∷ es) h =
 
 -- ---- ordered ranges are unchanged
 
-range-again : (w : ℕ) → IsRange w → range_mended w ≡ w
+range-again : (w : ℕ) → IsRange w → repaired_range w ≡ w
 range-again w r = grind (arith, nat_tests)
 
 module _ (at : Level) where
-  mended-again : (e : ℕ × ℕ) → IsGenerator at e → mended (generator e.0 e.1) ≡ generator e.0 e.1
-  mended-again e v = (elim (is_range (generator e.0 e.1)) as (λ b. is_range (generator e.0 e.1) ≡ b
-      → cond b (generator e.0 (range_mended e.1)) (generator e.0 e.1) ≡ generator e.0 e.1) [
+  repaired-again : (e : ℕ × ℕ) → IsGenerator at e → repaired (generator e.0 e.1) ≡ generator e.0 e.1
+  repaired-again e v = (elim (is_range (generator e.0 e.1)) as (λ b. is_range (generator e.0 e.1) ≡ b
+      → cond b (generator e.0 (repaired_range e.1)) (generator e.0 e.1) ≡ generator e.0 e.1) [
         | true ↦ λ t. ap (generator e.0) (range-again e.1 (v.range t))
         | false ↦ λ t. refl
       ]) refl
 
-  not_mended : (e : ℕ × ℕ) → IsGenerator at e → is_mended (generator e.0 e.1) ≡ false
-  not_mended e v = (elim (is_range (generator e.0 e.1)) as
-      (λ b. is_range (generator e.0 e.1) ≡ b → (b && not (eqb (range_mended e.1) e.1)) ≡ false) [
+  not_repaired : (e : ℕ × ℕ) → IsGenerator at e → needs_repair (generator e.0 e.1) ≡ false
+  not_repaired e v = (elim (is_range (generator e.0 e.1)) as
+      (λ b. is_range (generator e.0 e.1) ≡ b → (b && not (eqb (repaired_range e.1) e.1)) ≡ false) [
         | true ↦ λ t.
-            (let same : eqb (range_mended e.1) e.1 ≡ true = eq-eqb _ _ (range-again e.1 (v.range t)) in rw same refl)
+            (let same : eqb (repaired_range e.1) e.1 ≡ true = eq-eqb _ _ (range-again e.1 (v.range t)) in rw same refl)
         | false ↦ λ t. refl
       ]) refl
 
-  map-mended-again : (es : Entries) → AllByRecursion (IsGenerator at) es → map mended (spelled es) ≡ spelled es
-  map-mended-again [] v = refl
-  map-mended-again (e ∷ es) v = λ i. mended-again e v.0 i ∷ map-mended-again es v.1 i
+  map-repaired-again : (es : Entries) → AllByRecursion (IsGenerator at) es → map repaired (generator_records es) ≡ generator_records es
+  map-repaired-again [] v = refl
+  map-repaired-again (e ∷ es) v = λ i. repaired-again e v.0 i ∷ map-repaired-again es v.1 i
 
-  none_mended : (es : Entries) → AllByRecursion (IsGenerator at) es → count_by is_mended (spelled es) ≡ 0
-  none_mended [] v = refl
-  none_mended (e ∷ es) v = count-none is_mended (generator e.0 e.1) (spelled es) (not_mended e v.0) (none_mended es v.1)
+  none_repaired : (es : Entries) → AllByRecursion (IsGenerator at) es → count_by needs_repair (generator_records es) ≡ 0
+  none_repaired [] v = refl
+  none_repaired (e ∷ es) v = count-none needs_repair (generator e.0 e.1) (generator_records es) (not_repaired e v.0) (none_repaired es v.1)
 
 -- ---- the map
 
-pairs-again : (es : Entries) → map (λ (r : Generator). (r.operator, r.amount)) (spelled es) ≡ es
+pairs-again : (es : Entries) → map (λ (r : Generator). (r.operator, r.amount)) (generator_records es) ≡ es
 pairs-again [] = refl
 pairs-again (e ∷ es) = ap (λ (xs : Entries). e ∷ xs) (pairs-again es)
 
-pub gens_of-again : (gs : Gens) → gens_of (spelled (entries gs)) ≡ gs
+pub gens_of-again : (gs : Gens) → gens_of (generator_records (entries gs)) ≡ gs
 gens_of-again gs = ap (from_entries {R = operator_cmp}) (pairs-again (entries gs)) ∙ from_entries-entries gs
 
 -- ---- one bag
@@ -148,14 +148,14 @@ module _ (at : Level) where
       ∙ ap last_of_each (allowed_in-again at (entries gs) v)
       ∙ last_of_each-again (entries gs) (entries_rise gs)
 
-  read_kept : (gs : Gens) → AreGenerators at gs → gens_of (map mended (gens_written gs)) ≡ gs
-  read_kept gs v = ap gens_of (map-mended-again at (entries gs) v) ∙ gens_of-again gs
+  read_kept : (gs : Gens) → AreGenerators at gs → gens_of (map repaired (gens_written gs)) ≡ gs
+  read_kept gs v = ap gens_of (map-repaired-again at (entries gs) v) ∙ gens_of-again gs
 
   gens_read-zone : (gs : Gens) (t : ℕ) → AreGenerators at gs → gens_read at (zone_gens gs t) ≡ gs
-  gens_read-zone gs t v = ap (λ (rs : List Generator). gens_of (map mended rs)) (kept-zone gs t v) ∙ read_kept gs v
+  gens_read-zone gs t v = ap (λ (rs : List Generator). gens_of (map repaired rs)) (kept-zone gs t v) ∙ read_kept gs v
 
   pub gens_read-global : (gs : Gens) → AreGenerators at gs → gens_read at (gens_written gs) ≡ gs
-  gens_read-global gs v = ap (λ (rs : List Generator). gens_of (map mended rs)) (kept-global gs v) ∙ read_kept gs v
+  gens_read-global gs v = ap (λ (rs : List Generator). gens_of (map repaired rs)) (kept-global gs v) ∙ read_kept gs v
 
   abbrev made_zone : ℕ → Gens → List Modulator → Zone
   made_zone t gs ms = record { target = t; gens = gs; mods = ms }
@@ -185,10 +185,10 @@ module _ (at : Level) where
       let k : length (kept at (gens_written gs)) ≡ length (gens_written gs) = ap length (kept-global gs v) in
       omega (arith, k)
 
-  pub mended-zone : (gs : Gens) (t : ℕ) → AreGenerators at gs → count_by is_mended (kept at (zone_gens gs t)) ≡ 0
-  mended-zone gs t v =
-      ap (λ (rs : List Generator). count_by is_mended rs) (kept-zone gs t v) ∙ none_mended at (entries gs) v
+  pub repaired-zone : (gs : Gens) (t : ℕ) → AreGenerators at gs → count_by needs_repair (kept at (zone_gens gs t)) ≡ 0
+  repaired-zone gs t v =
+      ap (λ (rs : List Generator). count_by needs_repair rs) (kept-zone gs t v) ∙ none_repaired at (entries gs) v
 
-  pub mended-global : (gs : Gens) → AreGenerators at gs → count_by is_mended (kept at (gens_written gs)) ≡ 0
-  mended-global gs v =
-      ap (λ (rs : List Generator). count_by is_mended rs) (kept-global gs v) ∙ none_mended at (entries gs) v
+  pub repaired-global : (gs : Gens) → AreGenerators at gs → count_by needs_repair (kept at (gens_written gs)) ≡ 0
+  repaired-global gs v =
+      ap (λ (rs : List Generator). count_by needs_repair rs) (kept-global gs v) ∙ none_repaired at (entries gs) v

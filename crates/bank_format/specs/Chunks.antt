@@ -6,8 +6,8 @@ use Rattle.riff_chunks.specs.Walk.{Chunk, walk}
 use Rattle.riff_chunks.specs.Finding.{chunks_in, first_body, first_list}
 use Rattle.modulators.specs.declared.modulator.Modulator.{Modulator}
 use Rattle.hydra_records.specs.Records.{records}
-use Rattle.hydra_records.specs.Spelling.{preset_head_of, bag_of, modulator_of, generator_of, instrument_head_of}
-use Rattle.hydra_records.specs.Spelling.{sample_head_of}
+use Rattle.hydra_records.specs.Encoding.{preset_head_of, bag_of, modulator_of, generator_of, instrument_head_of}
+use Rattle.hydra_records.specs.Encoding.{sample_head_of}
 use Rattle.bank_format.specs.Ids as id
 use Rattle.bank_format.specs.Tables.{Tables, modulator_end}
 
@@ -35,19 +35,19 @@ body_in name chunks = unwrap_or (first_body name chunks) []
 -- ---- the nine lists of records
 
 -- an empty list of modulators reads as one zero record, its terminal
-abbrev pub or_zero : List Modulator → List Modulator
-or_zero [] = modulator_end ∷ []
-or_zero (m ∷ modulators) = m ∷ modulators
+abbrev pub or_terminal : List Modulator → List Modulator
+or_terminal [] = modulator_end ∷ []
+or_terminal (m ∷ modulators) = m ∷ modulators
 
 unfoldable pub tables_in : List Chunk → Tables
 tables_in pdta = record {
   phdr = records 38 preset_head_of (body_in id.PHDR pdta);
   pbag = records 4 bag_of (body_in id.PBAG pdta);
-  pmod = or_zero (records 10 modulator_of (body_in id.PMOD pdta));
+  pmod = or_terminal (records 10 modulator_of (body_in id.PMOD pdta));
   pgen = records 4 generator_of (body_in id.PGEN pdta);
   inst = records 22 instrument_head_of (body_in id.INST pdta);
   ibag = records 4 bag_of (body_in id.IBAG pdta);
-  imod = or_zero (records 10 modulator_of (body_in id.IMOD pdta));
+  imod = or_terminal (records 10 modulator_of (body_in id.IMOD pdta));
   igen = records 4 generator_of (body_in id.IGEN pdta);
   shdr = records 46 sample_head_of (body_in id.SHDR pdta);
 }

@@ -3,14 +3,14 @@ use Rattle.std.specs.Prelude.{◌≡◌, ℕ, List, [], ◌∷◌, map}
 use Rattle.modulators.specs.declared.modulator.Modulator.{Modulator}
 use Rattle.hydra_records.specs.declared.zone.Bag.{Bag}
 use Rattle.hydra_records.specs.declared.zone.Generator.{Generator}
-use Rattle.bank_parts.specs.declared.parts.WithZones.{WithZones}
+use Rattle.bank_parts.specs.declared.parts.ZoneOwner.{ZoneOwner}
 use Rattle.bank_parts.specs.declared.parts.Parts.{Parts}
 use Rattle.bank_parts.specs.FlatLists.{FlatLists, lists_of}
 use Rattle.bank_format.specs.Zones.{generator}
 use Rattle.bank_format.specs.Tables.{Headers, bag, presets, instruments, tables_of}
 
 -- a header for each owner, with the index of its first bag, and the terminal, with the number of all bags
-abbrev pub headers_of : {H R : Type 0} → Headers H R → List (WithZones H) → List ℕ → List R
+abbrev pub headers_of : {H R : Type 0} → Headers H R → List (ZoneOwner H) → List ℕ → List R
 headers_of h owners [] = []
 headers_of h [] (at ∷ first_bags) = h.last at ∷ []
 headers_of h (x ∷ owners) (at ∷ first_bags) = h.written at x.head ∷ headers_of h owners first_bags
@@ -22,7 +22,7 @@ abbrev pub generator_of : ℕ × ℕ → Generator
 generator_of e = generator e.0 e.1
 
 -- the four tables of presets, or of instruments, are these flat lists
-pub record AreOfLists {H R : Type 0} (h : Headers H R) (owners : List (WithZones H)) (l : FlatLists) (heads : List R)
+pub record AreOfLists {H R : Type 0} (h : Headers H R) (owners : List (ZoneOwner H)) (l : FlatLists) (heads : List R)
     (bags : List Bag) (mods : List Modulator) (gens : List Generator) : Type 0 where
   pub heads_are : heads ≡ headers_of h owners l.first_bags
   pub bags_are : bags ≡ map bag_of l.bags

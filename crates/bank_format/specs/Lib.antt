@@ -3,7 +3,7 @@ pub use Rattle.sf_base.specs.Fields
 pub use Rattle.sample_view.specs.Words
 pub use Rattle.riff_chunks.specs.Walk
 pub use Rattle.riff_chunks.specs.Finding
-pub use Rattle.riff_chunks.specs.Spelling
+pub use Rattle.riff_chunks.specs.Encoding
 pub use Rattle.generators.specs.Gens
 pub use Rattle.generators.specs.Levels
 pub use Rattle.generators.specs.Ranges
@@ -17,9 +17,9 @@ pub mod Tables
 pub mod Indexes
 pub mod FlatTables
 pub mod Canon
-pub mod Steps
+pub mod FaultChecks
 pub mod Texts
 pub mod Samples
 pub mod Chunks
 pub mod Reading
-pub mod ReadSteps
+pub mod ReadChecks

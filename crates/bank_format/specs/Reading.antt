@@ -5,7 +5,7 @@ use Rattle.riff_chunks.specs.Walk.{Chunk}
 use Rattle.riff_chunks.specs.Finding.{first_body}
 use Rattle.generators.specs.declared.level.Level.TheVariants as level
 use Rattle.modulators.specs.declared.modulator.Modulator.{Modulator}
-use Rattle.bank_parts.specs.declared.parts.WithZones.{WithZones}
+use Rattle.bank_parts.specs.declared.parts.ZoneOwner.{ZoneOwner}
 use Rattle.bank_parts.specs.declared.parts.Sample.{Sample}
 use Rattle.bank_parts.specs.declared.parts.Parts.{Parts}
 use Rattle.hydra_records.specs.declared.head.PresetHead.{PresetHead}
@@ -15,10 +15,10 @@ use Rattle.hydra_records.specs.declared.zone.Bag.{Bag}
 use Rattle.hydra_records.specs.declared.zone.Generator.{Generator}
 use Rattle.bank_format.specs.declared.fault.Counts.{Counts}
 use Rattle.bank_format.specs.Ids as id
-use Rattle.bank_format.specs.Windows.{windows, together, rows}
-use Rattle.bank_format.specs.Zones.{Bagged, zones_read, global_read, ignored, gens_dropped, ranges_mended}
+use Rattle.bank_format.specs.Windows.{windows, zip_with, without_terminal}
+use Rattle.bank_format.specs.Zones.{Bagged, zones_read, global_read, ignored, gens_dropped, repaired_range_count}
 use Rattle.bank_format.specs.Tables.{Tables, Headers, presets, instruments}
-use Rattle.bank_format.specs.Texts.{texts_read, texts_cut}
+use Rattle.bank_format.specs.Texts.{texts_read, truncated_text_count}
 use Rattle.bank_format.specs.Samples.{sample_read, is_loop_lost, is_link_lost}
 use Rattle.bank_format.specs.Chunks.{tables_in, points_in, chunks_of, body_in}
 
@@ -30,7 +30,7 @@ bagged gens mods = record { gens = gens; mods = mods }
 -- The generators and modulators of each bag, up to the indexes of the next bag.
 unfoldable pub bags_in : List Bag → List Generator → List Modulator → List Bagged
 bags_in bags gens mods =
-    together bagged (windows gens (map (λ (r : Bag). r.gens) bags)) (windows mods (map (λ (r : Bag). r.mods) bags))
+    zip_with bagged (windows gens (map (λ (r : Bag). r.gens) bags)) (windows mods (map (λ (r : Bag). r.mods) bags))
 
 -- The bags of each header, up to the first bag of the next header.
 unfoldable pub preset_windows : Tables → List (List Bagged)
@@ -40,7 +40,7 @@ unfoldable pub instrument_windows : Tables → List (List Bagged)
 instrument_windows t = windows (bags_in t.ibag t.igen t.imod) (map (λ (h : InstrumentHead). h.bag) t.inst)
 
 -- the owner of a header and its bags
-abbrev pub owner_read : {H R : Type 0} → Headers H R → R → List Bagged → WithZones H
+abbrev pub owner_read : {H R : Type 0} → Headers H R → R → List Bagged → ZoneOwner H
 owner_read h r bags = record { head = h.read r; global = global_read h.level bags; zones = zones_read h.level bags }
 
 -- ---- samples
@@ -55,9 +55,9 @@ unfoldable pub bank_of : List Chunk → List Chunk → Tables → Parts
 bank_of info sdta t = record {
   minor = field_at 2 2 (body_in id.IFIL info);
   texts = texts_read info;
-  presets = together (owner_read presets) (rows t.phdr) (preset_windows t);
-  instruments = together (owner_read instruments) (rows t.inst) (instrument_windows t);
-  samples = samples_read (points_in sdta) (rows t.shdr);
+  presets = zip_with (owner_read presets) (without_terminal t.phdr) (preset_windows t);
+  instruments = zip_with (owner_read instruments) (without_terminal t.inst) (instrument_windows t);
+  samples = samples_read (points_in sdta) (without_terminal t.shdr);
 }
 
 -- 1 if there is a chunk `sm24`, which is dropped
@@ -66,17 +66,17 @@ sm24_dropped sdta = if is_some (first_body id.SM24 sdta) then 1 else 0
 
 unfoldable pub counts_of : List Chunk → List Chunk → Tables → Counts
 counts_of info sdta t = record {
-  texts = texts_cut info;
+  texts = truncated_text_count info;
   sm24 = sm24_dropped sdta;
   zones = sum_by (ignored level.Preset) (preset_windows t) + sum_by (ignored level.Inst) (instrument_windows t);
   gens =
       sum_by (gens_dropped level.Preset) (preset_windows t)
       + sum_by (gens_dropped level.Inst) (instrument_windows t);
   ranges =
-      sum_by (ranges_mended level.Preset) (preset_windows t)
-      + sum_by (ranges_mended level.Inst) (instrument_windows t);
-  loops = count_by is_loop_lost (rows t.shdr);
-  links = count_by (is_link_lost (length (rows t.shdr))) (rows t.shdr);
+      sum_by (repaired_range_count level.Preset) (preset_windows t)
+      + sum_by (repaired_range_count level.Inst) (instrument_windows t);
+  loops = count_by is_loop_lost (without_terminal t.shdr);
+  links = count_by (is_link_lost (length (without_terminal t.shdr))) (without_terminal t.shdr);
 }
 
 abbrev pub no_counts : Counts

@@ -8,7 +8,7 @@ use Rattle.modulators.specs.declared.modulator.Modulator.{Modulator}
 use Rattle.bank_parts.specs.declared.parts.Kind.{Kind}
 use Rattle.bank_parts.specs.declared.parts.Kind.TheVariants.{Mono, Right, Left, Linked}
 use Rattle.bank_parts.specs.declared.parts.Head.{Head}
-use Rattle.bank_parts.specs.declared.parts.WithZones.{WithZones}
+use Rattle.bank_parts.specs.declared.parts.ZoneOwner.{ZoneOwner}
 use Rattle.bank_parts.specs.declared.parts.Sample.{Sample}
 use Rattle.bank_parts.specs.declared.parts.Parts.{Parts}
 use Rattle.hydra_records.specs.declared.head.PresetHead.{PresetHead}
@@ -17,7 +17,7 @@ use Rattle.hydra_records.specs.declared.head.SampleHead.{SampleHead}
 use Rattle.hydra_records.specs.declared.zone.Bag.{Bag}
 use Rattle.hydra_records.specs.declared.zone.Generator.{Generator}
 use Rattle.bank_format.specs.Ids.{EOP, EOI, EOS}
-use Rattle.bank_format.specs.Windows.{starts, together}
+use Rattle.bank_format.specs.Windows.{starts, zip_with}
 use Rattle.bank_format.specs.Zones.{Bagged, bags_written}
 
 -- the nine lists
@@ -71,7 +71,7 @@ bag gens mods = record { gens = gens; mods = mods }
 -- the indexes of each bag count the generators and modulators of the bags before it; the terminal has the totals
 unfoldable pub bag_list : List Bagged → List Bag
 bag_list bags =
-    together bag (starts (map (λ (r : Bagged). length r.gens) bags))
+    zip_with bag (starts (map (λ (r : Bagged). length r.gens) bags))
     (starts (map (λ (r : Bagged). length r.mods) bags))
 
 unfoldable pub mod_list : List Bagged → List Modulator
@@ -149,10 +149,10 @@ instruments =
     }
 
 -- the bags of a preset or an instrument
-abbrev pub bags_of : {H : Type 0} → Level → WithZones H → List Bagged
+abbrev pub bags_of : {H : Type 0} → Level → ZoneOwner H → List Bagged
 bags_of at x = bags_written at x.global x.zones
 
-abbrev pub heads_from : {H R : Type 0} → Headers H R → ℕ → List (WithZones H) → List R
+abbrev pub heads_from : {H R : Type 0} → Headers H R → ℕ → List (ZoneOwner H) → List R
 heads_from h at [] = h.last at ∷ []
 heads_from h at (x ∷ xs) = h.written at x.head ∷ heads_from h (at + length (bags_of h.level x)) xs
 
@@ -211,7 +211,7 @@ unfoldable pub all_points : Parts → List ℕ
 all_points b = flat_map points_written b.samples
 
 -- the bags of all presets, or of all instruments
-abbrev pub all_bags : {H : Type 0} → Level → List (WithZones H) → List Bagged
+abbrev pub all_bags : {H : Type 0} → Level → List (ZoneOwner H) → List Bagged
 all_bags at owners = flat_map (bags_of at) owners
 
 unfoldable pub tables_of : Parts → Tables

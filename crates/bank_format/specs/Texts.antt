@@ -39,8 +39,8 @@ abbrev pub over : ℕ → List ℕ → ℕ
 over most text = if nat_lt most (length text) then 1 else 0
 
 -- how many texts are truncated
-unfoldable pub texts_cut : List Chunk → ℕ
-texts_cut info =
+unfoldable pub truncated_text_count : List Chunk → ℕ
+truncated_text_count info =
     over TEXT_LENGTH (text_in id.ISNG info)
     + over TEXT_LENGTH (text_in id.INAM info)
     + over TEXT_LENGTH (text_in id.ICRD info)

@@ -21,11 +21,11 @@ windows table [] = []
 windows table (i ∷ is) = windows_from table i is
 
 -- the two lists zipped by f, up to the end of the shorter one
-abbrev pub together : {X Y Z : Type 0} → (X → Y → Z) → List X → List Y → List Z
-together f [] ys = []
-together f (x ∷ xs) [] = []
-together f (x ∷ xs) (y ∷ ys) = f x y ∷ together f xs ys
+abbrev pub zip_with : {X Y Z : Type 0} → (X → Y → Z) → List X → List Y → List Z
+zip_with f [] ys = []
+zip_with f (x ∷ xs) [] = []
+zip_with f (x ∷ xs) (y ∷ ys) = f x y ∷ zip_with f xs ys
 
 -- the records of a list without the last, its terminal
-abbrev pub rows : {X : Type 0} → List X → List X
-rows records = take (length records - 1) records
+abbrev pub without_terminal : {X : Type 0} → List X → List X
+without_terminal records = take (length records - 1) records

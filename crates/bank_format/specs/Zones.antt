@@ -71,24 +71,24 @@ abbrev pub is_range : Generator → Bool
 is_range r = is_range_operator r.operator
 
 -- an end above 127 becomes 127
-abbrev pub cut_end : ℕ → ℕ
-cut_end e = min e 127
+abbrev pub clamped_end : ℕ → ℕ
+clamped_end e = min e 127
 
 -- ends in the wrong order are exchanged
-abbrev pub in_order : ℕ → ℕ → ℕ
-in_order low high = if nat_le low high then low + 256 * high else high + 256 * low
+abbrev pub range_in_order : ℕ → ℕ → ℕ
+range_in_order low high = if nat_le low high then low + 256 * high else high + 256 * low
 
-abbrev pub range_mended : ℕ → ℕ
-range_mended w = in_order (cut_end (w % 256)) (cut_end (w / 256))
+abbrev pub repaired_range : ℕ → ℕ
+repaired_range w = range_in_order (clamped_end (w % 256)) (clamped_end (w / 256))
 
-abbrev pub mended : Generator → Generator
-mended r = if is_range r then record { operator = r.operator; amount = range_mended r.amount } else r
+abbrev pub repaired : Generator → Generator
+repaired r = if is_range r then record { operator = r.operator; amount = repaired_range r.amount } else r
 
 abbrev pub gens_of : List Generator → Gens
 gens_of rs = from_entries (map (λ (r : Generator). (r.operator, r.amount)) rs)
 
 abbrev pub gens_read : Level → List Generator → Gens
-gens_read at rs = gens_of (map mended (kept at rs))
+gens_read at rs = gens_of (map repaired (kept at rs))
 
 abbrev pub zone_of : Level → Bagged → ℕ → Zone
 zone_of at r t = record { target = t; gens = gens_read at r.gens; mods = r.mods }
@@ -115,9 +115,9 @@ global_read at (r ∷ bags) = if has_target at r then no_global else record { ge
 -- ---- counted
 
 -- the first bag, and the later ones with a target
-unfoldable pub looked_at : Level → List Bagged → List Bagged
-looked_at at [] = []
-looked_at at (r ∷ bags) = r ∷ filter (has_target at) bags
+unfoldable pub counted_bags : Level → List Bagged → List Bagged
+counted_bags at [] = []
+counted_bags at (r ∷ bags) = r ∷ filter (has_target at) bags
 
 -- the number of later bags without a target
 unfoldable pub ignored : Level → List Bagged → ℕ
@@ -129,11 +129,11 @@ abbrev pub dropped : Level → List Generator → ℕ
 dropped at rs = length rs - (length (kept at rs) + (if is_some (target_of at rs) then 1 else 0))
 
 -- a kept range that must be repaired
-abbrev pub is_mended : Generator → Bool
-is_mended r = is_range r && not (range_mended r.amount == r.amount)
+abbrev pub needs_repair : Generator → Bool
+needs_repair r = is_range r && not (repaired_range r.amount == r.amount)
 
 unfoldable pub gens_dropped : Level → List Bagged → ℕ
-gens_dropped at bags = sum_by (λ (r : Bagged). dropped at r.gens) (looked_at at bags)
+gens_dropped at bags = sum_by (λ (r : Bagged). dropped at r.gens) (counted_bags at bags)
 
-unfoldable pub ranges_mended : Level → List Bagged → ℕ
-ranges_mended at bags = sum_by (λ (r : Bagged). count_by is_mended (kept at r.gens)) (looked_at at bags)
+unfoldable pub repaired_range_count : Level → List Bagged → ℕ
+repaired_range_count at bags = sum_by (λ (r : Bagged). count_by needs_repair (kept at r.gens)) (counted_bags at bags)

@@ -1,8 +1,8 @@
 //! The RIFF chunk of a file.
 ghost use Rattle.std.specs.Prelude.{◌≡◌};
-ghost use Rattle.bank_format.specs.Steps.{Passes};
+ghost use Rattle.bank_format.specs.FaultChecks.{Passes};
 ghost use Rattle.bank_format.specs.Chunks.{window};
-ghost use Rattle.bank_format.specs.ReadSteps.{form_steps};
+ghost use Rattle.bank_format.specs.ReadChecks.{form_checks};
 
 use sf_base::{front_of, part_of, rest_from, u32_at};
 
@@ -16,7 +16,7 @@ const FORM_LENGTH: usize = 4;
 /// truncated, or has another form.
 ///
 /// The pad byte of the chunk may be missing, and bytes after the chunk are ignored.
-#[tactic(auto, unfolding(crate::specs::ReadSteps::form_steps, crate::specs::Chunks::window, crate::specs::Ids::RIFF))]
+#[tactic(auto, unfolding(crate::specs::ReadChecks::form_checks, crate::specs::Chunks::window, crate::specs::Ids::RIFF))]
 pub fn window_of<F: Copy>(
     file: &[u8],
     form: [u8; 4],
@@ -24,7 +24,7 @@ pub fn window_of<F: Copy>(
     truncated: F,
     other_form: F,
 ) -> Result<&[u8], F>
-    ensures { Passes (λ w. w.now) result (form_steps form not_riff truncated other_form file.now) (window file.now) }
+    ensures { Passes (λ w. w.now) result (form_checks form not_riff truncated other_form file.now) (window file.now) }
 {
     if front_of(file, 4) != b"RIFF".as_slice() {
         return Err(not_riff);

@@ -9,7 +9,7 @@ ghost use Rattle.bank_format.specs.Indexes.{IndexesAreSums};
 ghost use Rattle.bank_format.specs.FlatTables.{TablesAreFlat};
 ghost use Rattle.bank_format.specs.Chunks.{window};
 ghost use Rattle.bank_format.specs.Reading.{content_in, no_counts};
-ghost use Rattle.bank_format.specs.ReadSteps.{fault_of, ReadsAs};
+ghost use Rattle.bank_format.specs.ReadChecks.{fault_of, ReadsAs};
 
 /// The canonical file of a valid bank reads as that bank, with all counts zero.
 pub fn canonical_files_read_back()

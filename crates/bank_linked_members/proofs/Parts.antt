@@ -41,9 +41,9 @@ part_is xs a b h =
     let size : a + (b - a) ≡ b = omega arith in sym (drop-take a (b - a) xs) ∙ ap (λ n. drop a (take n xs)) size
 
 -- The members after the first n, changed as a whole.
-pub behind : {X : Type 0} (n m : ℕ) (xs ys : List X) → n ≤ length xs
+pub tail_changed : {X : Type 0} (n m : ℕ) (xs ys : List X) → n ≤ length xs
     → drop (n + m) (put_mid n (length xs - n) xs ys) ≡ drop m ys
-behind n m xs ys h =
+tail_changed n m xs ys h =
     let first = length-take-le n xs h in
     let rest : post_of n (length xs - n) xs ≡ [] =
     drop_all (length xs - n) (drop n xs) (rw (length-drop n xs) (omega arith)) in
@@ -52,13 +52,13 @@ behind n m xs ys h =
     ∙ ap (drop m) (ap (λ zs. ys ++ zs) rest ∙ append-nil ys))
 
 -- The same for the elements of a Vec.
-pub written_behind : {X : Type 0} (v : Vec X) (xs ys : List X) (n m : ℕ) → xs ≡ v.items → length xs ≡ vec_len v
+pub written_after : {X : Type 0} (v : Vec X) (xs ys : List X) (n m : ℕ) → xs ≡ v.items → length xs ≡ vec_len v
     → n ≤ length v.items → length ys ≡ length (mid_of n (length xs - n) xs)
     → drop (n + m) (with_items v (put_mid n (length xs - n) xs ys)).items ≡ drop m ys
-written_behind v xs ys n m is size h long =
+written_after v xs ys n m is size h long =
     ap (drop (n + m))
     (with_items_is v (put_mid n (length xs - n) xs ys) (same_len_mid n (length xs - n) xs ys long ∙ size))
-    ∙ behind n m xs ys (subst (λ zs. n ≤ length zs) (sym is) h)
+    ∙ tail_changed n m xs ys (subst (λ zs. n ≤ length zs) (sym is) h)
 
 pub written_size : {X : Type 0} (v : Vec X) (xs ys : List X) (n : ℕ) → length xs ≡ vec_len v
     → length ys ≡ length (mid_of n (length xs - n) xs)
@@ -74,21 +74,21 @@ pub all_written : {X : Type 0} (v : Vec X) (xs ys : List X) (n : ℕ) → xs ≡
 all_written v xs ys n is size h long =
     let at : n ≡ n + 0 = omega arith in
     ap (λ k. drop k (with_items v (put_mid n (length xs - n) xs ys)).items) at
-    ∙ written_behind v xs ys n 0 is size h long
+    ∙ written_after v xs ys n 0 is size h long
 
 -- A mutable borrow of members whose tail after the first n is zs.
-pub lent_behind : {X : Type 0} (n : ℕ) (xs items zs : List X) → xs ≡ items → drop n items ≡ zs
+pub borrowed_after : {X : Type 0} (n : ℕ) (xs items zs : List X) → xs ≡ items → drop n items ≡ zs
     → mid_of n (length xs - n) xs ≡ zs
-lent_behind n xs items zs is view = take_rest xs n ∙ (ap (drop n) is ∙ view)
+borrowed_after n xs items zs is view = take_rest xs n ∙ (ap (drop n) is ∙ view)
 
 -- A member is put in the place of the last of the first b.
-pub put_behind : {X : Type 0} (v : Vec X) (xs later : List X) (b i : ℕ) (x : X) (whole : List X) → 0 < b
+pub placed_after : {X : Type 0} (v : Vec X) (xs later : List X) (b i : ℕ) (x : X) (whole : List X) → 0 < b
     → b ≤ length v.items
     → xs ≡ v.items → length xs ≡ vec_len v → drop b v.items ≡ whole
     → length later ≡ length (mid_of (b - 1) (length xs - (b - 1)) xs)
     → later ≡ insert (drop 1 (mid_of (b - 1) (length xs - (b - 1)) xs)) i x
     → drop (b - 1) (with_items v (put_mid (b - 1) (length xs - (b - 1)) xs later)).items ≡ insert whole i x
-put_behind v xs later b i x whole some h is size view long put =
+placed_after v xs later b i x whole some h is size view long put =
     let one : b - 1 + 1 ≡ b = omega arith in
     let within : b - 1 ≤ length v.items = omega arith in
     let rest : drop 1 (mid_of (b - 1) (length xs - (b - 1)) xs) ≡ whole =
@@ -97,15 +97,15 @@ put_behind v xs later b i x whole some h is size view long put =
     all_written v xs later (b - 1) is size within long ∙ (put ∙ ap (λ zs. insert zs i x) rest)
 
 -- A member is inserted after the first b.
-pub inserted_behind : {X : Type 0} (xs items : List X) (b i : ℕ) (x : X) (whole : List X) → b ≤ length xs
+pub inserted_after : {X : Type 0} (xs items : List X) (b i : ℕ) (x : X) (whole : List X) → b ≤ length xs
     → drop b xs ≡ whole → items ≡ insert xs (b + i) x → drop b items ≡ insert whole i x
-inserted_behind xs items b i x whole h view put =
+inserted_after xs items b i x whole h view put =
     ap (drop b) put ∙ (drop-insert b xs i (b + i) x refl h ∙ ap (λ zs. insert zs i x) view)
 
 -- The member at an index after the first n.
-pub found_behind : {X : Type 0} (n : ℕ) (xs zs : List X) (i : ℕ) (x : X) → drop n xs ≡ zs → n ≤ length xs
+pub found_after : {X : Type 0} (n : ℕ) (xs zs : List X) (i : ℕ) (x : X) → drop n xs ≡ zs → n ≤ length xs
     → i < length zs → x ≡ get_or xs (n + i) x → slice_get zs i ≡ Some x
-found_behind n xs zs i x view h l e =
+found_after n xs zs i x view h l e =
     let size : length xs - n ≡ length zs = sym (length-drop n xs) ∙ ap length view in
     ap (λ ys. slice_get ys i) (sym view)
     ∙ (slice_get-drop n xs i (n + i) refl h ∙ slice_get_read xs (length xs) (n + i) x refl (omega arith) e)

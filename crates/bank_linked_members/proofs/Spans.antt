@@ -13,8 +13,8 @@ use Rattle.base_numbered_lists.specs.Moved.{moved, changed_within}
 use Rattle.base_numbered_lists.proofs.Lists.{slice_get-found, slice_get-insert, slice_get-insert_below}
 use Rattle.base_numbered_lists.proofs.Lists.{slice_get-insert_above, slice_get-remove_below, slice_get-remove_above}
 use Rattle.base_numbered_lists.proofs.Lists.{moved-found}
-use Rattle.bank_linked_members.specs.declared.span.Span.{Span}
-use Rattle.bank_linked_members.specs.Spans.{IsSpan, IsSpanExcept, IsOutside, IsShifted}
+use Rattle.bank_linked_members.specs.declared.span.LinkSpan.{LinkSpan}
+use Rattle.bank_linked_members.specs.Spans.{IsLinkSpan, IsLinkSpanExcept, IsOutside, IsShifted}
 use Rattle.bank_linked_members.proofs.Parts.{all_changed}
 
 if_some : {X : Type 0} {P Q : X → Type 0} → (o : Option X) → ((x : X) → P x → Q x) → IfSome o P → IfSome o Q
@@ -29,8 +29,8 @@ if_some_map P f (x ∷ xs) zero h = h
 if_some_map P f (x ∷ xs) (suc i) h = if_some_map P f xs i h
 
 -- The same for a span.
-abbrev pub IsSpanOf : {X : Type 0} → (X → Bool) → Span → List X → Type 0
-IsSpanOf h span xs = IsSpan h xs span
+abbrev pub IsLinkSpanOf : {X : Type 0} → (X → Bool) → LinkSpan → List X → Type 0
+IsLinkSpanOf h span xs = IsLinkSpan h xs span
 
 -- ---- the members outside a span
 
@@ -39,13 +39,13 @@ module _ {X : Type 0} (h : X → Bool) where
   Free o = IfSome o (λ x. h x ≡ false)
 
   -- Renumbering keeps them.
-  pub linked_changed : (f : X → X) → ((x : X) → h x ≡ false → f x ≡ x) → (xs : List X) (span : Span)
-      → IsSpan h xs span → changed_within span.start span.end f xs ≡ map f xs
+  pub linked_changed : (f : X → X) → ((x : X) → h x ≡ false → f x ≡ x) → (xs : List X) (span : LinkSpan)
+      → IsLinkSpan h xs span → changed_within span.start span.end f xs ≡ map f xs
   linked_changed f stays xs span s =
       all_changed f xs span.start span.end s.order (λ i o. if_some (slice_get xs i) stays (s.outside i o))
 
-  pub span_changed : (f : X → X) → ((x : X) → h x ≡ false → f x ≡ x) → (xs : List X) (span : Span) → IsSpan h xs span
-      → IsSpan h (map f xs) span
+  pub span_changed : (f : X → X) → ((x : X) → h x ≡ false → f x ≡ x) → (xs : List X) (span : LinkSpan) → IsLinkSpan h xs span
+      → IsLinkSpan h (map f xs) span
   span_changed f stays xs span s =
       let size = length-map xs f in
       let within = s.within in
@@ -59,11 +59,11 @@ module _ {X : Type 0} (h : X → Bool) where
             (s.outside i o));
       }
 
-  pub span_inserted : (xs : List X) (at : ℕ) (x : X) (span r : Span) → IsSpan h xs span → at ≤ length xs
+  pub span_inserted : (xs : List X) (at : ℕ) (x : X) (span r : LinkSpan) → IsLinkSpan h xs span → at ≤ length xs
       → r.start ≤ r.end → r.end ≤ length (insert xs at x)
       → ((i : ℕ) → IsOutside r i → i < at → IsOutside span i)
       → ((i : ℕ) → IsOutside r (i + 1) → at ≤ i → IsOutside span i) → (IsOutside r at → h x ≡ false)
-      → IsSpan h (insert xs at x) r
+      → IsLinkSpan h (insert xs at x) r
   span_inserted xs at x span r s place order within below above own =
       let free : (i : ℕ) → IsOutside r i → Free (slice_get (insert xs at x) i) = λ i o. elim (cases_lt i at) [
         | inl l ↦ subst Free (sym (slice_get-insert_below xs at x i place l)) (s.outside i (below i o l))
@@ -73,19 +73,19 @@ module _ {X : Type 0} (h : X → Bool) where
           | inr other ↦
               let before : i ≡ i - 1 + 1 = omega arith in
               let next : i ≡ suc (i - 1) = omega arith in
-              let behind : at ≤ i - 1 = omega arith in
+              let tail_changed : at ≤ i - 1 = omega arith in
               subst (λ k. Free (slice_get (insert xs at x) k)) (sym next)
-              (subst Free (sym (slice_get-insert_above xs at x (i - 1) place behind))
-              (s.outside (i - 1) (above (i - 1) (subst (IsOutside r) before o) behind)))
+              (subst Free (sym (slice_get-insert_above xs at x (i - 1) place tail_changed))
+              (s.outside (i - 1) (above (i - 1) (subst (IsOutside r) before o) tail_changed)))
         ]
       ] in
       record { order = order; within = within; outside = free }
 
-  pub span_removed : (xs : List X) (at : ℕ) (span r : Span) → IsSpan h xs span → at < length xs → r.start ≤ r.end
+  pub span_removed : (xs : List X) (at : ℕ) (span r : LinkSpan) → IsLinkSpan h xs span → at < length xs → r.start ≤ r.end
       → r.end ≤ length (remove xs at)
       → ((i : ℕ) → IsOutside r i → i < at → IsOutside span i)
       → ((i : ℕ) → IsOutside r i → at ≤ i → IsOutside span (i + 1))
-      → IsSpan h (remove xs at) r
+      → IsLinkSpan h (remove xs at) r
   span_removed xs at span r s place order within below above =
       let free : (i : ℕ) → IsOutside r i → Free (slice_get (remove xs at) i) = λ i o. elim (cases_lt i at) [
         | inl l ↦ subst Free (sym (slice_get-remove_below xs at i l)) (s.outside i (below i o l))
@@ -97,41 +97,41 @@ module _ {X : Type 0} (h : X → Bool) where
       record { order = order; within = within; outside = free }
 
   -- A move is a removal and then an insertion.
-  pub span_moved : (xs : List X) (from to : ℕ) (x : X) (span others r : Span) → IsSpan h xs span → from < length xs
+  pub span_moved : (xs : List X) (from to : ℕ) (x : X) (span others r : LinkSpan) → IsLinkSpan h xs span → from < length xs
       → to < length xs → slice_get xs from ≡ Some x
       → others.start ≤ others.end → others.end ≤ length (remove xs from)
       → ((i : ℕ) → IsOutside others i → i < from → IsOutside span i)
       → ((i : ℕ) → IsOutside others i → from ≤ i → IsOutside span (i + 1))
       → r.start ≤ r.end → r.end ≤ length xs
       → IsShifted others r to → (IsOutside r to → h x ≡ false)
-      → IsSpan h (moved xs from to) r
+      → IsLinkSpan h (moved xs from to) r
   span_moved xs from to x span others r s there place e order_others within_others below above order within shift own =
       let rest = length-remove xs from there in
       let inside : to ≤ length (remove xs from) = omega arith in
       let whole = length-insert (remove xs from) to x inside in
       let long : r.end ≤ length (insert (remove xs from) to x) = omega arith in
-      subst (IsSpanOf h r) (sym (moved-found xs from to x e))
+      subst (IsLinkSpanOf h r) (sym (moved-found xs from to x e))
       (span_inserted (remove xs from) to x others r
       (span_removed xs from span others s there order_others within_others below above)
       inside order long shift.below shift.above own)
 
-  pub span_pushed : (xs : List X) (x : X) (span r : Span) → IsSpan h xs span → r.start ≤ r.end
+  pub span_pushed : (xs : List X) (x : X) (span r : LinkSpan) → IsLinkSpan h xs span → r.start ≤ r.end
       → r.end ≤ length (xs ++ x ∷ [])
-      → IsShifted span r (length xs) → (IsOutside r (length xs) → h x ≡ false) → IsSpan h (xs ++ x ∷ []) r
+      → IsShifted span r (length xs) → (IsOutside r (length xs) → h x ≡ false) → IsLinkSpan h (xs ++ x ∷ []) r
   span_pushed xs x span r s order within shift own =
       let is = insert_end xs x in
-      subst (IsSpanOf h r) is
+      subst (IsLinkSpanOf h r) is
       (span_inserted xs (length xs) x span r s (omega arith) order
       (subst (λ ys. r.end ≤ length ys) (sym is) within) shift.below shift.above own)
 
   -- ---- the borrowed member
 
-  pub no_borrowed : (xs : List X) (span : Span) → IsSpan h xs span → IsSpanExcept h xs span None
+  pub no_borrowed : (xs : List X) (span : LinkSpan) → IsLinkSpan h xs span → IsLinkSpanExcept h xs span None
   no_borrowed xs span s =
       record { order = s.order; within = s.within; there = tt; outside = λ i o n. s.outside i o }
 
-  pub span_of_linked : (xs : List X) (span r : Span) (b : ℕ) → IsSpanExcept h xs span (Some b) → r.end ≤ length xs
-      → r.start ≤ b → b < r.end → ((i : ℕ) → IsOutside r i → IsOutside span i) → IsSpan h xs r
+  pub span_of_linked : (xs : List X) (span r : LinkSpan) (b : ℕ) → IsLinkSpanExcept h xs span (Some b) → r.end ≤ length xs
+      → r.start ≤ b → b < r.end → ((i : ℕ) → IsOutside r i → IsOutside span i) → IsLinkSpan h xs r
   span_of_linked xs span r b s within first last out =
       record {
         order = omega arith;
@@ -180,7 +180,7 @@ one_other p xs at i ne there passes =
     another_passes p xs at i x ne e (subst (λ o. IfSome o (λ x. p x ≡ true)) e passes)
 
 -- If no member of the span passes, except perhaps the one at an index, no other member of the list does.
-pub none_but : {X : Type 0} (h p : X → Bool) (xs : List X) (at : ℕ) (span : Span) → IsSpan h xs span
+pub none_but : {X : Type 0} (h p : X → Bool) (xs : List X) (at : ℕ) (span : LinkSpan) → IsLinkSpan h xs span
     → ((x : X) → h x ≡ false → p x ≡ false)
     → ((i : ℕ) → span.start ≤ i → i < span.end → i ≢ at → IfSome (slice_get xs i) (λ x. p x ≡ false))
     → list_any p (remove xs at) ≡ false

@@ -2,11 +2,11 @@
 //! whose members may link to one another.
 #![tactic(auto)]
 
-mod ended;
+mod double_ended;
 mod linked;
 mod members;
 mod span;
 
-pub use ended::EndedList;
+pub use double_ended::DoubleEndedList;
 pub use linked::Linked;
 pub use members::LinkedMembers;

@@ -5,11 +5,11 @@ ghost use Rattle.std.specs.Option.{option_copied};
 ghost use Rattle.std.specs.Borrow.{Lends, sem};
 ghost use Rattle.bank_linked_members.specs.contracts.members.LinkedMembers.{the_row};
 ghost use Rattle.base_numbered_lists.specs.Moved.{moved};
-ghost use Rattle.bank_linked_members.specs.Spans.{IsSpan};
+ghost use Rattle.bank_linked_members.specs.Spans.{IsLinkSpan};
 
-use crate::ended::EndedList;
+use crate::double_ended::DoubleEndedList;
 use crate::linked::Linked;
-use crate::span::Span;
+use crate::span::LinkSpan;
 use base_numbered_lists::{Renumber, Renumbering};
 use std::alloc::Global;
 use std::marker::Model;
@@ -19,9 +19,9 @@ use std::marker::Model;
 /// A change moves the members on its shorter side. Links are read only within a range of numbers that contains all
 /// members with a link. A member borrowed mutably widens that range only if it has a link afterwards.
 pub struct LinkedMembers<T: Linked> {
-    list: EndedList<T>,
+    list: DoubleEndedList<T>,
     // No member outside it has a link, except the borrowed one.
-    span: Span,
+    span: LinkSpan,
     // The number of a member whose link isn't known, since it was borrowed mutably.
     borrowed: Option<usize>,
 }
@@ -38,13 +38,13 @@ impl<T: Linked> Drop for LinkedMembers<T> {
 
 impl<T: Linked> Model for LinkedMembers<T> {
     ghost use Rattle.std.specs.Prelude.{List};
-    ghost use Rattle.bank_linked_members.specs.Spans.{IsSpanExcept};
+    ghost use Rattle.bank_linked_members.specs.Spans.{IsLinkSpanExcept};
 
     ghost Value = { List T };
 
     ghost view = { λ l. l.list };
 
-    ghost invariant = { λ l. IsSpanExcept T.has_link l.list l.span l.borrowed };
+    ghost invariant = { λ l. IsLinkSpanExcept T.has_link l.list l.span l.borrowed };
 }
 
 impl<T: Linked> LinkedMembers<T> {
@@ -59,13 +59,13 @@ impl<T: Linked> LinkedMembers<T> {
     pub fn from_vec(vec: Vec<T>) -> LinkedMembers<T>
         ensures { result ≡ vec.items }
     {
-        let all = Span {
+        let all = LinkSpan {
             start: 0,
             end: vec.len(),
         };
-        let span = all.tight(&vec);
+        let span = all.tightened(&vec);
         LinkedMembers {
-            list: EndedList::from_vec(vec),
+            list: DoubleEndedList::from_vec(vec),
             span,
             borrowed: None,
         }
@@ -143,7 +143,7 @@ impl<T: Linked> LinkedMembers<T> {
     {
         let span = self.link_span().after_removal(i);
         let x = self.list.remove(i);
-        self.span = span.tight(self.list.as_slice());
+        self.span = span.tightened(self.list.as_slice());
         self.borrowed = None;
         x
     }
@@ -158,7 +158,7 @@ impl<T: Linked> LinkedMembers<T> {
         let others = self.link_span().after_removal(from);
         let span = others.after_insertion(to, self.list.len(), has_link);
         self.list.move_member(from, to);
-        self.span = span.tight(self.list.as_slice());
+        self.span = span.tightened(self.list.as_slice());
         self.borrowed = None;
     }
 
@@ -178,8 +178,8 @@ impl<T: Linked> LinkedMembers<T> {
     }
 
     // The span that contains all members with a link, widened by the borrowed member if it has one now.
-    fn link_span(&self) -> Span
-        ensures { IsSpan T.has_link self.now result }
+    fn link_span(&self) -> LinkSpan
+        ensures { IsLinkSpan T.has_link self.now result }
     {
         let Some(i) = self.borrowed else {
             return self.span;
@@ -209,7 +209,7 @@ impl<T: Linked> Renumber for LinkedMembers<T> {
 
     fn renumber(&mut self, by: Renumbering) {
         let span = self.link_span();
-        self.list.renumber_part(by, span);
+        self.list.renumber_range(by, span);
         self.span = span;
         self.borrowed = None;
     }

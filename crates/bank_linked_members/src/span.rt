@@ -1,20 +1,20 @@
 //! The range of numbers that contains all members with a link.
 ghost use Rattle.std.specs.Prelude.{◌≡◌, ◌<◌, ◌≤◌, ◌+◌, ◌^◌, ◌∷◌, [], ◌++◌, List, false, true, length, insert, remove, drop, slice_get, IfSome, ℕ};
 ghost use Rattle.base_numbered_lists.specs.Moved.{moved};
-ghost use Rattle.bank_linked_members.specs.Spans.{IsSpan, IsOutside, IsShifted};
+ghost use Rattle.bank_linked_members.specs.Spans.{IsLinkSpan, IsOutside, IsShifted};
 
 use crate::linked::Linked;
 
 /// The numbers `start..end`: no member outside them has a link.
 #[derive(Clone, Copy)]
-pub(crate) struct Span {
+pub(crate) struct LinkSpan {
     pub(crate) start: usize,
     pub(crate) end: usize,
 }
 
-impl Span {
+impl LinkSpan {
     // This span widened by the number of one of `count` members. An empty span becomes that number alone.
-    pub(crate) fn with(self, number: usize, count: usize) -> Span
+    pub(crate) fn with(self, number: usize, count: usize) -> LinkSpan
         requires { number < count }
         ensures covers { (result.start ≤ number) × (number < result.end) }
         ensures outside { (i : ℕ) → IsOutside result i → IsOutside self i }
@@ -22,12 +22,12 @@ impl Span {
         ensures alone { self.end ≤ self.start → (result.start ≡ number) × (result.end ≡ number + 1) }
     {
         if self.end <= self.start {
-            return Span {
+            return LinkSpan {
                 start: number,
                 end: number + 1,
             };
         }
-        Span {
+        LinkSpan {
             start: self.start.min(number),
             end: self.end.max(number + 1),
         }
@@ -35,7 +35,7 @@ impl Span {
 
     // The span after an insertion of a member, with a link or without, as number `at`. `count` is the new number of
     // members.
-    pub(crate) fn after_insertion(self, at: usize, count: usize, has_link: bool) -> Span
+    pub(crate) fn after_insertion(self, at: usize, count: usize, has_link: bool) -> LinkSpan
         requires order { self.start ≤ self.end }
         requires fits { self.end < count }
         requires place { at < count }
@@ -53,7 +53,7 @@ impl Span {
     }
 
     // The same for a member without a link.
-    fn shifted(self, at: usize, count: usize) -> Span
+    fn shifted(self, at: usize, count: usize) -> LinkSpan
         requires order { self.start ≤ self.end }
         requires fits { self.end < count }
         requires place { at < count }
@@ -62,12 +62,12 @@ impl Span {
         ensures outside { IsShifted self result at }
     {
         if at <= self.start {
-            Span {
+            LinkSpan {
                 start: self.start + 1,
                 end: self.end + 1,
             }
         } else if at < self.end {
-            Span {
+            LinkSpan {
                 start: self.start,
                 end: self.end + 1,
             }
@@ -77,7 +77,7 @@ impl Span {
     }
 
     // The span after the removal of member `at`.
-    pub(crate) fn after_removal(self, at: usize) -> Span
+    pub(crate) fn after_removal(self, at: usize) -> LinkSpan
         requires order { self.start ≤ self.end }
         ensures order { result.start ≤ result.end }
         ensures below { (i : ℕ) → IsOutside result i → i < at → IsOutside self i }
@@ -85,12 +85,12 @@ impl Span {
         ensures within { (count : ℕ) → self.end ≤ count + 1 → at < count + 1 → result.end ≤ count }
     {
         if at < self.start {
-            Span {
+            LinkSpan {
                 start: self.start - 1,
                 end: self.end - 1,
             }
         } else if at < self.end {
-            Span {
+            LinkSpan {
                 start: self.start,
                 end: self.end - 1,
             }
@@ -100,26 +100,26 @@ impl Span {
     }
 
     // The span from the first member with a link to the last one.
-    pub(crate) fn tight<T: Linked>(self, members: &[T]) -> Span
-        requires { IsSpan T.has_link members.now self }
-        ensures { IsSpan T.has_link members.now result }
+    pub(crate) fn tightened<T: Linked>(self, members: &[T]) -> LinkSpan
+        requires { IsLinkSpan T.has_link members.now self }
+        ensures { IsLinkSpan T.has_link members.now result }
     {
         let start = first_linked(members, self);
         let end = last_linked(
             members,
-            Span {
+            LinkSpan {
                 start,
                 end: self.end,
             },
         );
-        Span { start, end }
+        LinkSpan { start, end }
     }
 }
 
 // The number of the first member with a link in the span, or else the span's end.
-fn first_linked<T: Linked>(members: &[T], span: Span) -> usize
-    requires { IsSpan T.has_link members.now span }
-    ensures { IsSpan T.has_link members.now (record { start = result; end = span.end }) }
+fn first_linked<T: Linked>(members: &[T], span: LinkSpan) -> usize
+    requires { IsLinkSpan T.has_link members.now span }
+    ensures { IsLinkSpan T.has_link members.now (record { start = result; end = span.end }) }
 {
     let mut start = span.start;
     while start < span.end && !members[start].has_link() {
@@ -129,9 +129,9 @@ fn first_linked<T: Linked>(members: &[T], span: Span) -> usize
 }
 
 // The number after the last member with a link in the span, or else the span's start.
-fn last_linked<T: Linked>(members: &[T], span: Span) -> usize
-    requires { IsSpan T.has_link members.now span }
-    ensures { IsSpan T.has_link members.now (record { start = span.start; end = result }) }
+fn last_linked<T: Linked>(members: &[T], span: LinkSpan) -> usize
+    requires { IsLinkSpan T.has_link members.now span }
+    ensures { IsLinkSpan T.has_link members.now (record { start = span.start; end = result }) }
 {
     let mut end = span.end;
     while span.start < end && !members[end - 1].has_link() {

@@ -1,6 +1,6 @@
 pub mod Owners
 pub mod Places
-pub mod Turns
-pub mod Comings
+pub mod OwnerRotations
+pub mod OwnerInsertions
 pub mod Converse
 pub mod Following

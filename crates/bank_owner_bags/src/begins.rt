@@ -1,7 +1,7 @@
 //! The indexes at which the bags of owners begin.
 ghost use Rattle.std.specs.Prelude.{◌≡◌, ◌≤◌, ◌<◌, ◌+◌, ◌-◌, ◌^◌, length, slice_index, map, All, take, drop, vec_len, vec_capacity, insert};
 ghost use Rattle.base_numbered_lists.specs.Moved.{changed_within};
-ghost use Rattle.flat_records.specs.Runs.{changed_from, changed_exchanged, exchanged, AreWindows};
+ghost use Rattle.flat_records.specs.Runs.{changed_from, changed_exchanged, exchanged, AreAdjacentRanges};
 
 /// The index of bag `k` of owner `i` among all bags.
 pub(crate) fn place(begins: &[u16], i: usize, k: usize) -> usize
@@ -76,14 +76,14 @@ fn lower_within(begins: &mut [u16], a: usize, b: usize, by: u16)
 }
 
 fn exchange(begins: &mut [u16], a: usize, b: usize, c: usize)
-    requires { AreWindows a b c (length begins.old) }
+    requires { AreAdjacentRanges a b c (length begins.old) }
     ensures { begins.new ≡ exchanged begins.old a b c }
 {
     begins[a..c].rotate_left(b - a);
 }
 
 fn exchange_slices(begins: &mut [u16], a: usize, b: usize, c: usize, down: u16, up: u16)
-    requires places { AreWindows a b c (length begins.old) }
+    requires places { AreAdjacentRanges a b c (length begins.old) }
     requires lower { All (λ at. down ≤ at) (drop b (take c begins.old)) }
     requires raise { All (λ at. at + up < 2 ^ 16) (drop a (take b begins.old)) }
     ensures { begins.new ≡ changed_exchanged a b c (λ at. at - down) (λ at. at + up) begins.old }
@@ -102,7 +102,7 @@ pub(crate) fn exchange_begins(
     down: u16,
     up: u16,
 )
-    requires places { AreWindows a b c (length begins.old.items) }
+    requires places { AreAdjacentRanges a b c (length begins.old.items) }
     requires lower { All (λ at. down ≤ at) (drop b (take c begins.old.items)) }
     requires raise { All (λ at. at + up < 2 ^ 16) (drop a (take b begins.old.items)) }
     ensures list { begins.new.items ≡ changed_exchanged a b c (λ at. at - down) (λ at. at + up) begins.old.items }

@@ -11,7 +11,7 @@ use flat_records::Bags;
 impl OwnerBags {
     /// Inserts an owner without bags as number `i`, into reserved capacity; the numbers of later owners grow by one.
     /// Allocates nothing.
-    pub fn open_owner(&mut self, i: usize)
+    pub fn insert_empty_owner(&mut self, i: usize)
         requires place { i ≤ length self.old.owners }
         requires room { 0 < self.old.spare_owners }
         ensures owners { self.new.owners ≡ insert self.old.owners i [] }
@@ -23,7 +23,7 @@ impl OwnerBags {
     }
 
     // Removes an owner without bags.
-    fn close_owner(&mut self, i: usize)
+    fn remove_empty_owner(&mut self, i: usize)
         requires { slice_get self.old.owners i ≡ Some [] }
         ensures owners { self.new.owners ≡ remove self.old.owners i }
     {
@@ -31,7 +31,7 @@ impl OwnerBags {
     }
 
     /// Moves owner `from` to index `to`; the others keep their order. Allocates nothing.
-    #[tactic(auto, using(crate::proofs::Turns::moved_up, crate::proofs::Turns::moved_down))]
+    #[tactic(auto, using(crate::proofs::OwnerRotations::moved_up, crate::proofs::OwnerRotations::moved_down))]
     pub fn move_owner(&mut self, from: usize, to: usize)
         requires from { from < length self.old.owners }
         requires to { to < length self.old.owners }
@@ -84,12 +84,12 @@ impl OwnerBags {
     {
         let last = self.owner_count() - 1;
         self.move_owner(i, last);
-        self.empty_owner(last);
-        self.close_owner(last);
+        self.clear_owner(last);
+        self.remove_empty_owner(last);
     }
 
     // Removes all bags of an owner, the last one first.
-    fn empty_owner(&mut self, i: usize)
+    fn clear_owner(&mut self, i: usize)
         requires { i < length self.old.owners }
         ensures { self.new.owners ≡ slice_set self.old.owners i [] }
     {
@@ -101,7 +101,7 @@ impl OwnerBags {
     }
 }
 
-#[tactic(auto, using(crate::proofs::Turns::moved_up, crate::proofs::Turns::moved_down))]
+#[tactic(auto, using(crate::proofs::OwnerRotations::moved_up, crate::proofs::OwnerRotations::moved_down))]
 fn move_within(bags: &mut Bags, from: usize, to: usize)
     requires from { from < length bags.old.bags }
     requires to { to < length bags.old.bags }

@@ -19,7 +19,7 @@ use Rattle.bank_parts.specs.declared.counting.Records.{Records}
 use Rattle.bank_parts.specs.Counts.{records_of_global, records_of_zone, records_sum}
 use Rattle.bank_parts.specs.declared.parts.GlobalZone.{GlobalZone}
 use Rattle.bank_parts.specs.declared.parts.Zone.{Zone}
-use Rattle.bank_parts.specs.declared.parts.WithZones.{WithZones}
+use Rattle.bank_parts.specs.declared.parts.ZoneOwner.{ZoneOwner}
 use Rattle.bank_parts.specs.Bagged.{zone_bag, global_bag, global_bags, bags_of}
 use Rattle.bank_parts.specs.Room.{HasRoom, records_of_zones}
 use Rattle.bank_parts.proofs.ListLaws.{get-last, insert-last, set-last}
@@ -315,7 +315,7 @@ pub changed_within : (owners new : List (List Bag)) (n : ℕ) (f : List Bag → 
     → new ≡ changed owners n f → n < length new
 changed_within owners new n f within e = let size = ap length e ∙ length-changed owners n f in omega arith
 
-pub owner_appended : {H : Type 0} (op : ℕ) (x : WithZones H) (owners first second new : List (List Bag)) (n : ℕ)
+pub owner_appended : {H : Type 0} (op : ℕ) (x : ZoneOwner H) (owners first second new : List (List Bag)) (n : ℕ)
     → n ≡ length owners → first ≡ insert owners n []
     → second ≡ changed first n (λ own. own ++ global_bags x.global)
     → new ≡ changed second n (λ own. own ++ map (zone_bag op) x.zones) → new ≡ owners ++ bags_of op x ∷ []

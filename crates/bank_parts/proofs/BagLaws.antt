@@ -9,7 +9,7 @@ use Rattle.base_numbered_lists.proofs.Lists.{slice_get-found}
 use Rattle.modulators.specs.declared.modulator.Modulator.{Modulator}
 use Rattle.flat_records.specs.Bags.{Bag}
 use Rattle.bank_owner_bags.specs.Owned.{bag_at, bag_changed}
-use Rattle.bank_parts.specs.Changes.{bag_size, record_taken}
+use Rattle.bank_parts.specs.Changes.{bag_size, record_removed}
 
 pub some_of : {X : Type 0} (P : X → Type 0) (o : Option X) → IsSomeAnd o P → IsSome o
 some_of P None h = absurd h
@@ -41,10 +41,10 @@ pub record_goes : (owners : List (List Bag)) (i k : ℕ) (F : Bag → Bag) (one 
     {r : Bool}
     → IfSome (bag_at owners i k) (λ (b : Bag). r ≡ (bag_size b == 1)) → r ≡ one
     → new ≡ (if one then changed owners i (λ own. remove own k) else bag_changed owners i k F)
-    → IfSome (bag_at owners i k) (λ (b : Bag). new ≡ record_taken owners i k F b)
+    → IfSome (bag_at owners i k) (λ (b : Bag). new ≡ record_removed owners i k F b)
 record_goes owners i k F one {new} {r} h is e =
     (elim (bag_at owners i k) as (λ o. IfSome o (λ (b : Bag). r ≡ (bag_size b == 1))
-    → IfSome o (λ (b : Bag). new ≡ record_taken owners i k F b)) [
+    → IfSome o (λ (b : Bag). new ≡ record_removed owners i k F b)) [
       | None ↦ λ h. tt
       | Some b ↦ λ h.
           e ∙ ap (λ c. if c then changed owners i (λ own. remove own k) else bag_changed owners i k F) (sym is ∙ h)

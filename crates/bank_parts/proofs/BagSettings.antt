@@ -12,14 +12,14 @@ use Rattle.base_numbered_lists.proofs.Lists.{changed-found, map-slice_set, slice
 use Rattle.flat_records.specs.Bags.{Bag}
 use Rattle.bank_parts.specs.declared.parts.GlobalZone.{GlobalZone}
 use Rattle.bank_parts.specs.declared.parts.Zone.{Zone}
-use Rattle.bank_parts.specs.declared.parts.WithZones.{WithZones}
+use Rattle.bank_parts.specs.declared.parts.ZoneOwner.{ZoneOwner}
 use Rattle.bank_parts.specs.declared.owners.ZonePlace.{ZonePlace}
 use Rattle.bank_parts.specs.declared.owners.ZonePlace.TheVariants as place
 use Rattle.bank_parts.specs.Owners.{HasPlace, gens_at, mods_at}
 use Rattle.bank_parts.specs.Settings.{Settings, settings_of_zone, zone_with_settings, settings_in, settings_changed}
 use Rattle.bank_parts.specs.Bagged.{zone_bag, global_bag, global_bags, bags_of, bag_number, without_last}
 use Rattle.bank_parts.specs.Bagged.{without_target, IsPlain, IsPlainOwner}
-use Rattle.bank_parts.specs.Flat.{AreOf}
+use Rattle.bank_parts.specs.Flat.{RepresentOwners}
 use Rattle.bank_parts.proofs.ListLaws.{everywhere-changed, get-right, changed-right}
 use Rattle.bank_parts.proofs.ReadLaws.{zone-ends, plain-ends, without-last}
 use Rattle.bank_parts.proofs.ZoneLaws.{zone_there}
@@ -27,7 +27,7 @@ use Rattle.bank_parts.proofs.PlaceLaws.{no_global_bag, one_global_bag, OwnerAt, 
 
 -- ---- a place
 
-pub record PlaceAt {H : Type 0} (op : ℕ) (bags : List (List Bag)) (owners : List (WithZones H)) (i : ℕ)
+pub record PlaceAt {H : Type 0} (op : ℕ) (bags : List (List Bag)) (owners : List (ZoneOwner H)) (i : ℕ)
     (at : ZonePlace) : Type 0 where
   pub found : OwnerAt op bags owners i
   pub settings : Settings
@@ -36,8 +36,8 @@ pub record PlaceAt {H : Type 0} (op : ℕ) (bags : List (List Bag)) (owners : Li
   pub gens : gens_at owners i at ≡ Some settings.gens
   pub mods : mods_at owners i at ≡ Some settings.mods
 
-pub place_there : {H : Type 0} {op : ℕ} {heads : List H} {bags : List (List Bag)} {owners : List (WithZones H)}
-    (a : AreOf op heads bags owners) (i : ℕ) (at : ZonePlace)
+pub place_there : {H : Type 0} {op : ℕ} {heads : List H} {bags : List (List Bag)} {owners : List (ZoneOwner H)}
+    (a : RepresentOwners op heads bags owners) (i : ℕ) (at : ZonePlace)
     → HasPlace owners i at → PlaceAt op bags owners i at
 place_there {H} {op} {heads} {bags} {owners} a i place.Global h =
     let o = owner_there a i h in
@@ -46,8 +46,8 @@ place_there {H} {op} {heads} {bags} {owners} a i place.Global h =
       settings = o.owner.global;
       has = refl;
       plain = o.plain.global;
-      gens = ap (option_map (λ (x : WithZones H). x.global.gens)) o.there;
-      mods = ap (option_map (λ (x : WithZones H). x.global.mods)) o.there;
+      gens = ap (option_map (λ (x : ZoneOwner H). x.global.gens)) o.there;
+      mods = ap (option_map (λ (x : ZoneOwner H). x.global.mods)) o.there;
     }
 place_there {H} {op} {heads} {bags} {owners} a i (place.Zone k) h =
     let z = zone_there a i k h in
@@ -65,7 +65,7 @@ pub changed_kept : {X : Type 0} (xs : List X) (i : ℕ) (f : X → X) (x : X) �
     → changed xs i f ≡ xs
 changed_kept xs i f x e kept = changed-found xs i f x e ∙ (ap (set xs i) kept ∙ slice_set_same xs i x e)
 
-pub settings_kept : {H : Type 0} (at : ZonePlace) (f : Settings → Settings) (x : WithZones H) (s : Settings)
+pub settings_kept : {H : Type 0} (at : ZonePlace) (f : Settings → Settings) (x : ZoneOwner H) (s : Settings)
     → settings_in at x ≡ Some s → f s ≡ s → settings_changed at f x ≡ x
 settings_kept place.Global f x s e kept =
     let same : x.global ≡ s = cc in
@@ -88,7 +88,7 @@ settings_kept (place.Zone k) f x s e kept =
 
 -- ---- its bag
 
-pub record BagAt {H : Type 0} (op : ℕ) (at : ZonePlace) (x : WithZones H) (s : Settings) (n : ℕ) : Type 0 where
+pub record BagAt {H : Type 0} (op : ℕ) (at : ZonePlace) (x : ZoneOwner H) (s : Settings) (n : ℕ) : Type 0 where
   pub bag : Bag
   -- a zone's target
   pub last : List (ℕ × ℕ)
@@ -114,7 +114,7 @@ none_held n e = grind (arith, nat_tests)
 global_size : (g : GlobalZone) → len g.gens + length g.mods ≡ length (entries g.gens) + length g.mods
 global_size g = ap (λ n. n + length g.mods) (len-entries g.gens)
 
-global_changes : {H : Type 0} (op : ℕ) (x : WithZones H) → IsPlain op x.global.gens
+global_changes : {H : Type 0} (op : ℕ) (x : ZoneOwner H) → IsPlain op x.global.gens
     → 0 < len x.global.gens + length x.global.mods → BagAt op place.Global x x.global 0
 global_changes op x plain some =
     let own = one_global_bag x.global some in
@@ -143,7 +143,7 @@ global_changes op x plain some =
           ∙ ap (λ bs. bs ++ map (zone_bag op) x.zones) (sym (no_global_bag new (omega arith)));
     }
 
-zone_changes : {H : Type 0} (op k : ℕ) (x : WithZones H) (z : Zone) → slice_get x.zones k ≡ Some z
+zone_changes : {H : Type 0} (op k : ℕ) (x : ZoneOwner H) (z : Zone) → slice_get x.zones k ≡ Some z
     → BagAt op (place.Zone k) x (settings_of_zone z) (length (global_bags x.global) + k)
 zone_changes op k x z there =
     let gs = global_bags x.global in
@@ -174,7 +174,7 @@ zone_changes op k x z there =
           absurd (omega arith);
     }
 
-pub bag_there : {H : Type 0} (op : ℕ) (at : ZonePlace) (x : WithZones H) (s : Settings) (n : ℕ)
+pub bag_there : {H : Type 0} (op : ℕ) (at : ZonePlace) (x : ZoneOwner H) (s : Settings) (n : ℕ)
     → settings_in at x ≡ Some s → IsPlain op s.gens → bag_number at x ≡ Some n → BagAt op at x s n
 bag_there {H} op place.Global x s n e plain h =
     let same : x.global ≡ s = cc in
@@ -204,14 +204,14 @@ bag_there {H} op (place.Zone k) x s n e plain h =
 
 -- ---- no bag
 
-pub record NoBag {H : Type 0} (op : ℕ) (at : ZonePlace) (x : WithZones H) (s : Settings) : Type 0 where
+pub record NoBag {H : Type 0} (op : ℕ) (at : ZonePlace) (x : ZoneOwner H) (s : Settings) : Type 0 where
   pub gens : entries s.gens ≡ []
   pub mods : s.mods ≡ []
   pub opens : (f : Settings → Settings) → 0 < length (entries (f s).gens) + length (f s).mods
       → insert (bags_of op x) 0 (record { gens = entries (f s).gens; mods = (f s).mods })
       ≡ bags_of op (settings_changed at f x)
 
-pub no_bag_there : {H : Type 0} (op : ℕ) (at : ZonePlace) (x : WithZones H) (s : Settings)
+pub no_bag_there : {H : Type 0} (op : ℕ) (at : ZonePlace) (x : ZoneOwner H) (s : Settings)
     → settings_in at x ≡ Some s → bag_number at x ≡ None → NoBag op at x s
 no_bag_there op (place.Zone k) x s e h = cc
 no_bag_there {H} op place.Global x s e h =
@@ -238,12 +238,12 @@ no_bag_there {H} op place.Global x s e h =
 
 -- ---- the owner afterwards
 
-pub head_stays : {H : Type 0} (at : ZonePlace) (f : Settings → Settings) (x : WithZones H)
+pub head_stays : {H : Type 0} (at : ZonePlace) (f : Settings → Settings) (x : ZoneOwner H)
     → (settings_changed at f x).head ≡ x.head
 head_stays place.Global f x = refl
 head_stays (place.Zone k) f x = refl
 
-pub plain_after : {H : Type 0} (op : ℕ) (at : ZonePlace) (f : Settings → Settings) (x : WithZones H) (s : Settings)
+pub plain_after : {H : Type 0} (op : ℕ) (at : ZonePlace) (f : Settings → Settings) (x : ZoneOwner H) (s : Settings)
     → settings_in at x ≡ Some s
     → IsPlainOwner op x → IsPlain op (f s).gens → IsPlainOwner op (settings_changed at f x)
 plain_after op place.Global f x s e p q =

@@ -9,9 +9,9 @@ use Rattle.generators.specs.Levels.{is_allowed}
 use Rattle.generators.specs.Ranges.{is_range_operator}
 use Rattle.generators.specs.declared.level.Level.{Level}
 use Rattle.bank_parts.specs.declared.parts.Zone.{Zone}
-use Rattle.bank_parts.specs.declared.parts.WithZones.{WithZones}
+use Rattle.bank_parts.specs.declared.parts.ZoneOwner.{ZoneOwner}
 use Rattle.bank_parts.specs.Valid.{IsGenerator, AreGenerators, IsZone, IsOwner}
-use Rattle.bank_parts.specs.Contents.{misses_target, sets_foreign, has_foreign, is_bad_range, sets_bad_range}
+use Rattle.bank_parts.specs.Contents.{has_missing_target, sets_bad_generator, has_bad_generator, is_bad_range, sets_bad_range}
 use Rattle.bank_parts.specs.Contents.{has_bad_range}
 use Rattle.bank_parts.proofs.Everywhere.{all_weaker, all_both, or_left, or_right, or_none, none_passes, passes_none}
 
@@ -57,14 +57,14 @@ module _ (at : Level) where
         (asked (is_range_operator e.0) (nat_le (e.1 % 256) (e.1 / 256) && nat_le (e.1 / 256) 127) good asks);
   }
 
-  gens_from : (gens : Gens) → sets_foreign at gens ≡ false → sets_bad_range gens ≡ false → AreGenerators at gens
+  gens_from : (gens : Gens) → sets_bad_generator at gens ≡ false → sets_bad_range gens ≡ false → AreGenerators at gens
   gens_from gens own good =
       all_both (λ (e : ℕ × ℕ). not (is_allowed at e.0) ≡ false) (λ (e : ℕ × ℕ). is_bad_range e ≡ false)
       (IsGenerator at) generator_from (entries gens)
       (none_passes (λ (e : ℕ × ℕ). not (is_allowed at e.0)) (entries gens) own)
       (none_passes is_bad_range (entries gens) good)
 
-  gens_own : (gens : Gens) → AreGenerators at gens → sets_foreign at gens ≡ false
+  gens_own : (gens : Gens) → AreGenerators at gens → sets_bad_generator at gens ≡ false
   gens_own gens h =
       passes_none (λ (e : ℕ × ℕ). not (is_allowed at e.0)) (entries gens)
       (all_weaker (IsGenerator at) (λ (e : ℕ × ℕ). not (is_allowed at e.0) ≡ false)
@@ -82,25 +82,25 @@ module _ (at : Level) where
 -- ---- a preset or an instrument
 
 -- all tests of its contents are false
-pub record StandsNothing {H : Type 0} (at : Level) (count : ℕ) (x : WithZones H) : Type 0 where
-  pub targets : misses_target count x ≡ false
-  pub operators : has_foreign at x ≡ false
+pub record PassesTests {H : Type 0} (at : Level) (count : ℕ) (x : ZoneOwner H) : Type 0 where
+  pub targets : has_missing_target count x ≡ false
+  pub operators : has_bad_generator at x ≡ false
   pub ranges : has_bad_range x ≡ false
 
-module _ {H : Type 0} (name_of : H → List ℕ) (at : Level) (count : ℕ) (x : WithZones H) where
+module _ {H : Type 0} (name_of : H → List ℕ) (at : Level) (count : ℕ) (x : ZoneOwner H) where
   misses : Zone → Bool
   misses z = nat_le count z.target
 
   foreign : Zone → Bool
-  foreign z = sets_foreign at z.gens
+  foreign z = sets_bad_generator at z.gens
 
   bad : Zone → Bool
   bad z = sets_bad_range z.gens
 
-  pub owner_from_tests : IsName (name_of x.head) → StandsNothing at count x → IsOwner name_of at count x
+  pub owner_from_tests : IsName (name_of x.head) → PassesTests at count x → IsOwner name_of at count x
   unfolding misses foreign bad
   owner_from_tests named h =
-      let own = or_right (sets_foreign at x.global.gens) (list_any foreign x.zones) h.operators in
+      let own = or_right (sets_bad_generator at x.global.gens) (list_any foreign x.zones) h.operators in
       let good = or_right (sets_bad_range x.global.gens) (list_any bad x.zones) h.ranges in
       let gens : AllByRecursion (λ (z : Zone). AreGenerators at z.gens) x.zones =
       all_both (λ (z : Zone). foreign z ≡ false) (λ (z : Zone). bad z ≡ false)
@@ -111,7 +111,7 @@ module _ {H : Type 0} (name_of : H → List ℕ) (at : Level) (count : ℕ) (x :
         zones = record {
           global =
               gens_from at x.global.gens
-              (or_left (sets_foreign at x.global.gens) (list_any foreign x.zones) h.operators)
+              (or_left (sets_bad_generator at x.global.gens) (list_any foreign x.zones) h.operators)
               (or_left (sets_bad_range x.global.gens) (list_any bad x.zones) h.ranges);
           zones =
               all_both (λ (z : Zone). misses z ≡ false) (λ (z : Zone). AreGenerators at z.gens) (IsZone at count)
@@ -120,7 +120,7 @@ module _ {H : Type 0} (name_of : H → List ℕ) (at : Level) (count : ℕ) (x :
         };
       }
 
-  pub tests_from_owner : IsOwner name_of at count x → StandsNothing at count x
+  pub tests_from_owner : IsOwner name_of at count x → PassesTests at count x
   unfolding misses foreign bad
   tests_from_owner h =
       let zones = h.zones.zones in
@@ -130,7 +130,7 @@ module _ {H : Type 0} (name_of : H → List ℕ) (at : Level) (count : ℕ) (x :
             (all_weaker (IsZone at count) (λ (z : Zone). misses z ≡ false)
             (λ z k. reached count z.target k.target) x.zones zones);
         operators =
-            or_none (sets_foreign at x.global.gens) (list_any foreign x.zones)
+            or_none (sets_bad_generator at x.global.gens) (list_any foreign x.zones)
             (gens_own at x.global.gens h.zones.global)
             (passes_none foreign x.zones
             (all_weaker (IsZone at count) (λ (z : Zone). foreign z ≡ false) (λ z k. gens_own at z.gens k.gens)

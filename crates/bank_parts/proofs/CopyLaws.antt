@@ -7,7 +7,7 @@ use Rattle.generators.specs.Gens.{Gens, FitGens, AreGens}
 use Rattle.modulators.specs.declared.modulator.Modulator.{Modulator}
 use Rattle.bank_parts.specs.declared.parts.GlobalZone.{GlobalZone}
 use Rattle.bank_parts.specs.declared.parts.Zone.{Zone}
-use Rattle.bank_parts.specs.declared.parts.WithZones.{WithZones}
+use Rattle.bank_parts.specs.declared.parts.ZoneOwner.{ZoneOwner}
 use Rattle.bank_parts.proofs.GenLaws.{are_gens}
 use Rattle.bank_parts.proofs.AppendLaws.{take-next, take-all}
 
@@ -40,20 +40,20 @@ no_zones None = tt
 no_zones (Some all) = refl
 
 module _ {H : Type 0} where
-  pub global_of : (o : Option (WithZones H)) (gens : Gens) (mods : List Modulator)
-      → option_map (λ (x : WithZones H). x.global.gens) o ≡ Some gens
-      → option_map (λ (x : WithZones H). x.global.mods) o ≡ Some mods
-      → option_map (λ (x : WithZones H). x.global) o ≡ Some (record { gens = gens; mods = mods })
+  pub global_of : (o : Option (ZoneOwner H)) (gens : Gens) (mods : List Modulator)
+      → option_map (λ (x : ZoneOwner H). x.global.gens) o ≡ Some gens
+      → option_map (λ (x : ZoneOwner H). x.global.mods) o ≡ Some mods
+      → option_map (λ (x : ZoneOwner H). x.global) o ≡ Some (record { gens = gens; mods = mods })
   global_of None gens mods g m = cc
   global_of (Some x) gens mods g m =
       let same_g : x.global.gens ≡ gens = cc in
       let same_m : x.global.mods ≡ mods = cc in
       λ i. Some (record { gens = same_g i; mods = same_m i })
 
-  pub owner_of : (o : Option (WithZones H)) (head : H) (global : GlobalZone) (zones : List Zone)
-      → option_map (λ (x : WithZones H). x.head) o ≡ Some head
-      → option_map (λ (x : WithZones H). x.global) o ≡ Some global
-      → option_map (λ (x : WithZones H). x.zones) o ≡ Some zones
+  pub owner_of : (o : Option (ZoneOwner H)) (head : H) (global : GlobalZone) (zones : List Zone)
+      → option_map (λ (x : ZoneOwner H). x.head) o ≡ Some head
+      → option_map (λ (x : ZoneOwner H). x.global) o ≡ Some global
+      → option_map (λ (x : ZoneOwner H). x.zones) o ≡ Some zones
       → o ≡ Some (record { head = head; global = global; zones = zones })
   owner_of None head global zones h g z = cc
   owner_of (Some x) head global zones h g z =
@@ -64,22 +64,22 @@ module _ {H : Type 0} where
 
   -- ---- zones one by one
 
-  pub place_within : (o : Option (WithZones H)) (n k : ℕ)
-      → option_map (λ (x : WithZones H). length x.zones) o ≡ Some n → k < n
-      → IsSomeAnd (option_map (λ (x : WithZones H). length x.zones) o) (λ n. k < n)
+  pub place_within : (o : Option (ZoneOwner H)) (n k : ℕ)
+      → option_map (λ (x : ZoneOwner H). length x.zones) o ≡ Some n → k < n
+      → IsSomeAnd (option_map (λ (x : ZoneOwner H). length x.zones) o) (λ n. k < n)
   place_within o n k e h = subst (λ o. IsSomeAnd o (λ n. k < n)) (sym e) h
 
-  pub next_copied : (o : Option (WithZones H)) (k : ℕ) (zones : List Zone) (z : Zone)
-      → IfSome (option_map (λ (x : WithZones H). x.zones) o) (λ all. zones ≡ take k all)
-      → option_and_then (λ (x : WithZones H). slice_get x.zones k) o ≡ Some z
-      → IfSome (option_map (λ (x : WithZones H). x.zones) o) (λ all. zones ++ z ∷ [] ≡ take (suc k) all)
+  pub next_copied : (o : Option (ZoneOwner H)) (k : ℕ) (zones : List Zone) (z : Zone)
+      → IfSome (option_map (λ (x : ZoneOwner H). x.zones) o) (λ all. zones ≡ take k all)
+      → option_and_then (λ (x : ZoneOwner H). slice_get x.zones k) o ≡ Some z
+      → IfSome (option_map (λ (x : ZoneOwner H). x.zones) o) (λ all. zones ++ z ∷ [] ≡ take (suc k) all)
   next_copied None k zones z h e = tt
   next_copied (Some x) k zones z h e = ap (λ zs. zs ++ z ∷ []) h ∙ sym (take-next x.zones k z e)
 
-  pub all_copied : (o : Option (WithZones H)) (n k : ℕ) (zones : List Zone)
-      → option_map (λ (x : WithZones H). length x.zones) o ≡ Some n → n ≤ k
-      → IfSome (option_map (λ (x : WithZones H). x.zones) o) (λ all. zones ≡ take k all)
-      → option_map (λ (x : WithZones H). x.zones) o ≡ Some zones
+  pub all_copied : (o : Option (ZoneOwner H)) (n k : ℕ) (zones : List Zone)
+      → option_map (λ (x : ZoneOwner H). length x.zones) o ≡ Some n → n ≤ k
+      → IfSome (option_map (λ (x : ZoneOwner H). x.zones) o) (λ all. zones ≡ take k all)
+      → option_map (λ (x : ZoneOwner H). x.zones) o ≡ Some zones
   all_copied None n k zones count over h = cc
   all_copied (Some x) n k zones count over h =
       let same : length x.zones ≡ n = cc in ap Some (sym (h ∙ take-all x.zones k (omega arith)))

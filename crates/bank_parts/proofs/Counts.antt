@@ -30,21 +30,21 @@ pub none_left : (gens : Gens) (mods : List Modulator) → len gens + length mods
 none_left gens mods n = empty_of_len gens (omega (arith, n))
 
 -- a test that is true exactly for 0
-pub says_zero : (t : Bool) (n : ℕ) → IsTrue t ↔ (n ≡ 0) → t ≡ (n == 0)
-says_zero true n h = sym (eq-eqb n 0 (h.0 refl))
-says_zero false n h = sym (ne_eqb n 0 (λ e. true≢false (sym (h.1 e))))
+pub decides_zero : (t : Bool) (n : ℕ) → IsTrue t ↔ (n ≡ 0) → t ≡ (n == 0)
+decides_zero true n h = sym (eq-eqb n 0 (h.0 refl))
+decides_zero false n h = sym (ne_eqb n 0 (λ e. true≢false (sym (h.1 e))))
 
 -- ---- one record more
 
-taken_more : {X : Type 0} (f : X → ℕ) (xs : List X) (i : ℕ) (x : X) → slice_get xs i ≡ Some x
+counts_of_one_more : {X : Type 0} (f : X → ℕ) (xs : List X) (i : ℕ) (x : X) → slice_get xs i ≡ Some x
     → sum_by f (take i xs) + f x ≡ sum_by f (take (suc i) xs)
-taken_more f [] i x e = absurd cc
-taken_more f (y ∷ ys) zero x e =
+counts_of_one_more f [] i x e = absurd cc
+counts_of_one_more f (y ∷ ys) zero x e =
     let same : f y ≡ f x = ap f cc in
     let sum = sum_by-cons f y [] in
     omega (arith, same, sum)
-taken_more f (y ∷ ys) (suc i) x e =
-    let rest = taken_more f ys i x e in
+counts_of_one_more f (y ∷ ys) (suc i) x e =
+    let rest = counts_of_one_more f ys i x e in
     let before = sum_by-cons f y (take i ys) in
     let after = sum_by-cons f y (take (suc i) ys) in
     omega (arith, rest, before, after)
@@ -58,9 +58,9 @@ count_more (y ∷ ys) (suc i) x e = let rest = count_more ys i x e in omega (ari
 pub total_more : {X : Type 0} (f : X → Records) (xs : List X) (i : ℕ) (x : X) → slice_get xs i ≡ Some x
     → records_sum (records_total f (take i xs)) (f x) ≡ records_total f (take (suc i) xs)
 total_more f xs i x e = λ k. record {
-  zones = taken_more (λ y. (f y).zones) xs i x e k;
-  gens = taken_more (λ y. (f y).gens) xs i x e k;
-  mods = taken_more (λ y. (f y).mods) xs i x e k;
+  zones = counts_of_one_more (λ y. (f y).zones) xs i x e k;
+  gens = counts_of_one_more (λ y. (f y).gens) xs i x e k;
+  mods = counts_of_one_more (λ y. (f y).mods) xs i x e k;
 }
 
 -- ---- saturated sums

@@ -6,13 +6,13 @@ use Rattle.generators.specs.declared.level.Level.{Level}
 use Rattle.flat_records.specs.Bags.{Bag, past_bag, gens_in, mods_in, no_modulator}
 use Rattle.flat_records.proofs.Starts.{length-starts}
 use Rattle.bank_owner_bags.specs.Owned.{past_owner, all_bags}
-use Rattle.bank_parts.specs.declared.parts.WithZones.{WithZones}
+use Rattle.bank_parts.specs.declared.parts.ZoneOwner.{ZoneOwner}
 use Rattle.bank_parts.specs.Valid.{owner_total, zone_count, gen_count, mod_count}
 use Rattle.bank_parts.specs.Bagged.{bags_of}
 use Rattle.bank_parts.specs.FlatLists.{lists_of}
 use Rattle.bank_parts.proofs.RecordLaws.{all_zones, all_gens, all_mods}
 
-module _ {H : Type 0} (at : Level) (owners : List (WithZones H)) where
+module _ {H : Type 0} (at : Level) (owners : List (ZoneOwner H)) where
   abbrev bags : List (List Bag)
   bags = map (bags_of (target_operator at)) owners
 

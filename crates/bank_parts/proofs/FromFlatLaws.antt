@@ -21,10 +21,10 @@ use Rattle.bank_owner_bags.specs.Begins as owned
 use Rattle.bank_owner_bags.proofs.Converse.{same_owners}
 use Rattle.bank_parts.specs.declared.parts.GlobalZone.{GlobalZone}
 use Rattle.bank_parts.specs.declared.parts.Zone.{Zone}
-use Rattle.bank_parts.specs.declared.parts.WithZones.{WithZones}
+use Rattle.bank_parts.specs.declared.parts.ZoneOwner.{ZoneOwner}
 use Rattle.bank_parts.specs.Bagged.{zone_bag, global_bag, global_bags, bags_of, ends_in, without_last, last_amount}
 use Rattle.bank_parts.specs.Bagged.{zone_in, no_global, owner_in, IsPlain, IsPlainOwner}
-use Rattle.bank_parts.specs.Flat.{AreOf, AreRead}
+use Rattle.bank_parts.specs.Flat.{RepresentOwners, AreRead}
 use Rattle.bank_parts.specs.FlatLists.{FlatLists, AreFlat}
 use Rattle.bank_parts.specs.OwnBags.{is_plain, is_own_bag, AreAllBags}
 use Rattle.bank_parts.proofs.Everywhere.{none_passes, passes_none}
@@ -85,10 +85,10 @@ map_plain op m p =
 
 -- ---- zones
 
-target_stands : (op : ℕ) (es : List (ℕ × ℕ)) → ends_in op es ≡ true → es ≡ without_last es ++ (op, last_amount es) ∷ []
-target_stands op [] h = cc
-target_stands op (e ∷ []) h = let same = is_op e.0 op h in λ i. (same i, e.1) ∷ []
-target_stands op (e ∷ (f ∷ es)) h = ap (λ xs. e ∷ xs) (target_stands op (f ∷ es) h)
+target_is_last : (op : ℕ) (es : List (ℕ × ℕ)) → ends_in op es ≡ true → es ≡ without_last es ++ (op, last_amount es) ∷ []
+target_is_last op [] h = cc
+target_is_last op (e ∷ []) h = let same = is_op e.0 op h in λ i. (same i, e.1) ∷ []
+target_is_last op (e ∷ (f ∷ es)) h = ap (λ xs. e ∷ xs) (target_is_last op (f ∷ es) h)
 
 record ZoneRead (op : ℕ) (b : Bag) : Type 0 where
   same : zone_bag op (zone_in b) ≡ b
@@ -98,7 +98,7 @@ zone_read : (op : ℕ) (b : Bag) → ends_in op b.gens ≡ true → is_plain op 
     → FitEntries b.gens → ZoneRead op b
 unfolding map_of
 zone_read op b ends plain fit =
-    let stands = target_stands op b.gens ends in
+    let stands = target_is_last op b.gens ends in
     let front =
     all-front FitsEntry (without_last b.gens) ((op, last_amount b.gens) ∷ []) (subst FitEntries stands fit) in
     let m = plain_map op (without_last b.gens) plain front in
@@ -139,7 +139,7 @@ no_plain : (op : ℕ) → IsPlain op no_global.gens
 no_plain op = record { unset = get-empty operator_cmp op; fit = rw entries-no_gens tt }
 
 module _ {H : Type 0} where
-  record ReadAs (op : ℕ) (head : H) (own : List Bag) (x : WithZones H) : Type 0 where
+  record ReadAs (op : ℕ) (head : H) (own : List Bag) (x : ZoneOwner H) : Type 0 where
     same : own ≡ bags_of op x
     named : x.head ≡ head
     plain : IsPlainOwner op x
@@ -149,7 +149,7 @@ module _ {H : Type 0} where
       → ReadAs op head (b ∷ bs) (owner_in op head (b ∷ bs))
   with_target op head b bs e h fit rest =
       let z = zone_read op b e (rw e at h) fit in
-      let x : WithZones H = record { head = head; global = no_global; zones = map zone_in (b ∷ bs) } in
+      let x : ZoneOwner H = record { head = head; global = no_global; zones = map zone_in (b ∷ bs) } in
       let is : owner_in op head (b ∷ bs) ≡ x = rw e refl in
       subst (ReadAs op head (b ∷ bs)) (sym is) (record {
         same = λ i. sym no_bags i ++ (sym z.same i ∷ sym rest.same i);
@@ -164,7 +164,7 @@ module _ {H : Type 0} where
       let two = both_true (not (length b.gens + length b.mods == 0)) (is_plain op b.gens) (rw e at h) in
       let m = plain_map op b.gens two.1 fit in
       let global : GlobalZone = record { gens = map_of b.gens; mods = b.mods } in
-      let x : WithZones H = record { head = head; global = global; zones = map zone_in bs } in
+      let x : ZoneOwner H = record { head = head; global = global; zones = map zone_in bs } in
       let is : owner_in op head (b ∷ bs) ≡ x = rw e refl in
       let size : len global.gens ≡ length b.gens = len-entries global.gens ∙ ap length m.same in
       let some : (len global.gens + length b.mods == 0) ≡ false =
@@ -244,7 +244,7 @@ global_own op g e p =
     rw (plain-ends op g.gens p.unset) two
 
 module _ {H : Type 0} where
-  own_cases : (op : ℕ) (x : WithZones H) (c : Bool) → (len x.global.gens + length x.global.mods == 0) ≡ c
+  own_cases : (op : ℕ) (x : ZoneOwner H) (c : Bool) → (len x.global.gens + length x.global.mods == 0) ≡ c
       → IsPlainOwner op x → (k : ℕ) (b : Bag)
       → slice_get ((if c then [] else (global_bag x.global ∷ [])) ++ map (zone_bag op) x.zones) k ≡ Some b
       → is_own_bag op (k == 0) b ≡ true
@@ -255,7 +255,7 @@ module _ {H : Type 0} where
       (global_own op x.global e p.global))
   own_cases op x false e p (suc k) b there = zones_own op (suc k == 0) x.zones k b p.zones there
 
-  pub owners_own : (op : ℕ) (owners : List (WithZones H)) → AllByRecursion (IsPlainOwner op) owners
+  pub owners_own : (op : ℕ) (owners : List (ZoneOwner H)) → AllByRecursion (IsPlainOwner op) owners
       → AreAllBags op (map (bags_of op) owners)
   owners_own op [] p i k b there = cc
   owners_own op (x ∷ xs) p zero k b there =
@@ -265,7 +265,7 @@ module _ {H : Type 0} where
 -- ---- flat lists
 
 -- the indexes and records of flat lists are those of the bags of their owners
-pub owned_by : {H : Type 0} (at : Level) (hs : List H) (places : List ℕ) (t : Tables) (owners : List (WithZones H))
+pub owned_by : {H : Type 0} (at : Level) (hs : List H) (places : List ℕ) (t : Tables) (owners : List (ZoneOwner H))
     → AreFlat at hs (record { first_bags = places; bags = t.bags; gens = t.gens; mods = t.mods }) owners
     → owned.AreFlat places t (map (bags_of (target_operator at)) owners)
 owned_by at hs places t owners are =
@@ -276,8 +276,8 @@ owned_by at hs places t owners are =
     }
 
 pub flat_by : {H : Type 0} (at : Level) (hs : List H) (places : List ℕ) (t : Tables) (bags : List (List Bag))
-    (owners : List (WithZones H))
-    → owned.AreFlat places t bags → AreOf (target_operator at) hs bags owners
+    (owners : List (ZoneOwner H))
+    → owned.AreFlat places t bags → RepresentOwners (target_operator at) hs bags owners
     → AreFlat at hs (record { first_bags = places; bags = t.bags; gens = t.gens; mods = t.mods }) owners
 flat_by at hs places t bags owners are a =
     let own = subst (owned.AreFlat places t) a.bags are in
@@ -293,7 +293,7 @@ flat_by at hs places t bags owners are a =
 
 -- owners with these flat lists have these bags
 pub bags_by : {H : Type 0} (at : Level) (hs : List H) (places : List ℕ) (t : Tables) (bags : List (List Bag))
-    (owners : List (WithZones H))
+    (owners : List (ZoneOwner H))
     → owned.AreFlat places t bags
     → AreFlat at hs (record { first_bags = places; bags = t.bags; gens = t.gens; mods = t.mods }) owners
     → bags ≡ map (bags_of (target_operator at)) owners

@@ -6,7 +6,7 @@ use Rattle.std.specs.FinMap as map
 use Rattle.std.specs.Option.{IfSome, option_map}
 use Rattle.std.specs.FinMap.{entries}
 use Rattle.generators.specs.Gens.{Gens, FitGens, FitsEntry, AreGens, AreInOrder}
-use Rattle.generators.specs.Places.{IsAt, IsGapFor}
+use Rattle.generators.specs.Indexes.{IsAt, IsInsertionIndex}
 use Rattle.generators.proofs.Order.{tied, untied}
 use Rattle.generators.proofs.MapLaws.{get-insert_any, get-remove_any}
 use Rattle.generators.proofs.EntryLaws.{All-insert, All-remove}
@@ -40,7 +40,7 @@ module _ (m : Gens) (fit : FitGens m) (op j : ℕ) (at : IsAt (entries m) op j) 
 
 -- ---- an operator to be inserted at an index
 
-module _ (m : Gens) (fit : FitGens m) (op j : ℕ) (gap : IsGapFor (entries m) op j) where
+module _ (m : Gens) (fit : FitGens m) (op j : ℕ) (gap : IsInsertionIndex (entries m) op j) where
   pub no_amount : map.get m op ≡ None
   no_amount = get_gap (are_gens m fit) (gens-back m) gap
 
@@ -54,7 +54,7 @@ module _ (m : Gens) (fit : FitGens m) (op j : ℕ) (gap : IsGapFor (entries m) o
       (inserted_is_insert (are_gens m fit) (gens-back m) gap w p q)
 
 -- no operator is set
-pub empty_gap : (es : List (ℕ × ℕ)) (op : ℕ) → es ≡ [] → IsGapFor es op 0
+pub empty_gap : (es : List (ℕ × ℕ)) (op : ℕ) → es ≡ [] → IsInsertionIndex es op 0
 empty_gap es op e =
     let none = ap length e in
     record { within = omega arith; before = λ j less. absurd (omega arith); after = λ j le less. absurd (omega arith) }
@@ -90,8 +90,8 @@ amount_found (Some m) es op j d e fit at =
     ap (λ es. Some (get_or es j d).1) (sym same) ∙ sym was
 
 pub amount_missing : (o : Option Gens) (es : List (ℕ × ℕ)) (op j : ℕ) → option_map entries o ≡ Some es
-    → IfSome o FitGens → IsGapFor es op j → IfSome o (λ (m : Gens). None ≡ map.get m op)
+    → IfSome o FitGens → IsInsertionIndex es op j → IfSome o (λ (m : Gens). None ≡ map.get m op)
 amount_missing None es op j e fit gap = tt
 amount_missing (Some m) es op j e fit gap =
     let same : entries m ≡ es = cc in
-    sym (no_amount m fit op j (subst (λ es. IsGapFor es op j) (sym same) gap))
+    sym (no_amount m fit op j (subst (λ es. IsInsertionIndex es op j) (sym same) gap))

@@ -1,7 +1,7 @@
 pub mod Everywhere
 pub mod ContentLaws
 pub mod Counts
-pub mod Fitting
+pub mod AllTests
 pub mod SettingLaws
 pub mod UndoneLaws
 pub mod ListLaws

@@ -10,12 +10,12 @@ use Rattle.bank_owner_bags.specs.Owned.{all_bags}
 use Rattle.bank_owner_bags.specs.Stored.{Stored}
 use Rattle.bank_parts.specs.declared.counting.Records.{Records}
 use Rattle.bank_parts.specs.declared.parts.Zone.{Zone}
-use Rattle.bank_parts.specs.declared.parts.WithZones.{WithZones}
+use Rattle.bank_parts.specs.declared.parts.ZoneOwner.{ZoneOwner}
 use Rattle.bank_parts.specs.Counts.{all_counted, counted}
 use Rattle.bank_parts.specs.Fits.{FitsZone, FitsOwner}
 use Rattle.bank_parts.specs.Bagged.{bags_of, IsPlain, IsPlainOwner}
 use Rattle.bank_parts.specs.Room.{HasRoom, has_operator}
-use Rattle.bank_parts.specs.Flat.{AreOf}
+use Rattle.bank_parts.specs.Flat.{RepresentOwners}
 use Rattle.bank_parts.proofs.ListLaws.{moved-last}
 use Rattle.bank_parts.proofs.MemberLaws.{member_put}
 
@@ -41,7 +41,7 @@ zones_plain op (z ∷ zs) e fits =
     let own = fits.0 in
     (record { unset = none_of_test (get z.gens op) both.0; fit = own.gens }, zones_plain op zs both.1 fits.1)
 
-pub owner_plain : {H : Type 0} (IsFit : H → Type 0) (op : ℕ) (x : WithZones H) (r : Bool) → r ≡ has_operator op x
+pub owner_plain : {H : Type 0} (IsFit : H → Type 0) (op : ℕ) (x : ZoneOwner H) (r : Bool) → r ≡ has_operator op x
     → r ≡ false → FitsOwner IsFit x → IsPlainOwner op x
 owner_plain IsFit op x r e is fits =
     let both =
@@ -77,11 +77,11 @@ room_counted s r more e h =
 
 -- ---- the last owner moved to its number, after memory was reserved
 
-pub owner_put : {H : Type 0} {op : ℕ} {heads : List H} {bags : List (List Bag)} {owners : List (WithZones H)}
-    (a : AreOf op heads bags owners) (i last : ℕ) (x : WithZones H) (hs : List H) (first bs : List (List Bag))
+pub owner_put : {H : Type 0} {op : ℕ} {heads : List H} {bags : List (List Bag)} {owners : List (ZoneOwner H)}
+    (a : RepresentOwners op heads bags owners) (i last : ℕ) (x : ZoneOwner H) (hs : List H) (first bs : List (List Bag))
     {o : ℕ} {room : List (List Bag)}
     → o ≡ op → IsPlainOwner o x → hs ≡ insert heads i x.head → room ≡ bags → last ≡ length room
-    → first ≡ room ++ bags_of o x ∷ [] → bs ≡ moved first last i → AreOf op hs bs (insert owners i x)
+    → first ≡ room ++ bags_of o x ∷ [] → bs ≡ moved first last i → RepresentOwners op hs bs (insert owners i x)
 owner_put {H} {op} {heads} {bags} {owners} a i last x hs first bs is plain h kept l f e =
     member_put a i x hs bs (subst (λ op. IsPlainOwner op x) is plain) h
     (e

@@ -11,13 +11,13 @@ use Rattle.flat_records.specs.Bags.{Bag}
 use Rattle.bank_owner_bags.specs.Owned.{bag_at}
 use Rattle.bank_parts.specs.declared.parts.GlobalZone.{GlobalZone}
 use Rattle.bank_parts.specs.declared.parts.Zone.{Zone}
-use Rattle.bank_parts.specs.declared.parts.WithZones.{WithZones}
+use Rattle.bank_parts.specs.declared.parts.ZoneOwner.{ZoneOwner}
 use Rattle.bank_parts.specs.declared.owners.ZonePlace.{ZonePlace}
 use Rattle.bank_parts.specs.declared.owners.ZonePlace.TheVariants as place
 use Rattle.bank_parts.specs.Owners.{zone_count_at}
 use Rattle.bank_parts.specs.Bagged.{zone_bag, global_bag, global_bags, bags_of, bag_number, ends_in, IsPlain}
 use Rattle.bank_parts.specs.Bagged.{IsPlainOwner}
-use Rattle.bank_parts.specs.Flat.{AreOf}
+use Rattle.bank_parts.specs.Flat.{RepresentOwners}
 use Rattle.bank_parts.proofs.ReadLaws.{zone-ends, plain-ends}
 use Rattle.bank_parts.proofs.MemberLaws.{bags_at, plain_at}
 
@@ -74,23 +74,23 @@ is_there (Some x) h = (x, refl)
 
 -- ---- one owner
 
-pub record OwnerAt {H : Type 0} (op : ℕ) (bags : List (List Bag)) (owners : List (WithZones H)) (i : ℕ) : Type 0 where
-  pub owner : WithZones H
+pub record OwnerAt {H : Type 0} (op : ℕ) (bags : List (List Bag)) (owners : List (ZoneOwner H)) (i : ℕ) : Type 0 where
+  pub owner : ZoneOwner H
   pub within : i < length owners
   pub there : slice_get owners i ≡ Some owner
   pub own : slice_get bags i ≡ Some (bags_of op owner)
   pub plain : IsPlainOwner op owner
   pub size : length (bags_of op owner) ≡ length (global_bags owner.global) + length owner.zones
 
-own_size : {H : Type 0} (op : ℕ) (x : WithZones H)
+own_size : {H : Type 0} (op : ℕ) (x : ZoneOwner H)
     → length (bags_of op x) ≡ length (global_bags x.global) + length x.zones
 own_size op x =
     length-append (global_bags x.global) (map (zone_bag op) x.zones)
     ∙ ap (λ n. length (global_bags x.global) + n) (length-map x.zones (zone_bag op))
 
-module _ {H : Type 0} {op : ℕ} {heads : List H} {bags : List (List Bag)} {owners : List (WithZones H)}
-    (a : AreOf op heads bags owners) (i : ℕ) where
-  pub owner_found : (x : WithZones H) → slice_get owners i ≡ Some x → OwnerAt op bags owners i
+module _ {H : Type 0} {op : ℕ} {heads : List H} {bags : List (List Bag)} {owners : List (ZoneOwner H)}
+    (a : RepresentOwners op heads bags owners) (i : ℕ) where
+  pub owner_found : (x : ZoneOwner H) → slice_get owners i ≡ Some x → OwnerAt op bags owners i
   owner_found x there = record {
     owner = x;
     within = slice_get-within owners i x there;
@@ -103,16 +103,16 @@ module _ {H : Type 0} {op : ℕ} {heads : List H} {bags : List (List Bag)} {owne
   pub owner_there : i < length owners → OwnerAt op bags owners i
   owner_there within = let (x, there) = slice_get-found owners i within in owner_found x there
 
-module _ {H : Type 0} {op : ℕ} {bags : List (List Bag)} {owners : List (WithZones H)} {i : ℕ}
+module _ {H : Type 0} {op : ℕ} {bags : List (List Bag)} {owners : List (ZoneOwner H)} {i : ℕ}
     (o : OwnerAt op bags owners i) where
   -- the number of its bags, as the code reads it
   pub bags_counted : (n : ℕ) → IfSome (slice_get bags i) (λ (own : List Bag). n ≡ length own)
       → n ≡ length (global_bags o.owner.global) + length o.owner.zones
   bags_counted n h = of_some (λ (own : List Bag). n ≡ length own) o.own h ∙ o.size
 
-  pub global_counted : (n : ℕ) → IfSome (slice_get owners i) (λ (x : WithZones H). n ≡ length (global_bags x.global))
+  pub global_counted : (n : ℕ) → IfSome (slice_get owners i) (λ (x : ZoneOwner H). n ≡ length (global_bags x.global))
       → n ≡ length (global_bags o.owner.global)
-  global_counted n h = of_some (λ (x : WithZones H). n ≡ length (global_bags x.global)) o.there h
+  global_counted n h = of_some (λ (x : ZoneOwner H). n ≡ length (global_bags x.global)) o.there h
 
   pub bag_there : (k : ℕ) → k < length (global_bags o.owner.global) + length o.owner.zones
       → (b : Bag) × (slice_get (bags_of op o.owner) k ≡ Some b) × (bag_at bags i k ≡ Some b)
@@ -122,10 +122,10 @@ module _ {H : Type 0} {op : ℕ} {bags : List (List Bag)} {owners : List (WithZo
       (b, found, ap (option_and_then (λ (own : List Bag). slice_get own k)) o.own ∙ found)
 
   pub no_bags : (n : ℕ) → IfSome (slice_get bags i) (λ (own : List Bag). n ≡ length own) → n ≡ 0
-      → IfSome (slice_get owners i) (λ (x : WithZones H). 0 ≡ length (global_bags x.global))
+      → IfSome (slice_get owners i) (λ (x : ZoneOwner H). 0 ≡ length (global_bags x.global))
   no_bags n h e =
       let all = bags_counted n h in
-      to_some (λ (x : WithZones H). 0 ≡ length (global_bags x.global)) o.there (omega arith)
+      to_some (λ (x : ZoneOwner H). 0 ≡ length (global_bags x.global)) o.there (omega arith)
 
   pub bag_is_there : (n k : ℕ) → IfSome (slice_get bags i) (λ (own : List Bag). n ≡ length own) → k < n
       → IsSome (bag_at bags i k)
@@ -134,7 +134,7 @@ module _ {H : Type 0} {op : ℕ} {bags : List (List Bag)} {owners : List (WithZo
 
   pub first_bag : (gens : List (ℕ × ℕ)) (c : Bool) (n : ℕ) → IsSome (bag_at bags i 0)
       → IfSome (bag_at bags i 0) (λ (b : Bag). gens ≡ b.gens) → c ≡ ends_in op gens → n ≡ (if c then 0 else 1)
-      → IfSome (slice_get owners i) (λ (x : WithZones H). n ≡ length (global_bags x.global))
+      → IfSome (slice_get owners i) (λ (x : ZoneOwner H). n ≡ length (global_bags x.global))
   first_bag gens c n some first e count =
       let (b, found) =
       is_there (slice_get (bags_of op o.owner) 0)
@@ -142,22 +142,22 @@ module _ {H : Type 0} {op : ℕ} {bags : List (List Bag)} {owners : List (WithZo
       let at : bag_at bags i 0 ≡ Some b = ap (option_and_then (λ (own : List Bag). slice_get own 0)) o.own ∙ found in
       let same : gens ≡ b.gens = of_some (λ (b : Bag). gens ≡ b.gens) at first in
       let global = o.plain.global in
-      to_some (λ (x : WithZones H). n ≡ length (global_bags x.global)) o.there
+      to_some (λ (x : ZoneOwner H). n ≡ length (global_bags x.global)) o.there
       (count ∙ (ap (λ c. if c then 0 else 1) (e ∙ ap (ends_in op) same)
       ∙ sym (first_own op o.owner.global o.owner.zones (len o.owner.global.gens + length o.owner.global.mods == 0) b
       global found)))
 
   pub zones_counted : (n m : ℕ) → IfSome (slice_get bags i) (λ (own : List Bag). n ≡ length own)
-      → IfSome (slice_get owners i) (λ (x : WithZones H). m ≡ length (global_bags x.global))
+      → IfSome (slice_get owners i) (λ (x : ZoneOwner H). m ≡ length (global_bags x.global))
       → zone_count_at owners i ≡ Some (n - m)
   zones_counted n m h g =
       let all = bags_counted n h in
       let first = global_counted m g in
       let count : length o.owner.zones ≡ n - m = omega arith in
-      ap (option_map (λ (x : WithZones H). length x.zones)) o.there ∙ ap Some count
+      ap (option_map (λ (x : ZoneOwner H). length x.zones)) o.there ∙ ap Some count
 
   pub zones_fewer : (n m : ℕ) → IfSome (slice_get bags i) (λ (own : List Bag). n ≡ length own)
-      → IfSome (slice_get owners i) (λ (x : WithZones H). m ≡ length (global_bags x.global)) → m ≤ n
+      → IfSome (slice_get owners i) (λ (x : ZoneOwner H). m ≡ length (global_bags x.global)) → m ≤ n
   zones_fewer n m h g = let all = bags_counted n h in let first = global_counted m g in omega arith
 
 -- ---- the index of the bag of a place
@@ -166,28 +166,28 @@ some_weaker : {X : Type 0} (P Q : X → Type 0) → ((x : X) → P x → Q x) �
 some_weaker P Q f None h = h
 some_weaker P Q f (Some x) h = f x h
 
-module _ {H : Type 0} (o : Option (WithZones H)) (n : ℕ) (at : ZonePlace) where
-  pub no_global_numbered : at ≡ place.Global → IfSome o (λ (x : WithZones H). n ≡ length (global_bags x.global))
-      → n ≡ 0 → IfSome o (λ (x : WithZones H). None ≡ bag_number at x)
+module _ {H : Type 0} (o : Option (ZoneOwner H)) (n : ℕ) (at : ZonePlace) where
+  pub no_global_numbered : at ≡ place.Global → IfSome o (λ (x : ZoneOwner H). n ≡ length (global_bags x.global))
+      → n ≡ 0 → IfSome o (λ (x : ZoneOwner H). None ≡ bag_number at x)
   no_global_numbered is h e =
-      subst (λ at. IfSome o (λ (x : WithZones H). None ≡ bag_number at x)) (sym is)
-      (some_weaker (λ (x : WithZones H). n ≡ length (global_bags x.global))
-      (λ (x : WithZones H). None ≡ bag_number place.Global x)
+      subst (λ at. IfSome o (λ (x : ZoneOwner H). None ≡ bag_number at x)) (sym is)
+      (some_weaker (λ (x : ZoneOwner H). n ≡ length (global_bags x.global))
+      (λ (x : ZoneOwner H). None ≡ bag_number place.Global x)
       (λ x count. none_numbered (len x.global.gens + length x.global.mods == 0) x.global (sym e ∙ count)) o h)
 
-  pub global_numbered : at ≡ place.Global → IfSome o (λ (x : WithZones H). n ≡ length (global_bags x.global)) → 0 < n
-      → IfSome o (λ (x : WithZones H). Some 0 ≡ bag_number at x)
+  pub global_numbered : at ≡ place.Global → IfSome o (λ (x : ZoneOwner H). n ≡ length (global_bags x.global)) → 0 < n
+      → IfSome o (λ (x : ZoneOwner H). Some 0 ≡ bag_number at x)
   global_numbered is h e =
-      subst (λ at. IfSome o (λ (x : WithZones H). Some 0 ≡ bag_number at x)) (sym is)
-      (some_weaker (λ (x : WithZones H). n ≡ length (global_bags x.global))
-      (λ (x : WithZones H). Some 0 ≡ bag_number place.Global x)
+      subst (λ at. IfSome o (λ (x : ZoneOwner H). Some 0 ≡ bag_number at x)) (sym is)
+      (some_weaker (λ (x : ZoneOwner H). n ≡ length (global_bags x.global))
+      (λ (x : ZoneOwner H). Some 0 ≡ bag_number place.Global x)
       (λ x count. one_numbered (len x.global.gens + length x.global.mods == 0) x.global
       (subst (λ n. 0 < n) count e)) o h)
 
   pub zone_numbered : (k : ℕ) → at ≡ place.Zone k
-      → IfSome o (λ (x : WithZones H). n ≡ length (global_bags x.global) + k)
-      → IfSome o (λ (x : WithZones H). Some n ≡ bag_number at x)
+      → IfSome o (λ (x : ZoneOwner H). n ≡ length (global_bags x.global) + k)
+      → IfSome o (λ (x : ZoneOwner H). Some n ≡ bag_number at x)
   zone_numbered k is h =
-      subst (λ at. IfSome o (λ (x : WithZones H). Some n ≡ bag_number at x)) (sym is)
-      (some_weaker (λ (x : WithZones H). n ≡ length (global_bags x.global) + k)
-      (λ (x : WithZones H). Some n ≡ bag_number (place.Zone k) x) (λ x at. ap Some at) o h)
+      subst (λ at. IfSome o (λ (x : ZoneOwner H). Some n ≡ bag_number at x)) (sym is)
+      (some_weaker (λ (x : ZoneOwner H). n ≡ length (global_bags x.global) + k)
+      (λ (x : ZoneOwner H). Some n ≡ bag_number (place.Zone k) x) (λ x at. ap Some at) o h)

@@ -11,10 +11,10 @@ use Rattle.generators.proofs.EntryLaws.{entries_are_set}
 use Rattle.flat_records.specs.Bags.{Bag}
 use Rattle.bank_parts.specs.declared.parts.GlobalZone.{GlobalZone}
 use Rattle.bank_parts.specs.declared.parts.Zone.{Zone}
-use Rattle.bank_parts.specs.declared.parts.WithZones.{WithZones}
+use Rattle.bank_parts.specs.declared.parts.ZoneOwner.{ZoneOwner}
 use Rattle.bank_parts.specs.Bagged.{zone_bag, global_bag, bags_of, ends_in, without_last, last_amount, zone_in}
 use Rattle.bank_parts.specs.Bagged.{no_global, owner_in, IsPlain, IsPlainOwner}
-use Rattle.bank_parts.specs.Flat.{owners_in, AreOf, AreRead}
+use Rattle.bank_parts.specs.Flat.{owners_in, RepresentOwners, AreRead}
 
 -- ---- zones
 
@@ -60,15 +60,15 @@ pub zone-ends : (op : ℕ) (z : Zone) → ends_in op (entries z.gens ++ (op, z.t
 zone-ends op z = ends-last op (entries z.gens) z.target ∙ same-op op
 
 -- if the last entry has the operator, some entry has it
-last_stands : (op : ℕ) (es : List (ℕ × ℕ)) → ends_in op es ≡ true → (j : ℕ) × (w : ℕ) × (slice_get es j ≡ Some (op, w))
-last_stands op [] h = cc
-last_stands op (e ∷ []) h = let same = is-op e.0 op h in (0, e.1, λ i. Some (same i, e.1))
-last_stands op (e ∷ (f ∷ es)) h = let s = last_stands op (f ∷ es) h in (suc s.0, s.1, s.2)
+last_is_entry : (op : ℕ) (es : List (ℕ × ℕ)) → ends_in op es ≡ true → (j : ℕ) × (w : ℕ) × (slice_get es j ≡ Some (op, w))
+last_is_entry op [] h = cc
+last_is_entry op (e ∷ []) h = let same = is-op e.0 op h in (0, e.1, λ i. Some (same i, e.1))
+last_is_entry op (e ∷ (f ∷ es)) h = let s = last_is_entry op (f ∷ es) h in (suc s.0, s.1, s.2)
 
 pub plain-ends : (op : ℕ) (gens : Gens) → get gens op ≡ None → ends_in op (entries gens) ≡ false
 plain-ends op gens unset = elim (ends_in op (entries gens)) as (λ b. ends_in op (entries gens) ≡ b → b ≡ false) [
   | true ↦ λ h. let s =
-      last_stands op (entries gens) h in let there = entries_are_set gens s.0 op s.1 s.2 in cc (there, unset)
+      last_is_entry op (entries gens) h in let there = entries_are_set gens s.0 op s.1 s.2 in cc (there, unset)
   | false ↦ λ h. refl
 ] refl
 
@@ -118,7 +118,7 @@ module _ {H : Type 0} where
   own-zones op head (z ∷ zs) =
       rw (zone-ends op z) (λ i. record { head = head; global = no_global; zones = zones-back op (z ∷ zs) i })
 
-  global-cases : (op : ℕ) (x : WithZones H) (b : Bool) → (len x.global.gens + length x.global.mods == 0) ≡ b
+  global-cases : (op : ℕ) (x : ZoneOwner H) (b : Bool) → (len x.global.gens + length x.global.mods == 0) ≡ b
       → IsPlain op x.global.gens
       → owner_in op x.head ((if b then [] else (global_bag x.global ∷ [])) ++ map (zone_bag op) x.zones) ≡ x
   global-cases op x true e p =
@@ -139,22 +139,22 @@ module _ {H : Type 0} where
             zones-back op x.zones i;
       })
 
-  pub owner-back : (op : ℕ) (x : WithZones H) → IsPlainOwner op x → owner_in op x.head (bags_of op x) ≡ x
+  pub owner-back : (op : ℕ) (x : ZoneOwner H) → IsPlainOwner op x → owner_in op x.head (bags_of op x) ≡ x
   owner-back op x p = global-cases op x (len x.global.gens + length x.global.mods == 0) refl p.global
 
-  owners-back : (op : ℕ) (owners : List (WithZones H)) → AllByRecursion (IsPlainOwner op) owners
-      → owners_in op (map (λ (x : WithZones H). x.head) owners) (map (bags_of op) owners) ≡ owners
+  owners-back : (op : ℕ) (owners : List (ZoneOwner H)) → AllByRecursion (IsPlainOwner op) owners
+      → owners_in op (map (λ (x : ZoneOwner H). x.head) owners) (map (bags_of op) owners) ≡ owners
   owners-back op [] p = refl
   owners-back op (x ∷ xs) p = λ i. owner-back op x p.0 i ∷ owners-back op xs p.1 i
 
-  pub read : {op : ℕ} {heads : List H} {bags : List (List Bag)} {owners : List (WithZones H)}
-      → AreOf op heads bags owners → owners_in op heads bags ≡ owners
+  pub read : {op : ℕ} {heads : List H} {bags : List (List Bag)} {owners : List (ZoneOwner H)}
+      → RepresentOwners op heads bags owners → owners_in op heads bags ≡ owners
   read {op} {heads} {bags} {owners} a = (λ i. owners_in op (a.heads i) (a.bags i)) ∙ owners-back op owners a.plain
 
-  pub are_read : {op : ℕ} {heads : List H} {bags : List (List Bag)} {owners : List (WithZones H)}
-      → AreOf op heads bags owners → AreRead op heads bags
-  are_read {op} {heads} {bags} {owners} a = subst (AreOf op heads bags) (sym (read a)) a
+  pub are_read : {op : ℕ} {heads : List H} {bags : List (List Bag)} {owners : List (ZoneOwner H)}
+      → RepresentOwners op heads bags owners → AreRead op heads bags
+  are_read {op} {heads} {bags} {owners} a = subst (RepresentOwners op heads bags) (sym (read a)) a
 
-  pub held : {op : ℕ} {heads : List H} {bags : List (List Bag)} {owners : List (WithZones H)}
-      → AreOf op heads bags (owners_in op heads bags) → owners_in op heads bags ≡ owners → AreOf op heads bags owners
-  held {op} {heads} {bags} {owners} a e = subst (AreOf op heads bags) e a
+  pub held : {op : ℕ} {heads : List H} {bags : List (List Bag)} {owners : List (ZoneOwner H)}
+      → RepresentOwners op heads bags (owners_in op heads bags) → owners_in op heads bags ≡ owners → RepresentOwners op heads bags owners
+  held {op} {heads} {bags} {owners} a e = subst (RepresentOwners op heads bags) e a

@@ -18,13 +18,13 @@ use Rattle.flat_records.specs.Bags.{Bag, gens_in, mods_in}
 use Rattle.bank_owner_bags.specs.Owned.{all_bags}
 use Rattle.bank_parts.specs.declared.parts.GlobalZone.{GlobalZone}
 use Rattle.bank_parts.specs.declared.parts.Zone.{Zone}
-use Rattle.bank_parts.specs.declared.parts.WithZones.{WithZones}
+use Rattle.bank_parts.specs.declared.parts.ZoneOwner.{ZoneOwner}
 use Rattle.bank_parts.specs.Owners.{targets}
 use Rattle.bank_parts.specs.Valid.{global_count, zone_count, gen_count, mod_count}
 use Rattle.bank_parts.specs.Counts.{counted}
 use Rattle.bank_parts.specs.Bagged.{zone_bag, global_bag, global_bags, bags_of, IsPlain, IsPlainOwner}
 use Rattle.bank_parts.specs.Records.{is_target}
-use Rattle.bank_parts.specs.Flat.{AreOf}
+use Rattle.bank_parts.specs.Flat.{RepresentOwners}
 
 -- ---- tests
 
@@ -112,23 +112,23 @@ global_gens g = global_gens_by g (len g.gens + length g.mods == 0) refl
 global_mods : (g : GlobalZone) → mods_in (global_bags g) ≡ g.mods
 global_mods g = global_mods_by g (len g.gens + length g.mods == 0) refl
 
-pub owner_gens : {H : Type 0} (op : ℕ) (x : WithZones H)
+pub owner_gens : {H : Type 0} (op : ℕ) (x : ZoneOwner H)
     → gens_in (bags_of op x) ≡ entries x.global.gens ++ gens_in (map (zone_bag op) x.zones)
 owner_gens op x =
     split_bags (λ (b : Bag). b.gens) (global_bags x.global) (map (zone_bag op) x.zones)
     ∙ ap (λ es. es ++ gens_in (map (zone_bag op) x.zones)) (global_gens x.global)
 
-pub owner_mods : {H : Type 0} (op : ℕ) (x : WithZones H)
+pub owner_mods : {H : Type 0} (op : ℕ) (x : ZoneOwner H)
     → mods_in (bags_of op x) ≡ x.global.mods ++ mods_in (map (zone_bag op) x.zones)
 owner_mods op x =
     split_bags (λ (b : Bag). b.mods) (global_bags x.global) (map (zone_bag op) x.zones)
     ∙ ap (λ es. es ++ mods_in (map (zone_bag op) x.zones)) (global_mods x.global)
 
-pub gens_before : {H : Type 0} (op : ℕ) (x : WithZones H) (rest : List Bag)
+pub gens_before : {H : Type 0} (op : ℕ) (x : ZoneOwner H) (rest : List Bag)
     → gens_in (bags_of op x ++ rest) ≡ gens_in (bags_of op x) ++ gens_in rest
 gens_before op x rest = split_bags (λ (b : Bag). b.gens) (bags_of op x) rest
 
-pub mods_before : {H : Type 0} (op : ℕ) (x : WithZones H) (rest : List Bag)
+pub mods_before : {H : Type 0} (op : ℕ) (x : ZoneOwner H) (rest : List Bag)
     → mods_in (bags_of op x ++ rest) ≡ mods_in (bags_of op x) ++ mods_in rest
 mods_before op x rest = split_bags (λ (b : Bag). b.mods) (bags_of op x) rest
 
@@ -174,7 +174,7 @@ module _ (op number : ℕ) where
       any-append (is_target op number) (entries z.gens ++ (op, z.target) ∷ []) (gens_in (map (zone_bag op) zs))
       ∙ (λ i. zone_targets z h.0 i || zones_target zs h.1 i)
 
-  owner_targets : {H : Type 0} (x : WithZones H) → IsPlainOwner op x
+  owner_targets : {H : Type 0} (x : ZoneOwner H) → IsPlainOwner op x
       → list_any (is_target op number) (gens_in (bags_of op x)) ≡ targets number x
   owner_targets x plain =
       ap (list_any (is_target op number)) (owner_gens op x)
@@ -182,7 +182,7 @@ module _ (op number : ℕ) where
       ∙ (λ i. none_targets (entries x.global.gens) (others op x.global.gens plain.global) i
       || zones_target x.zones plain.zones i))
 
-  owners_target : {H : Type 0} (owners : List (WithZones H)) → AllByRecursion (IsPlainOwner op) owners
+  owners_target : {H : Type 0} (owners : List (ZoneOwner H)) → AllByRecursion (IsPlainOwner op) owners
       → list_any (is_target op number) (gens_in (all_bags (map (bags_of op) owners))) ≡ list_any (targets number) owners
   owners_target [] h = refl
   owners_target (x ∷ xs) h =
@@ -196,8 +196,8 @@ no_target_zero level.Inst = refl
 
 -- the terminal is no target
 pub any_target : {H : Type 0} (at : Level) (number : ℕ) {heads : List H} {bags : List (List Bag)}
-    {owners : List (WithZones H)}
-    → AreOf (target_operator at) heads bags owners
+    {owners : List (ZoneOwner H)}
+    → RepresentOwners (target_operator at) heads bags owners
     → list_any (is_target (target_operator at) number) (gens_in (all_bags bags) ++ (0, 0) ∷ [])
     ≡ list_any (targets number) owners
 any_target {H} at number {heads} {bags} {owners} a =
@@ -218,7 +218,7 @@ by_cases false g = refl
 counted_global : (g : GlobalZone) → length (global_bags g) ≡ global_count g
 counted_global g = by_cases (len g.gens + length g.mods == 0) g
 
-owner_zones : {H : Type 0} (op : ℕ) (x : WithZones H) → length (bags_of op x) ≡ zone_count x.global x.zones
+owner_zones : {H : Type 0} (op : ℕ) (x : ZoneOwner H) → length (bags_of op x) ≡ zone_count x.global x.zones
 owner_zones op x =
     let parts = length-append (global_bags x.global) (map (zone_bag op) x.zones) in
     let zones = length-map x.zones (zone_bag op) in
@@ -245,7 +245,7 @@ zones_mods op (z ∷ zs) =
     let sum = sum_by-cons (λ (z : Zone). length z.mods) z zs in
     omega arith
 
-owner_gen_count : {H : Type 0} (op : ℕ) (x : WithZones H) → length (gens_in (bags_of op x)) ≡ gen_count x.global x.zones
+owner_gen_count : {H : Type 0} (op : ℕ) (x : ZoneOwner H) → length (gens_in (bags_of op x)) ≡ gen_count x.global x.zones
 owner_gen_count op x =
     let all = ap length (owner_gens op x) in
     let parts = length-append (entries x.global.gens) (gens_in (map (zone_bag op) x.zones)) in
@@ -253,7 +253,7 @@ owner_gen_count op x =
     let zones = zones_gens op x.zones in
     omega arith
 
-owner_mod_count : {H : Type 0} (op : ℕ) (x : WithZones H) → length (mods_in (bags_of op x)) ≡ mod_count x.global x.zones
+owner_mod_count : {H : Type 0} (op : ℕ) (x : ZoneOwner H) → length (mods_in (bags_of op x)) ≡ mod_count x.global x.zones
 owner_mod_count op x =
     let all = ap length (owner_mods op x) in
     let parts = length-append x.global.mods (mods_in (map (zone_bag op) x.zones)) in
@@ -261,10 +261,10 @@ owner_mod_count op x =
     omega arith
 
 -- a total over all bags is the sum of the totals of each owner's bags
-all_of : {H : Type 0} (op : ℕ) (size : List Bag → ℕ) (count : WithZones H → ℕ) → size [] ≡ 0
+all_of : {H : Type 0} (op : ℕ) (size : List Bag → ℕ) (count : ZoneOwner H → ℕ) → size [] ≡ 0
     → ((bs cs : List Bag) → size (bs ++ cs) ≡ size bs + size cs)
-    → ((x : WithZones H) → size (bags_of op x) ≡ count x)
-    → (owners : List (WithZones H)) → size (all_bags (map (bags_of op) owners)) ≡ sum_by count owners
+    → ((x : ZoneOwner H) → size (bags_of op x) ≡ count x)
+    → (owners : List (ZoneOwner H)) → size (all_bags (map (bags_of op) owners)) ≡ sum_by count owners
 all_of op size count none both each [] = none
 all_of op size count none both each (x ∷ xs) =
     let parts = both (bags_of op x) (all_bags (map (bags_of op) xs)) in
@@ -274,36 +274,36 @@ all_of op size count none both each (x ∷ xs) =
     omega arith
 
 module _ {H : Type 0} (op : ℕ) where
-  pub all_zones : (owners : List (WithZones H))
+  pub all_zones : (owners : List (ZoneOwner H))
       → length (all_bags (map (bags_of op) owners))
-      ≡ sum_by (λ (x : WithZones H). zone_count x.global x.zones) owners
+      ≡ sum_by (λ (x : ZoneOwner H). zone_count x.global x.zones) owners
   all_zones =
-      all_of op (λ bs. length bs) (λ (x : WithZones H). zone_count x.global x.zones) refl length-append
+      all_of op (λ bs. length bs) (λ (x : ZoneOwner H). zone_count x.global x.zones) refl length-append
       (owner_zones op)
 
-  pub all_gens : (owners : List (WithZones H))
+  pub all_gens : (owners : List (ZoneOwner H))
       → length (gens_in (all_bags (map (bags_of op) owners)))
-      ≡ sum_by (λ (x : WithZones H). gen_count x.global x.zones) owners
+      ≡ sum_by (λ (x : ZoneOwner H). gen_count x.global x.zones) owners
   all_gens =
-      all_of op (λ bs. length (gens_in bs)) (λ (x : WithZones H). gen_count x.global x.zones) refl
+      all_of op (λ bs. length (gens_in bs)) (λ (x : ZoneOwner H). gen_count x.global x.zones) refl
       (records_of_both (λ (b : Bag). b.gens)) (owner_gen_count op)
 
-  pub all_mods : (owners : List (WithZones H))
+  pub all_mods : (owners : List (ZoneOwner H))
       → length (mods_in (all_bags (map (bags_of op) owners)))
-      ≡ sum_by (λ (x : WithZones H). mod_count x.global x.zones) owners
+      ≡ sum_by (λ (x : ZoneOwner H). mod_count x.global x.zones) owners
   all_mods =
-      all_of op (λ bs. length (mods_in bs)) (λ (x : WithZones H). mod_count x.global x.zones) refl
+      all_of op (λ bs. length (mods_in bs)) (λ (x : ZoneOwner H). mod_count x.global x.zones) refl
       (records_of_both (λ (b : Bag). b.mods)) (owner_mod_count op)
 
-module _ {H : Type 0} {op : ℕ} {heads : List H} {bags : List (List Bag)} {owners : List (WithZones H)}
-    (a : AreOf op heads bags owners) where
-  pub zones_in_all : length (all_bags bags) ≡ sum_by (λ (x : WithZones H). zone_count x.global x.zones) owners
+module _ {H : Type 0} {op : ℕ} {heads : List H} {bags : List (List Bag)} {owners : List (ZoneOwner H)}
+    (a : RepresentOwners op heads bags owners) where
+  pub zones_in_all : length (all_bags bags) ≡ sum_by (λ (x : ZoneOwner H). zone_count x.global x.zones) owners
   zones_in_all = ap (λ bs. length (all_bags bs)) a.bags ∙ all_zones op owners
 
-  pub gens_in_all : length (gens_in (all_bags bags)) ≡ sum_by (λ (x : WithZones H). gen_count x.global x.zones) owners
+  pub gens_in_all : length (gens_in (all_bags bags)) ≡ sum_by (λ (x : ZoneOwner H). gen_count x.global x.zones) owners
   gens_in_all = ap (λ bs. length (gens_in (all_bags bs))) a.bags ∙ all_gens op owners
 
-  pub mods_in_all : length (mods_in (all_bags bags)) ≡ sum_by (λ (x : WithZones H). mod_count x.global x.zones) owners
+  pub mods_in_all : length (mods_in (all_bags bags)) ≡ sum_by (λ (x : ZoneOwner H). mod_count x.global x.zones) owners
   mods_in_all = ap (λ bs. length (mods_in (all_bags bs))) a.bags ∙ all_mods op owners
 
 -- saturated at 64 bits

@@ -13,9 +13,9 @@ use Rattle.flat_records.specs.Renumbered.{gen_renumbered, bag_renumbered, CanRen
 use Rattle.bank_owner_bags.specs.Owned.{all_bags}
 use Rattle.bank_parts.specs.declared.parts.GlobalZone.{GlobalZone}
 use Rattle.bank_parts.specs.declared.parts.Zone.{Zone}
-use Rattle.bank_parts.specs.declared.parts.WithZones.{WithZones}
+use Rattle.bank_parts.specs.declared.parts.ZoneOwner.{ZoneOwner}
 use Rattle.bank_parts.specs.Bagged.{zone_bag, global_bag, global_bags, bags_of, IsPlain, IsPlainOwner}
-use Rattle.bank_parts.specs.Flat.{AreOf}
+use Rattle.bank_parts.specs.Flat.{RepresentOwners}
 use Rattle.bank_parts.specs.Renumbered.{zone_renumbered, owner_renumbered, CanRenumberOwner}
 use Rattle.bank_parts.proofs.RecordLaws.{same_op, others, owner_gens, gens_before}
 
@@ -57,7 +57,7 @@ module _ (op : ℕ) (by : Renumbering) where
       λ i. record { gens = gens i; mods = g.mods } ∷ []
 
   module _ {H : Type 0} where
-    owner_follows : (x : WithZones H) → IsPlainOwner op x
+    owner_follows : (x : ZoneOwner H) → IsPlainOwner op x
         → map (bag_renumbered op by) (bags_of op x) ≡ bags_of op (owner_renumbered by x)
     owner_follows x p =
         map-append (bag_renumbered op by) (global_bags x.global) (map (zone_bag op) x.zones)
@@ -66,15 +66,15 @@ module _ (op : ℕ) (by : Renumbering) where
         global_stays (len x.global.gens + length x.global.mods == 0) x.global p.global i
         ++ zones_follow x.zones p.zones i)
 
-    owners_follow : (owners : List (WithZones H)) → AllByRecursion (IsPlainOwner op) owners
+    owners_follow : (owners : List (ZoneOwner H)) → AllByRecursion (IsPlainOwner op) owners
         → map (λ bags. map (bag_renumbered op by) bags) (map (bags_of op) owners)
         ≡ map (bags_of op) (map (owner_renumbered by) owners)
     owners_follow [] p = refl
     owners_follow (x ∷ xs) p = λ i. owner_follows x p.0 i ∷ owners_follow xs p.1 i
 
-    heads_stay : (owners : List (WithZones H))
-        → map (λ (x : WithZones H). x.head) owners
-        ≡ map (λ (x : WithZones H). x.head) (map (owner_renumbered by) owners)
+    heads_stay : (owners : List (ZoneOwner H))
+        → map (λ (x : ZoneOwner H). x.head) owners
+        ≡ map (λ (x : ZoneOwner H). x.head) (map (owner_renumbered by) owners)
     heads_stay [] = refl
     heads_stay (x ∷ xs) = ap (λ hs. x.head ∷ hs) (heads_stay xs)
 
@@ -83,16 +83,16 @@ module _ (op : ℕ) (by : Renumbering) where
   zones_plain [] p = tt
   zones_plain (z ∷ zs) p = (p.0, zones_plain zs p.1)
 
-  owners_plain : {H : Type 0} (owners : List (WithZones H)) → AllByRecursion (IsPlainOwner op) owners
+  owners_plain : {H : Type 0} (owners : List (ZoneOwner H)) → AllByRecursion (IsPlainOwner op) owners
       → AllByRecursion (IsPlainOwner op) (map (owner_renumbered by) owners)
   owners_plain [] p = tt
   owners_plain (x ∷ xs) p =
       let own = p.0 in (record { global = own.global; zones = zones_plain x.zones own.zones }, owners_plain xs p.1)
 
-  pub all_follow : {H : Type 0} {heads : List H} {bags : List (List Bag)} {owners : List (WithZones H)}
-      → AreOf op heads bags owners
+  pub all_follow : {H : Type 0} {heads : List H} {bags : List (List Bag)} {owners : List (ZoneOwner H)}
+      → RepresentOwners op heads bags owners
       → (new : List (List Bag)) → new ≡ map (λ bags. map (bag_renumbered op by) bags) bags
-      → AreOf op heads new (map (owner_renumbered by) owners)
+      → RepresentOwners op heads new (map (owner_renumbered by) owners)
   all_follow {owners = owners} a new e = record {
     heads = a.heads ∙ heads_stay owners;
     bags = e ∙ (ap (map (λ bags. map (bag_renumbered op by) bags)) a.bags ∙ owners_follow owners a.plain);
@@ -117,7 +117,7 @@ module _ (op : ℕ) (by : Renumbering) where
       all_join (CanRenumber op by) (entries z.gens ++ (op, z.target) ∷ []) (gens_in (map (zone_bag op) zs)) own
       (zones_can zs p.1 can.1)
 
-  owners_can : {H : Type 0} (owners : List (WithZones H)) → AllByRecursion (IsPlainOwner op) owners
+  owners_can : {H : Type 0} (owners : List (ZoneOwner H)) → AllByRecursion (IsPlainOwner op) owners
       → AllByRecursion (CanRenumberOwner by) owners
       → AllByRecursion (CanRenumber op by) (gens_in (all_bags (map (bags_of op) owners)))
   owners_can [] p can = tt
@@ -133,8 +133,8 @@ module _ (op : ℕ) (by : Renumbering) where
       (all_join (CanRenumber op by) (gens_in (bags_of op x)) (gens_in (all_bags (map (bags_of op) xs)))
       (subst (AllByRecursion (CanRenumber op by)) (sym (owner_gens op x)) all) (owners_can xs p.1 can.1))
 
-  pub can_follow : {H : Type 0} {heads : List H} {bags : List (List Bag)} {owners : List (WithZones H)}
-      → AreOf op heads bags owners
+  pub can_follow : {H : Type 0} {heads : List H} {bags : List (List Bag)} {owners : List (ZoneOwner H)}
+      → RepresentOwners op heads bags owners
       → All (CanRenumberOwner by) owners → All (CanRenumber op by) (gens_in (all_bags bags))
   can_follow {owners = owners} a can =
       subst (λ bags. All (CanRenumber op by) (gens_in (all_bags bags))) (sym a.bags)

@@ -8,7 +8,7 @@ use Rattle.base_numbered_lists.proofs.Lists.{changed-found, changed-back, slice_
 use Rattle.bank_parts.specs.declared.owners.ZonePlace.{ZonePlace}
 use Rattle.bank_parts.specs.declared.owners.ZonePlace.TheVariants as place
 use Rattle.bank_parts.specs.declared.parts.Zone.{Zone}
-use Rattle.bank_parts.specs.declared.parts.WithZones.{WithZones}
+use Rattle.bank_parts.specs.declared.parts.ZoneOwner.{ZoneOwner}
 use Rattle.bank_parts.specs.Owners.{gens_at, mods_at}
 use Rattle.bank_parts.specs.Settings.{Settings, settings_of_zone, zone_with_settings, settings_in, settings_changed}
 use Rattle.bank_parts.specs.Settings.{settings_at, with_zones}
@@ -99,7 +99,7 @@ changed_unseen see xs i j f same =
 
 -- ---- the settings of a place of an owner
 
-module _ {H : Type 0} (x : WithZones H) where
+module _ {H : Type 0} (x : ZoneOwner H) where
   settings_read : (at : ZonePlace) (f : Settings → Settings)
       → settings_in at (settings_changed at f x) ≡ option_map f (settings_in at x)
   settings_read place.Global f = refl
@@ -113,7 +113,7 @@ module _ {H : Type 0} (x : WithZones H) where
       → g (f s) ≡ s → settings_changed at g (settings_changed at f x) ≡ x
   settings_back place.Global f g s e back =
       let same : x.global ≡ s = cc in
-      ap (λ (s : Settings). let r : WithZones H = record x { global = s } in r)
+      ap (λ (s : Settings). let r : ZoneOwner H = record x { global = s } in r)
       (ap (λ (s : Settings). g (f s)) same ∙ (back ∙ sym same))
   settings_back (place.Zone k) f g s e back =
       let h = source settings_of_zone (slice_get x.zones k) s e in
@@ -127,7 +127,7 @@ module _ {H : Type 0} (x : WithZones H) where
       → settings_changed at f x ≡ x
   settings_kept place.Global f s e kept =
       let same : x.global ≡ s = cc in
-      ap (λ (s : Settings). let r : WithZones H = record x { global = s } in r) (ap f same ∙ (kept ∙ sym same))
+      ap (λ (s : Settings). let r : ZoneOwner H = record x { global = s } in r) (ap f same ∙ (kept ∙ sym same))
   settings_kept (place.Zone k) f s e kept =
       let h = source settings_of_zone (slice_get x.zones k) s e in
       let z : Zone = h.member in
@@ -163,7 +163,7 @@ pub place_read : {H : Type 0} → PlaceRead H
 place_read {H} owners i at f =
     ap (option_and_then (settings_in at)) (read_changed owners i (settings_changed at f))
     ∙ given_alike (settings_changed at f) (settings_in at) (settings_in at) f
-    (λ (x : WithZones H). settings_read x at f) (slice_get owners i)
+    (λ (x : ZoneOwner H). settings_read x at f) (slice_get owners i)
 
 pub place_returns : {H : Type 0} → PlaceReturns H
 place_returns owners i at f g s e back =
@@ -182,65 +182,65 @@ others_stay owners i j at f ne = changed_elsewhere owners i j (settings_changed 
 pub places_stay : {H : Type 0} → PlacesStay H
 places_stay {H} owners i at other f ne =
     changed_unseen (option_and_then (settings_in other)) owners i i (settings_changed at f)
-    (λ (x : WithZones H). settings_stay x at other f ne)
+    (λ (x : ZoneOwner H). settings_stay x at other f ne)
 
 pub heads_stay_by_place : {H : Type 0} → HeadsStay H
 heads_stay_by_place {H} owners i j at f =
-    changed_unseen (option_map (λ (x : WithZones H). x.head)) owners i j (settings_changed at f)
-    (λ (x : WithZones H). ap Some (heads_stay x at f))
+    changed_unseen (option_map (λ (x : ZoneOwner H). x.head)) owners i j (settings_changed at f)
+    (λ (x : ZoneOwner H). ap Some (heads_stay x at f))
 
 pub targets_stay : {H : Type 0} → TargetsStay H
 targets_stay {H} owners i j k at f =
     changed_unseen
-    (λ (o : Option (WithZones H)).
-    option_map (λ (z : Zone). z.target) (option_and_then (λ (x : WithZones H). slice_get x.zones k) o))
+    (λ (o : Option (ZoneOwner H)).
+    option_map (λ (z : Zone). z.target) (option_and_then (λ (x : ZoneOwner H). slice_get x.zones k) o))
     owners i j (settings_changed at f)
-    (λ (x : WithZones H). settings_unseen x (option_map (λ (z : Zone). z.target)) at f (λ z s. refl) k)
+    (λ (x : ZoneOwner H). settings_unseen x (option_map (λ (z : Zone). z.target)) at f (λ z s. refl) k)
 
 -- ---- the zones of an owner
 
 pub zones_read : {H : Type 0} → ZonesRead H
 zones_read {H} owners i f =
-    ap (option_map (λ (x : WithZones H). x.zones))
-    (read_changed owners i (λ (x : WithZones H). with_zones (f x.zones) x))
-    ∙ mapped_alike (λ (x : WithZones H). with_zones (f x.zones) x) (λ (x : WithZones H). x.zones)
-    (λ (x : WithZones H). x.zones) f (λ x. refl) (slice_get owners i)
+    ap (option_map (λ (x : ZoneOwner H). x.zones))
+    (read_changed owners i (λ (x : ZoneOwner H). with_zones (f x.zones) x))
+    ∙ mapped_alike (λ (x : ZoneOwner H). with_zones (f x.zones) x) (λ (x : ZoneOwner H). x.zones)
+    (λ (x : ZoneOwner H). x.zones) f (λ x. refl) (slice_get owners i)
 
 pub zones_return : {H : Type 0} → ZonesReturn H
 zones_return {H} owners i f g zones e back =
-    let h = source (λ (x : WithZones H). x.zones) (slice_get owners i) zones e in
-    let x : WithZones H = h.member in
-    changed-back owners i (λ (x : WithZones H). with_zones (f x.zones) x)
-    (λ (x : WithZones H). with_zones (g x.zones) x) x h.there
+    let h = source (λ (x : ZoneOwner H). x.zones) (slice_get owners i) zones e in
+    let x : ZoneOwner H = h.member in
+    changed-back owners i (λ (x : ZoneOwner H). with_zones (f x.zones) x)
+    (λ (x : ZoneOwner H). with_zones (g x.zones) x) x h.there
     (ap (λ (zones : List Zone). with_zones zones x)
     (ap (λ (zones : List Zone). g (f zones)) h.seen ∙ (back ∙ sym h.seen)))
 
 pub zones_kept : {H : Type 0} → ZonesKept H
 zones_kept {H} owners i f zones e kept =
-    let h = source (λ (x : WithZones H). x.zones) (slice_get owners i) zones e in
-    let x : WithZones H = h.member in
-    changed_kept owners i (λ (x : WithZones H). with_zones (f x.zones) x) x h.there
+    let h = source (λ (x : ZoneOwner H). x.zones) (slice_get owners i) zones e in
+    let x : ZoneOwner H = h.member in
+    changed_kept owners i (λ (x : ZoneOwner H). with_zones (f x.zones) x) x h.there
     (ap (λ (zones : List Zone). with_zones zones x) (ap f h.seen ∙ (kept ∙ sym h.seen)))
 
 pub others_keep_zones : {H : Type 0} → OthersKeepZones H
-others_keep_zones {H} owners i j f ne = changed_elsewhere owners i j (λ (x : WithZones H). with_zones (f x.zones) x) ne
+others_keep_zones {H} owners i j f ne = changed_elsewhere owners i j (λ (x : ZoneOwner H). with_zones (f x.zones) x) ne
 
 pub global_stays : {H : Type 0} → GlobalStays H
 global_stays {H} owners i j f =
     changed_unseen (option_and_then (settings_in place.Global)) owners i j
-    (λ (x : WithZones H). with_zones (f x.zones) x) (λ x. refl)
+    (λ (x : ZoneOwner H). with_zones (f x.zones) x) (λ x. refl)
 
 pub heads_stay_by_zones : {H : Type 0} → HeadsStayByZones H
 heads_stay_by_zones {H} owners i j f =
-    changed_unseen (option_map (λ (x : WithZones H). x.head)) owners i j
-    (λ (x : WithZones H). with_zones (f x.zones) x) (λ x. refl)
+    changed_unseen (option_map (λ (x : ZoneOwner H). x.head)) owners i j
+    (λ (x : ZoneOwner H). with_zones (f x.zones) x) (λ x. refl)
 
 -- ---- the definitions of the getters, through the settings of a place
 
 module _ {H Y : Type 0} (of_zone : Zone → Y) (of_global : Settings → Y)
     (alike : (z : Zone) → of_zone z ≡ of_global (settings_of_zone z)) where
-  seen_in_zone : (o : Option (WithZones H)) (k : ℕ)
-      → option_map of_zone (option_and_then (λ (x : WithZones H). slice_get x.zones k) o)
+  seen_in_zone : (o : Option (ZoneOwner H)) (k : ℕ)
+      → option_map of_zone (option_and_then (λ (x : ZoneOwner H). slice_get x.zones k) o)
       ≡ option_map of_global (option_and_then (settings_in (place.Zone k)) o)
   seen_in_zone None k = refl
   seen_in_zone (Some x) k = in_zone (slice_get x.zones k)
@@ -249,20 +249,20 @@ module _ {H Y : Type 0} (of_zone : Zone → Y) (of_global : Settings → Y)
       in_zone None = refl
       in_zone (Some z) = ap Some (alike z)
 
-  seen_in_global : (o : Option (WithZones H))
-      → option_map (λ (x : WithZones H). of_global x.global) o
+  seen_in_global : (o : Option (ZoneOwner H))
+      → option_map (λ (x : ZoneOwner H). of_global x.global) o
       ≡ option_map of_global (option_and_then (settings_in place.Global) o)
   seen_in_global None = refl
   seen_in_global (Some x) = refl
 
-pub gens_of_settings : {H : Type 0} (owners : List (WithZones H)) (i : ℕ) (at : ZonePlace)
+pub gens_of_settings : {H : Type 0} (owners : List (ZoneOwner H)) (i : ℕ) (at : ZonePlace)
     → gens_at owners i at ≡ option_map (λ (s : Settings). s.gens) (settings_at owners i at)
 gens_of_settings owners i place.Global =
     seen_in_global (λ (z : Zone). z.gens) (λ (s : Settings). s.gens) (λ z. refl) (slice_get owners i)
 gens_of_settings owners i (place.Zone k) =
     seen_in_zone (λ (z : Zone). z.gens) (λ (s : Settings). s.gens) (λ z. refl) (slice_get owners i) k
 
-pub mods_of_settings : {H : Type 0} (owners : List (WithZones H)) (i : ℕ) (at : ZonePlace)
+pub mods_of_settings : {H : Type 0} (owners : List (ZoneOwner H)) (i : ℕ) (at : ZonePlace)
     → mods_at owners i at ≡ option_map (λ (s : Settings). s.mods) (settings_at owners i at)
 mods_of_settings owners i place.Global =
     seen_in_global (λ (z : Zone). z.mods) (λ (s : Settings). s.mods) (λ z. refl) (slice_get owners i)

@@ -11,7 +11,7 @@ use Rattle.generators.proofs.EntryLaws.{set_is_entry}
 use Rattle.generators.proofs.LevelLaws.{allowed-≢-target}
 use Rattle.bank_parts.specs.declared.parts.Zone.{Zone}
 use Rattle.bank_parts.specs.declared.parts.Head.{Head}
-use Rattle.bank_parts.specs.declared.parts.WithZones.{WithZones}
+use Rattle.bank_parts.specs.declared.parts.ZoneOwner.{ZoneOwner}
 use Rattle.bank_parts.specs.declared.parts.Parts.{Parts}
 use Rattle.bank_parts.specs.Bagged.{IsPlain, IsPlainOwner}
 use Rattle.bank_parts.specs.Fits.{FitsOwner, FitsHead, FitsZone}
@@ -42,7 +42,7 @@ zones_plain at count (z ∷ zs) v f =
     (record { unset = unset_where at z.gens own.gens; fit = fit.gens }, zones_plain at count zs v.1 f.1)
 
 pub owners_plain : {H : Type 0} (name_of : H → List ℕ) (IsFit : H → Type 0) (at : Level) (count : ℕ)
-    (owners : List (WithZones H))
+    (owners : List (ZoneOwner H))
     → AllByRecursion (IsOwner name_of at count) owners → AllByRecursion (FitsOwner IsFit) owners
     → AllByRecursion (IsPlainOwner (target_operator at)) owners
 owners_plain name_of IsFit at count [] v f = tt

@@ -11,7 +11,7 @@ use Rattle.std.proofs.lemmas.Option.{same_Some, get_or_from_slice_get}
 use Rattle.base_numbered_lists.proofs.Lists.{slice_get-within, slice_set-back, changed-found}
 use Rattle.base_numbered_lists.specs.Moved.{changed}
 use Rattle.generators.specs.Gens.{Gens}
-use Rattle.generators.specs.Places.{IsAt, IsGapFor}
+use Rattle.generators.specs.Indexes.{IsAt, IsInsertionIndex}
 use Rattle.generators.specs.Levels.{target_operator}
 use Rattle.generators.specs.declared.level.Level.{Level}
 use Rattle.generators.proofs.Order.{tied, tied_same}
@@ -23,7 +23,7 @@ use Rattle.flat_records.specs.Bags.{Bag, gens_in, mods_in}
 use Rattle.bank_owner_bags.specs.Owned.{all_bags, bag_changed}
 use Rattle.bank_parts.specs.declared.counting.Records.{Records}
 use Rattle.bank_parts.specs.declared.parts.Zone.{Zone}
-use Rattle.bank_parts.specs.declared.parts.WithZones.{WithZones}
+use Rattle.bank_parts.specs.declared.parts.ZoneOwner.{ZoneOwner}
 use Rattle.bank_parts.specs.declared.owners.ZonePlace.{ZonePlace}
 use Rattle.bank_parts.specs.declared.owners.ZonePlace.TheVariants as place
 use Rattle.bank_parts.specs.Valid.{zone_count, gen_count, mod_count}
@@ -35,7 +35,7 @@ use Rattle.bank_parts.specs.Owners.{entries_at, mods_at}
 use Rattle.bank_parts.specs.ZoneChanges.{zone_added, gen_set, mod_added}
 use Rattle.bank_parts.specs.Bagged.{zone_bag, global_bags, bags_of, IsPlain, IsPlainOwner}
 use Rattle.bank_parts.specs.Room.{AreStorable, CanHold, has_operator}
-use Rattle.bank_parts.specs.Flat.{AreOf}
+use Rattle.bank_parts.specs.Flat.{RepresentOwners}
 use Rattle.bank_parts.proofs.ListLaws.{everywhere-insert, everywhere-inserted, everywhere-sent, everywhere-set}
 use Rattle.bank_parts.proofs.RoomLaws.{grows, sent_count, one_each}
 use Rattle.bank_parts.proofs.RecordLaws.{zones_in_all, gens_in_all, mods_in_all}
@@ -49,8 +49,8 @@ use Rattle.bank_parts.proofs.GenChanges.{first_gen, first_mod, gen_is_put, mod_i
 
 -- ---- capacity
 
-module _ {H : Type 0} {at : Level} {hs : List H} {bs : List (List Bag)} {owners : List (WithZones H)}
-    (a : AreOf (target_operator at) hs bs owners) (s : AreStorable at owners) (bags : List (List Bag))
+module _ {H : Type 0} {at : Level} {hs : List H} {bs : List (List Bag)} {owners : List (ZoneOwner H)}
+    (a : RepresentOwners (target_operator at) hs bs owners) (s : AreStorable at owners) (bags : List (List Bag))
     (more : Records) where
   -- for bags that are no fewer than the present bags and the new ones
   holds_more : length (all_bags bags) + more.zones ≤ length (all_bags bs)
@@ -68,9 +68,9 @@ module _ {H : Type 0} {at : Level} {hs : List H} {bs : List (List Bag)} {owners 
       }
 
 -- a bag inserted
-pub bag_held : {H : Type 0} {at : Level} {hs : List H} {owners : List (WithZones H)} (bags : List (List Bag)) (i k : ℕ)
+pub bag_held : {H : Type 0} {at : Level} {hs : List H} {owners : List (ZoneOwner H)} (bags : List (List Bag)) (i k : ℕ)
     (own : List Bag) (b : Bag) (more : Records) → slice_get bags i ≡ Some own → k ≤ length own
-    → AreOf (target_operator at) hs (changed bags i (λ own. insert own k b)) owners → AreStorable at owners
+    → RepresentOwners (target_operator at) hs (changed bags i (λ own. insert own k b)) owners → AreStorable at owners
     → more.zones ≤ 1 → more.gens ≤ length b.gens → more.mods ≤ length b.mods → CanHold bags more
 bag_held bags i k own b more there within a s z g m =
     let bs = changed bags i (λ own. insert own k b) in
@@ -82,9 +82,9 @@ bag_held bags i k own b more there within a s z g m =
     holds_more a s bags more (omega arith) (omega arith) (omega arith)
 
 -- a bag changed by F, which adds `more` records
-pub sent_held : {H : Type 0} {at : Level} {hs : List H} {owners : List (WithZones H)} (bags : List (List Bag)) (i k : ℕ)
+pub sent_held : {H : Type 0} {at : Level} {hs : List H} {owners : List (ZoneOwner H)} (bags : List (List Bag)) (i k : ℕ)
     (own : List Bag) (b : Bag) (F : Bag → Bag) (more : Records) → slice_get bags i ≡ Some own
-    → slice_get own k ≡ Some b → AreOf (target_operator at) hs (bag_changed bags i k F) owners → AreStorable at owners
+    → slice_get own k ≡ Some b → RepresentOwners (target_operator at) hs (bag_changed bags i k F) owners → AreStorable at owners
     → more.zones ≡ 0 → length b.gens + more.gens ≤ length (F b).gens → length b.mods + more.mods ≤ length (F b).mods
     → CanHold bags more
 sent_held bags i k own b F more there found a s z g m =
@@ -97,16 +97,16 @@ sent_held bags i k own b F more there found a s z g m =
     holds_more a s bags more (omega arith) (omega arith) (omega arith)
 
 -- a preset or an instrument inserted
-pub owner_held : {H : Type 0} {at : Level} {hs : List H} {bags : List (List Bag)} {owners : List (WithZones H)}
-    → AreOf (target_operator at) hs bags owners → (i : ℕ) (x : WithZones H) (more : Records)
+pub owner_held : {H : Type 0} {at : Level} {hs : List H} {bags : List (List Bag)} {owners : List (ZoneOwner H)}
+    → RepresentOwners (target_operator at) hs bags owners → (i : ℕ) (x : ZoneOwner H) (more : Records)
     → more ≡ all_counted (records_of_owner x) → AreStorable at (insert owners i x) → CanHold bags more
 owner_held {H} {at} {hs} {bags} {owners} a i x more e s =
     let zones_are = zones_in_all a in
     let gens_are = gens_in_all a in
     let mods_are = mods_in_all a in
-    let zones = sum_by-insert (λ (x : WithZones H). zone_count x.global x.zones) owners i x in
-    let gens = sum_by-insert (λ (x : WithZones H). gen_count x.global x.zones) owners i x in
-    let mods = sum_by-insert (λ (x : WithZones H). mod_count x.global x.zones) owners i x in
+    let zones = sum_by-insert (λ (x : ZoneOwner H). zone_count x.global x.zones) owners i x in
+    let gens = sum_by-insert (λ (x : ZoneOwner H). gen_count x.global x.zones) owners i x in
+    let mods = sum_by-insert (λ (x : ZoneOwner H). mod_count x.global x.zones) owners i x in
     record {
       zones = (let c = ap (λ (r : Records). r.zones) e in let h = s.zones in omega arith);
       gens = (let c = ap (λ (r : Records). r.gens) e in let h = s.gens in omega arith);
@@ -114,17 +114,17 @@ owner_held {H} {at} {hs} {bags} {owners} a i x more e s =
     }
 
 -- the converse
-pub owner_storable : {H : Type 0} {at : Level} {hs : List H} {bags : List (List Bag)} {owners : List (WithZones H)}
-    → AreOf (target_operator at) hs bags owners → (i : ℕ) (x : WithZones H) (more : Records)
+pub owner_storable : {H : Type 0} {at : Level} {hs : List H} {bags : List (List Bag)} {owners : List (ZoneOwner H)}
+    → RepresentOwners (target_operator at) hs bags owners → (i : ℕ) (x : ZoneOwner H) (more : Records)
     → more ≡ all_counted (records_of_owner x) → IsPlainOwner (target_operator at) x → CanHold bags more
     → AreStorable at (insert owners i x)
 owner_storable {H} {at} {hs} {bags} {owners} a i x more e plain can =
     let zones_are = zones_in_all a in
     let gens_are = gens_in_all a in
     let mods_are = mods_in_all a in
-    let zones = sum_by-insert (λ (x : WithZones H). zone_count x.global x.zones) owners i x in
-    let gens = sum_by-insert (λ (x : WithZones H). gen_count x.global x.zones) owners i x in
-    let mods = sum_by-insert (λ (x : WithZones H). mod_count x.global x.zones) owners i x in
+    let zones = sum_by-insert (λ (x : ZoneOwner H). zone_count x.global x.zones) owners i x in
+    let gens = sum_by-insert (λ (x : ZoneOwner H). gen_count x.global x.zones) owners i x in
+    let mods = sum_by-insert (λ (x : ZoneOwner H). mod_count x.global x.zones) owners i x in
     record {
       zones = (let c = ap (λ (r : Records). r.zones) e in let h = can.zones in omega arith);
       gens = (let c = ap (λ (r : Records). r.gens) e in let h = can.gens in omega arith);
@@ -147,18 +147,18 @@ zones_have_none op (z ∷ zs) p =
     (unset_has_none (map.get z.gens op) own.unset)
     ∙ zones_have_none op zs p.1
 
-pub plain_has_none : {H : Type 0} (op : ℕ) (x : WithZones H) → IsPlainOwner op x → has_operator op x ≡ false
+pub plain_has_none : {H : Type 0} (op : ℕ) (x : ZoneOwner H) → IsPlainOwner op x → has_operator op x ≡ false
 plain_has_none op x p =
     let own = p.global in
     ap (λ b. b || list_any (λ (z : Zone). is_some (map.get z.gens op)) x.zones)
     (unset_has_none (map.get x.global.gens op) own.unset)
     ∙ zones_have_none op x.zones p.zones
 
-pub owner_in : {H : Type 0} {at : Level} (owners : List (WithZones H)) (i : ℕ) (x : WithZones H)
+pub owner_in : {H : Type 0} {at : Level} (owners : List (ZoneOwner H)) (i : ℕ) (x : ZoneOwner H)
     → AreStorable at (insert owners i x) → IsPlainOwner (target_operator at) x
 owner_in {H} {at} owners i x s = everywhere-inserted (IsPlainOwner (target_operator at)) owners i x s.plain
 
-pub zone_in : {H : Type 0} {at : Level} (owners : List (WithZones H)) (i k : ℕ) (x : WithZones H) (z : Zone)
+pub zone_in : {H : Type 0} {at : Level} (owners : List (ZoneOwner H)) (i k : ℕ) (x : ZoneOwner H) (z : Zone)
     → slice_get owners i ≡ Some x → AreStorable at (zone_added owners i k z) → IsPlain (target_operator at) z.gens
 zone_in {H} {at} owners i k x z there s =
     let own =
@@ -166,7 +166,7 @@ zone_in {H} {at} owners i k x z there s =
     s.plain in
     everywhere-inserted (λ (z : Zone). IsPlain (target_operator at) z.gens) x.zones k z own.zones
 
-place_plain : {H : Type 0} (op : ℕ) (at : ZonePlace) (x : WithZones H) (f : Settings → Settings) (s : Settings)
+place_plain : {H : Type 0} (op : ℕ) (at : ZonePlace) (x : ZoneOwner H) (f : Settings → Settings) (s : Settings)
     → settings_in at x ≡ Some s → IsPlainOwner op (settings_changed at f x) → IsPlain op (f s).gens
 place_plain op place.Global x f s has plain =
     subst (λ s. IsPlain op (f s).gens) (same_Some x.global s has) plain.global
@@ -181,7 +181,7 @@ place_plain op (place.Zone k) x f s has plain =
     zone_found None s e = cc
     zone_found (Some z) s e = (z, refl, same_Some (settings_of_zone z) s e)
 
-pub place_in : {H : Type 0} {level : Level} {bags : List (List Bag)} {owners : List (WithZones H)} {i : ℕ}
+pub place_in : {H : Type 0} {level : Level} {bags : List (List Bag)} {owners : List (ZoneOwner H)} {i : ℕ}
     {at : ZonePlace} (p : PlaceAt (target_operator level) bags owners i at) (f : Settings → Settings)
     → AreStorable level (place_changed owners i at f) → IsPlain (target_operator level) (f p.settings).gens
 place_in {H} {level} {bags} {owners} {i} {at} p f s =
@@ -203,10 +203,10 @@ other_found op m o w plain found same = let there = ap (map.get m) same ∙ foun
 -- ---- new zones and settings
 
 -- a zone inserted
-pub zone_held : {H : Type 0} {at : Level} {hs : List H} {bags : List (List Bag)} {owners : List (WithZones H)} {i k : ℕ}
-    → AreOf (target_operator at) hs bags owners
+pub zone_held : {H : Type 0} {at : Level} {hs : List H} {bags : List (List Bag)} {owners : List (ZoneOwner H)} {i k : ℕ}
+    → RepresentOwners (target_operator at) hs bags owners
     → (s : ZonesAt (target_operator at) bags owners i (λ n. k ≤ n)) (n : ℕ) (z : Zone) (more : Records)
-    → IfSome (slice_get owners i) (λ (x : WithZones H). n ≡ length (global_bags x.global) + k)
+    → IfSome (slice_get owners i) (λ (x : ZoneOwner H). n ≡ length (global_bags x.global) + k)
     → more ≡ all_counted (records_of_zone z) → AreStorable at (zone_added owners i k z) → CanHold bags more
 zone_held {H} {at} {hs} {bags} {owners} {i} {k} a s n z more h e storable =
     let op = target_operator at in
@@ -215,7 +215,7 @@ zone_held {H} {at} {hs} {bags} {owners} {i} {k} a s n z more h e storable =
     let put =
     zone_put a s n z (changed bags i (λ own. insert own n b)) h refl (zone_in owners i k x z s.found.there storable)
     refl refl in
-    let first = of_some (λ (x : WithZones H). n ≡ length (global_bags x.global) + k) s.found.there h in
+    let first = of_some (λ (x : ZoneOwner H). n ≡ length (global_bags x.global) + k) s.found.there h in
     let size = s.found.size in
     let fits = s.fits in
     let zones = ap (λ (r : Records). r.zones) e in
@@ -227,13 +227,13 @@ zone_held {H} {at} {hs} {bags} {owners} {i} {k} a s n z more h e storable =
     (omega arith)
 
 -- the operator of targets is set nowhere
-pub gen_other : {H : Type 0} {level : Level} {bags : List (List Bag)} {owners : List (WithZones H)} {i : ℕ}
+pub gen_other : {H : Type 0} {level : Level} {bags : List (List Bag)} {owners : List (ZoneOwner H)} {i : ℕ}
     {at : ZonePlace} (p : PlaceAt (target_operator level) bags owners i at) (o w : ℕ)
     → AreStorable level (gen_set owners i at o w) → target_operator level ≢ o
 gen_other {H} {level} p o w s =
     other_set (target_operator level) p.settings.gens o w (place_in p (λ s. with_gens (map.insert s.gens o w) s) s)
 
-pub gen_found_other : {H : Type 0} {op : ℕ} {bags : List (List Bag)} {owners : List (WithZones H)} {i : ℕ}
+pub gen_found_other : {H : Type 0} {op : ℕ} {bags : List (List Bag)} {owners : List (ZoneOwner H)} {i : ℕ}
     {at : ZonePlace} (p : PlaceAt op bags owners i at) {es : List (ℕ × ℕ)} {o j : ℕ}
     → entries_at owners i at ≡ Some es → IsAt es o j → op ≢ o
 gen_found_other {H} {op} p {es} {o} {j} there found =
@@ -241,7 +241,7 @@ gen_found_other {H} {op} p {es} {o} {j} there found =
     (found_amount p.settings.gens p.plain.fit o j (place_at p there found) (0, 0))
 
 -- the first generator or modulator of a place without a bag
-module _ {H : Type 0} {level : Level} {hs : List H} {bags : List (List Bag)} {owners : List (WithZones H)} {i : ℕ}
+module _ {H : Type 0} {level : Level} {hs : List H} {bags : List (List Bag)} {owners : List (ZoneOwner H)} {i : ℕ}
     {at : ZonePlace} (b : BarePlace (target_operator level) hs bags owners i at) where
   pub first_gen_held : (o w : ℕ) → o < 2 ^ 16 → w < 2 ^ 16 → AreStorable level (gen_set owners i at o w)
       → CanHold bags (record { zones = 1; gens = 1; mods = 0 })
@@ -259,10 +259,10 @@ module _ {H : Type 0} {level : Level} {hs : List H} {bags : List (List Bag)} {ow
       (first_mod b j m (changed bags i (λ bs. insert bs 0 own)) h refl) s (omega arith) (omega arith) (omega arith)
 
 -- a generator or a modulator of a place with a bag
-module _ {H : Type 0} {level : Level} {hs : List H} {bags : List (List Bag)} {owners : List (WithZones H)} {i : ℕ}
+module _ {H : Type 0} {level : Level} {hs : List H} {bags : List (List Bag)} {owners : List (ZoneOwner H)} {i : ℕ}
     {at : ZonePlace} {n : ℕ} (b : BagPlace (target_operator level) hs bags owners i at n) where
   module _ {es : List (ℕ × ℕ)} {o j : ℕ} (there : entries_at owners i at ≡ Some es) where
-    pub gen_held : (w : ℕ) → o < 2 ^ 16 → w < 2 ^ 16 → IsGapFor es o j → AreStorable level (gen_set owners i at o w)
+    pub gen_held : (w : ℕ) → o < 2 ^ 16 → w < 2 ^ 16 → IsInsertionIndex es o j → AreStorable level (gen_set owners i at o w)
         → CanHold bags (record { zones = 0; gens = 1; mods = 0 })
     gen_held w fit_o fit_w gap s =
         let F = λ (b : Bag). records.with_gens (put b.gens j ((o, w) ∷ [])) b in
@@ -297,15 +297,15 @@ module _ {X : Type 0} (P : X → Type 0) where
   others_in [] (suc k) x p = tt
   others_in (y ∷ ys) (suc k) x p = (p.0, others_in ys k x p.1)
 
-module _ {H : Type 0} {at : Level} (owners : List (WithZones H)) (i k : ℕ) (z : Zone) (x : WithZones H)
+module _ {H : Type 0} {at : Level} (owners : List (ZoneOwner H)) (i k : ℕ) (z : Zone) (x : ZoneOwner H)
     (there : slice_get owners i ≡ Some x) (s : AreStorable at (zone_added owners i k z)) where
-  abbrev with_zone : WithZones H
+  abbrev with_zone : ZoneOwner H
   with_zone = with_zones (insert x.zones k z) x
 
   added_is : zone_added owners i k z ≡ set owners i with_zone
   added_is = changed-found owners i (λ x. with_zones (insert x.zones k z) x) x there
 
-  fewer : (f : WithZones H → ℕ) → f x ≤ f with_zone → sum_by f owners ≤ sum_by f (zone_added owners i k z)
+  fewer : (f : ZoneOwner H → ℕ) → f x ≤ f with_zone → sum_by f owners ≤ sum_by f (zone_added owners i k z)
   fewer f h =
       let sum = sum_by-set f owners i with_zone x (slice_get-within owners i x there) in
       let own = ap f (get_or_from_slice_get owners i x x there) in
@@ -317,9 +317,9 @@ module _ {H : Type 0} {at : Level} (owners : List (WithZones H)) (i k : ℕ) (z 
       let longer = insert_longer x.zones k z in
       let gens_more = sum_by-insert (λ (z : Zone). len z.gens + 1) x.zones k z in
       let mods_more = sum_by-insert (λ (z : Zone). length z.mods) x.zones k z in
-      let zones = fewer (λ (x : WithZones H). zone_count x.global x.zones) (omega arith) in
-      let gens = fewer (λ (x : WithZones H). gen_count x.global x.zones) (omega arith) in
-      let mods = fewer (λ (x : WithZones H). mod_count x.global x.zones) (omega arith) in
+      let zones = fewer (λ (x : ZoneOwner H). zone_count x.global x.zones) (omega arith) in
+      let gens = fewer (λ (x : ZoneOwner H). gen_count x.global x.zones) (omega arith) in
+      let mods = fewer (λ (x : ZoneOwner H). mod_count x.global x.zones) (omega arith) in
       let op = target_operator at in
       let new =
       everywhere-sent (IsPlainOwner op) owners i (λ x. with_zones (insert x.zones k z) x) x there s.plain in

@@ -15,7 +15,7 @@ use Rattle.modulators.specs.declared.modulator.Modulator.{Modulator}
 use Rattle.bank_parts.specs.declared.owners.ZonePlace.{ZonePlace}
 use Rattle.bank_parts.specs.declared.owners.ZonePlace.TheVariants as place
 use Rattle.bank_parts.specs.declared.parts.Zone.{Zone}
-use Rattle.bank_parts.specs.declared.parts.WithZones.{WithZones}
+use Rattle.bank_parts.specs.declared.parts.ZoneOwner.{ZoneOwner}
 use Rattle.bank_parts.specs.Owners.{HasPlace, zone_count_at, zone_at, mods_at, amount_at, mod_at}
 use Rattle.bank_parts.specs.Settings.{Settings, settings_of_zone, settings_in, settings_at, place_changed, zones_at}
 use Rattle.bank_parts.specs.Settings.{zones_changed, with_gens, with_mods}
@@ -37,7 +37,7 @@ some_same : {X : Type 0} (o : Option X) (x y : X) → o ≡ Some x → o ≡ Som
 some_same o x y e h = cc
 
 -- a value that exists, and of which P holds
-pub record There {X : Type 0} (o : Option X) (P : X → Type 0) : Type 0 where
+pub record Existing {X : Type 0} (o : Option X) (P : X → Type 0) : Type 0 where
   pub member : X
   pub there : o ≡ Some member
   pub holds : P member
@@ -48,12 +48,12 @@ given_by_part : {X Y Z : Type 0} (f : X → Y) (g : Y → Option Z) (o : Option 
 given_by_part f g None = refl
 given_by_part f g (Some x) = refl
 
-module _ {H : Type 0} (owners : List (WithZones H)) (i : ℕ) where
+module _ {H : Type 0} (owners : List (ZoneOwner H)) (i : ℕ) where
   pub zone_of_zones : (k : ℕ)
       → zone_at owners i k ≡ option_and_then (λ (zones : List Zone). slice_get zones k) (zones_at owners i)
   zone_of_zones k =
       sym
-      (given_by_part (λ (x : WithZones H). x.zones) (λ (zones : List Zone). slice_get zones k)
+      (given_by_part (λ (x : ZoneOwner H). x.zones) (λ (zones : List Zone). slice_get zones k)
       (slice_get owners i))
 
   pub amount_of_settings : (at : ZonePlace) (op : ℕ)
@@ -71,17 +71,17 @@ module _ {H : Type 0} (owners : List (WithZones H)) (i : ℕ) where
 
   -- an owner and the number of its zones
   pub zones_there : (P : ℕ → Type 0) → IsSomeAnd (zone_count_at owners i) P
-      → There (zones_at owners i) (λ zones. P (length zones))
+      → Existing (zones_at owners i) (λ zones. P (length zones))
   zones_there P h = here (slice_get owners i) h
     where
-      here : (o : Option (WithZones H)) → IsSomeAnd (option_map (λ (x : WithZones H). length x.zones) o) P
-          → There (option_map (λ (x : WithZones H). x.zones) o) (λ zones. P (length zones))
+      here : (o : Option (ZoneOwner H)) → IsSomeAnd (option_map (λ (x : ZoneOwner H). length x.zones) o) P
+          → Existing (option_map (λ (x : ZoneOwner H). x.zones) o) (λ zones. P (length zones))
       here None h = absurd h
       here (Some x) h = record { member = x.zones; there = refl; holds = h }
 
   -- two zones of an owner
   both_there : (k l : ℕ) → HasPlace owners i (place.Zone k) → HasPlace owners i (place.Zone l)
-      → There (zones_at owners i) (λ zones. (k < length zones) × (l < length zones))
+      → Existing (zones_at owners i) (λ zones. (k < length zones) × (l < length zones))
   both_there k l h m =
       let t = zones_there (λ count. k < count) h in
       let u = zones_there (λ count. l < count) m in
@@ -111,7 +111,7 @@ module _ {H : Type 0} (owners : List (WithZones H)) (i : ℕ) where
   settings_there (place.Zone k) h =
       let t = zones_there (λ count. k < count) h in
       let (zone, e) = slice_get-found t.member k t.holds in
-      let x = source (λ (x : WithZones H). x.zones) (slice_get owners i) t.member t.there in (
+      let x = source (λ (x : ZoneOwner H). x.zones) (slice_get owners i) t.member t.there in (
         settings_of_zone zone,
         ap (option_and_then (settings_in (place.Zone k))) x.there
             ∙
@@ -120,10 +120,10 @@ module _ {H : Type 0} (owners : List (WithZones H)) (i : ℕ) where
       )
 
   pub mods_there : (at : ZonePlace) (P : List Modulator → Type 0) → IsSomeAnd (mods_at owners i at) P
-      → There (settings_at owners i at) (λ s. P s.mods)
+      → Existing (settings_at owners i at) (λ s. P s.mods)
   mods_there at P h = here (settings_at owners i at) (rw (mods_of_settings owners i at) at h)
     where
-      here : (o : Option Settings) → IsSomeAnd (option_map (λ (s : Settings). s.mods) o) P → There o (λ s. P s.mods)
+      here : (o : Option Settings) → IsSomeAnd (option_map (λ (s : Settings). s.mods) o) P → Existing o (λ s. P s.mods)
       here None h = absurd h
       here (Some s) h = record { member = s; there = refl; holds = h }
 
@@ -217,7 +217,7 @@ cleared_is_read : (m : Gens) (op : ℕ) → map.get (map.remove m op) op ≡ Non
 cleared_is_read m op = gens.get-remove_any m op op ∙ ap (λ b. cond b None (map.get m op)) (tied_same op)
 
 -- what is read after a change of an existing value
-module _ {H : Type 0} (owners : List (WithZones H)) (i : ℕ) where
+module _ {H : Type 0} (owners : List (ZoneOwner H)) (i : ℕ) where
   zone_then : (f : List Zone → List Zone) (zones : List Zone) → zones_at owners i ≡ Some zones → (k : ℕ)
       → zone_at (zones_changed owners i f) i k ≡ slice_get (f zones) k
   zone_then f zones e k =

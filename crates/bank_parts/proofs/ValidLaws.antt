@@ -15,15 +15,15 @@ use Rattle.modulators.specs.Modulators.{FitsModulator}
 use Rattle.flat_records.specs.Bags.{Bag, gens_in, mods_in}
 use Rattle.bank_owner_bags.specs.Owned.{all_bags}
 use Rattle.bank_parts.specs.declared.parts.Zone.{Zone}
-use Rattle.bank_parts.specs.declared.parts.WithZones.{WithZones}
+use Rattle.bank_parts.specs.declared.parts.ZoneOwner.{ZoneOwner}
 use Rattle.bank_parts.specs.Fits.{FitsOwner, FitsZone}
 use Rattle.bank_parts.specs.Valid.{IsOwner}
-use Rattle.bank_parts.specs.Contents.{misses_target, sets_foreign, has_foreign, is_bad_range, sets_bad_range}
+use Rattle.bank_parts.specs.Contents.{has_missing_target, sets_bad_generator, has_bad_generator, is_bad_range, sets_bad_range}
 use Rattle.bank_parts.specs.Contents.{has_bad_range}
 use Rattle.bank_parts.proofs.ContentLaws.{owner_from_tests, tests_from_owner}
 use Rattle.bank_parts.specs.Bagged.{zone_bag, bags_of, IsPlain, IsPlainOwner}
 use Rattle.bank_parts.specs.Records.{is_valid_record}
-use Rattle.bank_parts.specs.Flat.{AreOf}
+use Rattle.bank_parts.specs.Flat.{RepresentOwners}
 use Rattle.bank_parts.proofs.RecordLaws.{and_true, not_or, six, five, same_op, all-append, others, owner_gens}
 use Rattle.bank_parts.proofs.RecordLaws.{owner_mods, gens_before, mods_before}
 
@@ -44,7 +44,7 @@ module _ (at : Level) (count : ℕ) where
   misses z = nat_le count z.target
 
   foreign : Zone → Bool
-  foreign z = sets_foreign at z.gens
+  foreign z = sets_bad_generator at z.gens
 
   bad : Zone → Bool
   bad z = sets_bad_range z.gens
@@ -75,7 +75,7 @@ module _ (at : Level) (count : ℕ) where
 
   valid_zone : (z : Zone) → IsPlain (target_operator at) z.gens
       → list_all (is_valid_record at count) (entries z.gens ++ (target_operator at, z.target) ∷ [])
-      ≡ ((not (sets_foreign at z.gens) && not (sets_bad_range z.gens)) && not (nat_le count z.target))
+      ≡ ((not (sets_bad_generator at z.gens) && not (sets_bad_range z.gens)) && not (nat_le count z.target))
   valid_zone z plain =
       let op = target_operator at in
       all-append (is_valid_record at count) (entries z.gens) ((op, z.target) ∷ [])
@@ -88,7 +88,7 @@ module _ (at : Level) (count : ℕ) where
   valid_zones [] h = refl
   valid_zones (z ∷ zs) h =
       let op = target_operator at in
-      let f = sets_foreign at z.gens in
+      let f = sets_bad_generator at z.gens in
       let b = sets_bad_range z.gens in
       let m = nat_le count z.target in
       all-append (is_valid_record at count) (entries z.gens ++ (op, z.target) ∷ []) (gens_in (map (zone_bag op) zs))
@@ -97,13 +97,13 @@ module _ (at : Level) (count : ℕ) where
       ∙ (λ i. sym (not_or m (list_any misses zs)) i
       && (sym (not_or f (list_any foreign zs)) i && sym (not_or b (list_any bad zs)) i))))
 
-  valid_owner : {H : Type 0} (x : WithZones H) → IsPlainOwner (target_operator at) x
+  valid_owner : {H : Type 0} (x : ZoneOwner H) → IsPlainOwner (target_operator at) x
       → list_all (is_valid_record at count) (gens_in (bags_of (target_operator at) x))
-      ≡ (not (misses_target count x) && (not (has_foreign at x) && not (has_bad_range x)))
+      ≡ (not (has_missing_target count x) && (not (has_bad_generator at x) && not (has_bad_range x)))
   unfolding misses foreign bad
   valid_owner x plain =
       let op = target_operator at in
-      let f = sets_foreign at x.global.gens in
+      let f = sets_bad_generator at x.global.gens in
       let b = sets_bad_range x.global.gens in
       ap (list_all (is_valid_record at count)) (owner_gens op x)
       ∙ (all-append (is_valid_record at count) (entries x.global.gens) (gens_in (map (zone_bag op) x.zones))
@@ -128,8 +128,8 @@ both_parts true false e = cc
 both_parts false b e = cc
 
 module _ {H : Type 0} (name_of : H → List ℕ) (at : Level) (count : ℕ) where
-  owners_valid : (owners : List (WithZones H)) → AllByRecursion (IsPlainOwner (target_operator at)) owners
-      → AllByRecursion (λ h. IsName (name_of h)) (map (λ (x : WithZones H). x.head) owners)
+  owners_valid : (owners : List (ZoneOwner H)) → AllByRecursion (IsPlainOwner (target_operator at)) owners
+      → AllByRecursion (λ h. IsName (name_of h)) (map (λ (x : ZoneOwner H). x.head) owners)
       → list_all (is_valid_record at count) (gens_in (all_bags (map (bags_of (target_operator at)) owners))) ≡ true
       → AllByRecursion (IsOwner name_of at count) owners
   owners_valid [] plain named e = tt
@@ -143,19 +143,19 @@ module _ {H : Type 0} (name_of : H → List ℕ) (at : Level) (count : ℕ) wher
       both_parts (list_all (is_valid_record at count) (gens_in (bags_of op x)))
       (list_all (is_valid_record at count) (gens_in rest)) (sym split ∙ e) in
       let tests =
-      none_of (misses_target count x) (has_foreign at x) (has_bad_range x)
+      none_of (has_missing_target count x) (has_bad_generator at x) (has_bad_range x)
       (sym (valid_owner at count x plain.0) ∙ parts.0) in (
         owner_from_tests name_of at count x named.0
             (record { targets = tests.0; operators = tests.1; ranges = tests.2 }),
         owners_valid xs plain.1 named.1 parts.1,
       )
 
-  own_valid : (x : WithZones H) → IsPlainOwner (target_operator at) x → misses_target count x ≡ false
-      → has_foreign at x ≡ false → has_bad_range x ≡ false
+  own_valid : (x : ZoneOwner H) → IsPlainOwner (target_operator at) x → has_missing_target count x ≡ false
+      → has_bad_generator at x ≡ false → has_bad_range x ≡ false
       → list_all (is_valid_record at count) (gens_in (bags_of (target_operator at) x)) ≡ true
   own_valid x plain m f b = valid_owner at count x plain ∙ (λ i. not (m i) && (not (f i) && not (b i)))
 
-  records_valid : (owners : List (WithZones H)) → AllByRecursion (IsPlainOwner (target_operator at)) owners
+  records_valid : (owners : List (ZoneOwner H)) → AllByRecursion (IsPlainOwner (target_operator at)) owners
       → AllByRecursion (IsOwner name_of at count) owners
       → list_all (is_valid_record at count) (gens_in (all_bags (map (bags_of (target_operator at)) owners))) ≡ true
   records_valid [] plain h = refl
@@ -167,8 +167,8 @@ module _ {H : Type 0} (name_of : H → List ℕ) (at : Level) (count : ℕ) wher
       ∙ (all-append (is_valid_record at count) (gens_in (bags_of op x)) (gens_in rest)
       ∙ (λ i. own_valid x plain.0 tests.targets tests.operators tests.ranges i && records_valid xs plain.1 h.1 i))
 
-  pub valid_exactly : {heads : List H} {bags : List (List Bag)} {owners : List (WithZones H)}
-      → AreOf (target_operator at) heads bags owners → AllByRecursion (λ h. IsName (name_of h)) heads
+  pub valid_exactly : {heads : List H} {bags : List (List Bag)} {owners : List (ZoneOwner H)}
+      → RepresentOwners (target_operator at) heads bags owners → AllByRecursion (λ h. IsName (name_of h)) heads
       → (r : Bool) → r ≡ list_all (is_valid_record at count) (gens_in (all_bags bags))
       → IsTrue r ↔ AllByRecursion (IsOwner name_of at count) owners
   valid_exactly {heads} {bags} {owners} a named r e =
@@ -210,8 +210,8 @@ zones_fit op (z ∷ zs) plain gens mods =
     )
 
 module _ {H : Type 0} (IsFit : H → Type 0) (op : ℕ) where
-  owners_fit : (owners : List (WithZones H)) → AllByRecursion (IsPlainOwner op) owners
-      → AllByRecursion IsFit (map (λ (x : WithZones H). x.head) owners)
+  owners_fit : (owners : List (ZoneOwner H)) → AllByRecursion (IsPlainOwner op) owners
+      → AllByRecursion IsFit (map (λ (x : ZoneOwner H). x.head) owners)
       → FitEntries (gens_in (all_bags (map (bags_of op) owners)))
       → AllByRecursion FitsModulator (mods_in (all_bags (map (bags_of op) owners)))
       → AllByRecursion (FitsOwner IsFit) owners
@@ -240,7 +240,7 @@ module _ {H : Type 0} (IsFit : H → Type 0) (op : ℕ) where
             (all-back FitsModulator (mods_in (bags_of op x)) (mods_in rest) all_mods),
       )
 
-  pub all_fit : {heads : List H} {bags : List (List Bag)} {owners : List (WithZones H)} → AreOf op heads bags owners
+  pub all_fit : {heads : List H} {bags : List (List Bag)} {owners : List (ZoneOwner H)} → RepresentOwners op heads bags owners
       → AllByRecursion IsFit heads
       → FitEntries (gens_in (all_bags bags)) → AllByRecursion FitsModulator (mods_in (all_bags bags))
       → AllByRecursion (FitsOwner IsFit) owners

@@ -7,7 +7,7 @@ use Rattle.generators.specs.Gens.{Gens, FitGens}
 use Rattle.flat_records.specs.Bags.{Bag}
 use Rattle.bank_parts.specs.declared.parts.GlobalZone.{GlobalZone}
 use Rattle.bank_parts.specs.declared.parts.Zone.{Zone}
-use Rattle.bank_parts.specs.declared.parts.WithZones.{WithZones}
+use Rattle.bank_parts.specs.declared.parts.ZoneOwner.{ZoneOwner}
 use Rattle.bank_parts.specs.declared.owners.ZonePlace.{ZonePlace}
 use Rattle.bank_parts.specs.declared.owners.ZonePlace.TheVariants as place
 
@@ -26,11 +26,11 @@ abbrev pub global_bags : GlobalZone → List Bag
 global_bags g = if len g.gens + length g.mods == 0 then [] else (global_bag g ∷ [])
 
 -- the bags of a preset or an instrument: that of the global zone, then one for each zone
-abbrev pub bags_of : {H : Type 0} → ℕ → WithZones H → List Bag
+abbrev pub bags_of : {H : Type 0} → ℕ → ZoneOwner H → List Bag
 bags_of op x = global_bags x.global ++ map (zone_bag op) x.zones
 
 -- the index of the bag of a place among the bags of its owner
-abbrev pub bag_number : {H : Type 0} → ZonePlace → WithZones H → Option ℕ
+abbrev pub bag_number : {H : Type 0} → ZonePlace → ZoneOwner H → Option ℕ
 bag_number place.Global x = if len x.global.gens + length x.global.mods == 0 then None else Some 0
 bag_number (place.Zone k) x = Some (length (global_bags x.global) + k)
 
@@ -67,7 +67,7 @@ abbrev pub no_global : GlobalZone
 no_global = record { gens = empty; mods = [] }
 
 -- the owner with this head and these bags; the first bag is that of the global zone if it has no target
-abbrev pub owner_in : {H : Type 0} → ℕ → H → List Bag → WithZones H
+abbrev pub owner_in : {H : Type 0} → ℕ → H → List Bag → ZoneOwner H
 owner_in op head [] = record { head = head; global = no_global; zones = [] }
 owner_in op head (b ∷ bs) =
     if ends_in op b.gens
@@ -82,6 +82,6 @@ pub record IsPlain (op : ℕ) (gens : Gens) : Type 0 where
   pub fit : FitGens gens
 
 -- all maps of a preset or an instrument are such maps
-pub record IsPlainOwner {H : Type 0} (op : ℕ) (x : WithZones H) : Type 0 where
+pub record IsPlainOwner {H : Type 0} (op : ℕ) (x : ZoneOwner H) : Type 0 where
   pub global : IsPlain op x.global.gens
   pub zones : AllByRecursion (λ (z : Zone). IsPlain op z.gens) x.zones

@@ -10,13 +10,13 @@ abbrev pub bag_size : Bag → ℕ
 bag_size b = length b.gens + length b.mods
 
 -- bag k of owner i, which is b, changed by f, which removes one record; a bag is removed with its last record
-abbrev pub record_taken : List (List Bag) → ℕ → ℕ → (Bag → Bag) → Bag → List (List Bag)
-record_taken bags i k f b = if bag_size b == 1 then changed bags i (λ own. remove own k) else bag_changed bags i k f
+abbrev pub record_removed : List (List Bag) → ℕ → ℕ → (Bag → Bag) → Bag → List (List Bag)
+record_removed bags i k f b = if bag_size b == 1 then changed bags i (λ own. remove own k) else bag_changed bags i k f
 
 -- generator j of bag k of owner i, which is b, removed
-abbrev pub gen_taken : List (List Bag) → ℕ → ℕ → ℕ → Bag → List (List Bag)
-gen_taken bags i k j b = record_taken bags i k (λ (b : Bag). with_gens (cut b.gens j 1) b) b
+abbrev pub gen_record_removed : List (List Bag) → ℕ → ℕ → ℕ → Bag → List (List Bag)
+gen_record_removed bags i k j b = record_removed bags i k (λ (b : Bag). with_gens (cut b.gens j 1) b) b
 
 -- modulator j of bag k of owner i, which is b, removed
-abbrev pub mod_taken : List (List Bag) → ℕ → ℕ → ℕ → Bag → List (List Bag)
-mod_taken bags i k j b = record_taken bags i k (λ (b : Bag). with_mods (cut b.mods j 1) b) b
+abbrev pub mod_record_removed : List (List Bag) → ℕ → ℕ → ℕ → Bag → List (List Bag)
+mod_record_removed bags i k j b = record_removed bags i k (λ (b : Bag). with_mods (cut b.mods j 1) b) b

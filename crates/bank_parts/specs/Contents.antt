@@ -7,19 +7,19 @@ use Rattle.generators.specs.Levels.{is_allowed}
 use Rattle.generators.specs.Ranges.{is_range_operator}
 use Rattle.generators.specs.declared.level.Level.{Level}
 use Rattle.bank_parts.specs.declared.parts.Zone.{Zone}
-use Rattle.bank_parts.specs.declared.parts.WithZones.{WithZones}
+use Rattle.bank_parts.specs.declared.parts.ZoneOwner.{ZoneOwner}
 
 -- the target of a zone is not below count, the number of instruments or samples
-abbrev pub misses_target : {H : Type 0} → ℕ → WithZones H → Bool
-misses_target count x = list_any (λ (z : Zone). nat_le count z.target) x.zones
+abbrev pub has_missing_target : {H : Type 0} → ℕ → ZoneOwner H → Bool
+has_missing_target count x = list_any (λ (z : Zone). nat_le count z.target) x.zones
 
 -- the level does not allow some generator
-abbrev pub sets_foreign : Level → Gens → Bool
-sets_foreign at gens = list_any (λ (e : ℕ × ℕ). not (is_allowed at e.0)) (entries gens)
+abbrev pub sets_bad_generator : Level → Gens → Bool
+sets_bad_generator at gens = list_any (λ (e : ℕ × ℕ). not (is_allowed at e.0)) (entries gens)
 
 -- the level does not allow some generator of the global zone or of a zone
-abbrev pub has_foreign : {H : Type 0} → Level → WithZones H → Bool
-has_foreign at x = sets_foreign at x.global.gens || list_any (λ (z : Zone). sets_foreign at z.gens) x.zones
+abbrev pub has_bad_generator : {H : Type 0} → Level → ZoneOwner H → Bool
+has_bad_generator at x = sets_bad_generator at x.global.gens || list_any (λ (z : Zone). sets_bad_generator at z.gens) x.zones
 
 -- a key or velocity range that is reversed or exceeds 127
 abbrev pub is_bad_range : ℕ × ℕ → Bool
@@ -30,5 +30,5 @@ abbrev pub sets_bad_range : Gens → Bool
 sets_bad_range gens = list_any is_bad_range (entries gens)
 
 -- some generator of the global zone or of a zone is such a range
-abbrev pub has_bad_range : {H : Type 0} → WithZones H → Bool
+abbrev pub has_bad_range : {H : Type 0} → ZoneOwner H → Bool
 has_bad_range x = sets_bad_range x.global.gens || list_any (λ (z : Zone). sets_bad_range z.gens) x.zones

@@ -4,7 +4,7 @@ use Rattle.std.specs.FinMap.{len}
 use Rattle.bank_parts.specs.declared.counting.Records.{Records}
 use Rattle.bank_parts.specs.declared.parts.GlobalZone.{GlobalZone}
 use Rattle.bank_parts.specs.declared.parts.Zone.{Zone}
-use Rattle.bank_parts.specs.declared.parts.WithZones.{WithZones}
+use Rattle.bank_parts.specs.declared.parts.ZoneOwner.{ZoneOwner}
 use Rattle.bank_parts.specs.Valid.{global_count, zone_count, gen_count, mod_count}
 
 -- the records of a zone; its target counts as a generator
@@ -21,7 +21,7 @@ records_of global zones =
     record { zones = zone_count global zones; gens = gen_count global zones; mods = mod_count global zones }
 
 -- the records of a preset or an instrument
-abbrev pub records_of_owner : {H : Type 0} → WithZones H → Records
+abbrev pub records_of_owner : {H : Type 0} → ZoneOwner H → Records
 records_of_owner x = records_of x.global x.zones
 
 -- the sum of the records of all members of a list

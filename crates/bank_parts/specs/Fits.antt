@@ -8,11 +8,11 @@ use Rattle.generators.specs.Gens.{FitGens}
 use Rattle.modulators.specs.Modulators.{FitsModulator}
 use Rattle.bank_parts.specs.declared.texts.Texts.{Texts}
 use Rattle.bank_parts.specs.declared.parts.Kind.{Kind}
-use Rattle.bank_parts.specs.Links.{OfLink}
+use Rattle.bank_parts.specs.Links.{IfLinked}
 use Rattle.bank_parts.specs.declared.parts.GlobalZone.{GlobalZone}
 use Rattle.bank_parts.specs.declared.parts.Zone.{Zone}
 use Rattle.bank_parts.specs.declared.parts.Head.{Head}
-use Rattle.bank_parts.specs.declared.parts.WithZones.{WithZones}
+use Rattle.bank_parts.specs.declared.parts.ZoneOwner.{ZoneOwner}
 use Rattle.bank_parts.specs.declared.parts.Sample.{Sample}
 use Rattle.bank_parts.specs.declared.parts.Parts.{Parts}
 
@@ -48,7 +48,7 @@ pub record FitsHead (h : Head) : Type 0 where
   pub morphology : h.morphology < 2 ^ 32
 
 -- a preset or an instrument
-pub record FitsOwner {H : Type 0} (IsFit : H → Type 0) (x : WithZones H) : Type 0 where
+pub record FitsOwner {H : Type 0} (IsFit : H → Type 0) (x : ZoneOwner H) : Type 0 where
   pub head : IsFit x.head
   pub global : FitsGlobal x.global
   pub zones : AllByRecursion FitsZone x.zones
@@ -60,7 +60,7 @@ FitsLoop (Some looped) = (looped.0 < 2 ^ 32) × (looped.1 < 2 ^ 32)
 
 -- the number of the linked sample, if there is one
 abbrev pub FitsKind : Kind → Type 0
-FitsKind kind = OfLink (λ link. link < 2 ^ 16) kind
+FitsKind kind = IfLinked (λ link. link < 2 ^ 16) kind
 
 pub record FitsSample (s : Sample) : Type 0 where
   pub name : IsName s.name

@@ -6,7 +6,7 @@ use Rattle.generators.specs.declared.level.Level.TheVariants as level
 use Rattle.modulators.specs.declared.modulator.Modulator.{Modulator}
 use Rattle.flat_records.specs.Bags.{Bag, tables_of}
 use Rattle.bank_owner_bags.specs.Owned as owned
-use Rattle.bank_parts.specs.declared.parts.WithZones.{WithZones}
+use Rattle.bank_parts.specs.declared.parts.ZoneOwner.{ZoneOwner}
 use Rattle.bank_parts.specs.declared.parts.Parts.{Parts}
 use Rattle.bank_parts.specs.Bagged.{bags_of}
 
@@ -29,11 +29,11 @@ lists_of_bags owners = record {
 }
 
 -- the flat lists of these presets or instruments
-abbrev pub lists_of : {H : Type 0} → Level → List (WithZones H) → FlatLists
+abbrev pub lists_of : {H : Type 0} → Level → List (ZoneOwner H) → FlatLists
 lists_of at owners = lists_of_bags (map (bags_of (target_operator at)) owners)
 
 -- these are the heads and the flat lists of these presets or instruments
-pub record AreFlat {H : Type 0} (at : Level) (hs : List H) (lists : FlatLists) (owners : List (WithZones H)) : Type 0
+pub record AreFlat {H : Type 0} (at : Level) (hs : List H) (lists : FlatLists) (owners : List (ZoneOwner H)) : Type 0
   where
     pub heads : hs ≡ map (λ x. x.head) owners
     pub flat : lists ≡ lists_of at owners

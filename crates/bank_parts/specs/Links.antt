@@ -4,11 +4,11 @@ use Rattle.bank_parts.specs.declared.parts.Kind.{Kind}
 use Rattle.bank_parts.specs.declared.parts.Kind.TheVariants.{Mono, Right, Left, Linked}
 
 -- P holds of the number of the linked sample, if there is one
-abbrev pub OfLink : (ℕ → Type 0) → Kind → Type 0
-OfLink P Mono = Unit {0}
-OfLink P (Right link) = P link
-OfLink P (Left link) = P link
-OfLink P (Linked link) = P link
+abbrev pub IfLinked : (ℕ → Type 0) → Kind → Type 0
+IfLinked P Mono = Unit {0}
+IfLinked P (Right link) = P link
+IfLinked P (Left link) = P link
+IfLinked P (Linked link) = P link
 
 -- the sample is linked
 abbrev pub has_link : Kind → Bool

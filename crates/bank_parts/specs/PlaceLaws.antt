@@ -2,7 +2,7 @@
 use Rattle.std.specs.Prelude.{◌≡◌, ◌≢◌, ℕ, List, Some, slice_get}
 use Rattle.std.specs.Option.{option_map}
 use Rattle.bank_parts.specs.declared.parts.Zone.{Zone}
-use Rattle.bank_parts.specs.declared.parts.WithZones.{WithZones}
+use Rattle.bank_parts.specs.declared.parts.ZoneOwner.{ZoneOwner}
 use Rattle.bank_parts.specs.declared.owners.ZonePlace.{ZonePlace}
 use Rattle.bank_parts.specs.declared.owners.ZonePlace.TheVariants as place
 use Rattle.bank_parts.specs.Owners.{head_at, target_at}
@@ -11,24 +11,24 @@ use Rattle.bank_parts.specs.Settings.{Settings, settings_at, place_changed, zone
 -- ---- what is read after a change
 
 abbrev pub PlaceRead : Type 0 → Type 0
-PlaceRead H = (owners : List (WithZones H)) (i : ℕ) (at : ZonePlace) (f : Settings → Settings)
+PlaceRead H = (owners : List (ZoneOwner H)) (i : ℕ) (at : ZonePlace) (f : Settings → Settings)
     → settings_at (place_changed owners i at f) i at ≡ option_map f (settings_at owners i at)
 
 abbrev pub ZonesRead : Type 0 → Type 0
-ZonesRead H = (owners : List (WithZones H)) (i : ℕ) (f : List Zone → List Zone)
+ZonesRead H = (owners : List (ZoneOwner H)) (i : ℕ) (f : List Zone → List Zone)
     → zones_at (zones_changed owners i f) i ≡ option_map f (zones_at owners i)
 
 -- ---- a change and a change that undoes it
 
 abbrev pub PlaceReturns : Type 0 → Type 0
 PlaceReturns H =
-    (owners : List (WithZones H)) (i : ℕ) (at : ZonePlace) (f g : Settings → Settings) (s : Settings)
+    (owners : List (ZoneOwner H)) (i : ℕ) (at : ZonePlace) (f g : Settings → Settings) (s : Settings)
     → settings_at owners i at ≡ Some s → g (f s) ≡ s
     → place_changed (place_changed owners i at f) i at g ≡ owners
 
 abbrev pub ZonesReturn : Type 0 → Type 0
 ZonesReturn H =
-    (owners : List (WithZones H)) (i : ℕ) (f g : List Zone → List Zone) (zones : List Zone)
+    (owners : List (ZoneOwner H)) (i : ℕ) (f g : List Zone → List Zone) (zones : List Zone)
     → zones_at owners i ≡ Some zones → g (f zones) ≡ zones
     → zones_changed (zones_changed owners i f) i g ≡ owners
 
@@ -36,13 +36,13 @@ ZonesReturn H =
 
 abbrev pub PlaceKept : Type 0 → Type 0
 PlaceKept H =
-    (owners : List (WithZones H)) (i : ℕ) (at : ZonePlace) (f : Settings → Settings) (s : Settings)
+    (owners : List (ZoneOwner H)) (i : ℕ) (at : ZonePlace) (f : Settings → Settings) (s : Settings)
     → settings_at owners i at ≡ Some s → f s ≡ s
     → place_changed owners i at f ≡ owners
 
 abbrev pub ZonesKept : Type 0 → Type 0
 ZonesKept H =
-    (owners : List (WithZones H)) (i : ℕ) (f : List Zone → List Zone) (zones : List Zone)
+    (owners : List (ZoneOwner H)) (i : ℕ) (f : List Zone → List Zone) (zones : List Zone)
     → zones_at owners i ≡ Some zones → f zones ≡ zones
     → zones_changed owners i f ≡ owners
 
@@ -50,32 +50,32 @@ ZonesKept H =
 
 -- the other owners
 abbrev pub OthersStay : Type 0 → Type 0
-OthersStay H = (owners : List (WithZones H)) (i j : ℕ) (at : ZonePlace) (f : Settings → Settings) → j ≢ i
+OthersStay H = (owners : List (ZoneOwner H)) (i j : ℕ) (at : ZonePlace) (f : Settings → Settings) → j ≢ i
     → slice_get (place_changed owners i at f) j ≡ slice_get owners j
 
 abbrev pub OthersKeepZones : Type 0 → Type 0
-OthersKeepZones H = (owners : List (WithZones H)) (i j : ℕ) (f : List Zone → List Zone) → j ≢ i
+OthersKeepZones H = (owners : List (ZoneOwner H)) (i j : ℕ) (f : List Zone → List Zone) → j ≢ i
     → slice_get (zones_changed owners i f) j ≡ slice_get owners j
 
 -- the other places of the owner
 abbrev pub PlacesStay : Type 0 → Type 0
-PlacesStay H = (owners : List (WithZones H)) (i : ℕ) (at other : ZonePlace) (f : Settings → Settings) → other ≢ at
+PlacesStay H = (owners : List (ZoneOwner H)) (i : ℕ) (at other : ZonePlace) (f : Settings → Settings) → other ≢ at
     → settings_at (place_changed owners i at f) i other ≡ settings_at owners i other
 
 -- the global zone, if zones change
 abbrev pub GlobalStays : Type 0 → Type 0
-GlobalStays H = (owners : List (WithZones H)) (i j : ℕ) (f : List Zone → List Zone)
+GlobalStays H = (owners : List (ZoneOwner H)) (i j : ℕ) (f : List Zone → List Zone)
     → settings_at (zones_changed owners i f) j place.Global ≡ settings_at owners j place.Global
 
 -- heads and targets
 abbrev pub HeadsStay : Type 0 → Type 0
-HeadsStay H = (owners : List (WithZones H)) (i j : ℕ) (at : ZonePlace) (f : Settings → Settings)
+HeadsStay H = (owners : List (ZoneOwner H)) (i j : ℕ) (at : ZonePlace) (f : Settings → Settings)
     → head_at (place_changed owners i at f) j ≡ head_at owners j
 
 abbrev pub HeadsStayByZones : Type 0 → Type 0
-HeadsStayByZones H = (owners : List (WithZones H)) (i j : ℕ) (f : List Zone → List Zone)
+HeadsStayByZones H = (owners : List (ZoneOwner H)) (i j : ℕ) (f : List Zone → List Zone)
     → head_at (zones_changed owners i f) j ≡ head_at owners j
 
 abbrev pub TargetsStay : Type 0 → Type 0
-TargetsStay H = (owners : List (WithZones H)) (i j k : ℕ) (at : ZonePlace) (f : Settings → Settings)
+TargetsStay H = (owners : List (ZoneOwner H)) (i j k : ℕ) (at : ZonePlace) (f : Settings → Settings)
     → target_at (place_changed owners i at f) j k ≡ target_at owners j k

@@ -5,7 +5,7 @@ use Rattle.base_numbered_lists.specs.Renumbered.{renumbered}
 use Rattle.bank_parts.specs.declared.parts.Kind.{Kind}
 use Rattle.bank_parts.specs.declared.parts.Kind.TheVariants.{Mono, Right, Left, Linked}
 use Rattle.bank_parts.specs.declared.parts.Zone.{Zone}
-use Rattle.bank_parts.specs.declared.parts.WithZones.{WithZones}
+use Rattle.bank_parts.specs.declared.parts.ZoneOwner.{ZoneOwner}
 use Rattle.bank_parts.specs.declared.parts.Sample.{Sample}
 use Rattle.bank_parts.specs.declared.parts.Parts.{Parts}
 use Rattle.bank_parts.specs.Links.{has_link}
@@ -36,11 +36,11 @@ abbrev pub zone_renumbered : Renumbering → Zone → Zone
 zone_renumbered by z = record z { target = renumbered by z.target }
 
 -- a preset or an instrument with all its targets renumbered
-abbrev pub owner_renumbered : {H : Type 0} → Renumbering → WithZones H → WithZones H
+abbrev pub owner_renumbered : {H : Type 0} → Renumbering → ZoneOwner H → ZoneOwner H
 owner_renumbered by x = record x { zones = map (zone_renumbered by) x.zones }
 
 -- each renumbered target fits 16 bits
-abbrev pub CanRenumberOwner : {H : Type 0} → Renumbering → WithZones H → Type 0
+abbrev pub CanRenumberOwner : {H : Type 0} → Renumbering → ZoneOwner H → Type 0
 CanRenumberOwner by x = All (λ (z : Zone). renumbered by z.target < 2 ^ 16) x.zones
 
 -- the bank with all numbers of instruments renumbered

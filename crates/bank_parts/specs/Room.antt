@@ -10,14 +10,14 @@ use Rattle.bank_owner_bags.specs.Owned.{all_bags}
 use Rattle.bank_owner_bags.specs.Stored.{Stored}
 use Rattle.bank_parts.specs.declared.counting.Records.{Records}
 use Rattle.bank_parts.specs.declared.parts.Zone.{Zone}
-use Rattle.bank_parts.specs.declared.parts.WithZones.{WithZones}
+use Rattle.bank_parts.specs.declared.parts.ZoneOwner.{ZoneOwner}
 use Rattle.bank_parts.specs.declared.parts.Parts.{Parts}
 use Rattle.bank_parts.specs.Valid.{owner_total, zone_count, gen_count, mod_count}
 use Rattle.bank_parts.specs.Bagged.{IsPlainOwner}
 
 -- flat lists can hold these presets or instruments: fewer than 2 ^ 16 records of each kind, and no map has the
 -- operator of targets
-pub record AreStorable {H : Type 0} (at : Level) (owners : List (WithZones H)) : Type 0 where
+pub record AreStorable {H : Type 0} (at : Level) (owners : List (ZoneOwner H)) : Type 0 where
   pub zones : owner_total zone_count owners < 2 ^ 16
   pub gens : owner_total gen_count owners < 2 ^ 16
   pub mods : owner_total mod_count owners < 2 ^ 16
@@ -53,5 +53,5 @@ pub record HasRoom (s : Stored) (more : Records) : Type 0 where
   pub mods : more.mods ≤ s.spare.mods
 
 -- some map of a preset or an instrument has the operator
-abbrev pub has_operator : {H : Type 0} → ℕ → WithZones H → Bool
+abbrev pub has_operator : {H : Type 0} → ℕ → ZoneOwner H → Bool
 has_operator op x = is_some (get x.global.gens op) || list_any (λ (z : Zone). is_some (get z.gens op)) x.zones

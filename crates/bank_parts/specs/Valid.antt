@@ -12,12 +12,12 @@ use Rattle.generators.specs.Ranges.{is_range_operator, IsRange}
 use Rattle.generators.specs.declared.level.Level.{Level}
 use Rattle.generators.specs.declared.level.Level.TheVariants as level
 use Rattle.bank_parts.specs.declared.parts.Kind.{Kind}
-use Rattle.bank_parts.specs.Links.{OfLink}
+use Rattle.bank_parts.specs.Links.{IfLinked}
 use Rattle.bank_parts.specs.declared.texts.Texts.{Texts}
 use Rattle.bank_parts.specs.declared.parts.GlobalZone.{GlobalZone}
 use Rattle.bank_parts.specs.declared.parts.Zone.{Zone}
 use Rattle.bank_parts.specs.declared.parts.Head.{Head}
-use Rattle.bank_parts.specs.declared.parts.WithZones.{WithZones}
+use Rattle.bank_parts.specs.declared.parts.ZoneOwner.{ZoneOwner}
 use Rattle.bank_parts.specs.declared.parts.Sample.{Sample}
 use Rattle.bank_parts.specs.declared.parts.Parts.{Parts}
 
@@ -44,14 +44,14 @@ pub record AreZones (at : Level) (targets : ℕ) (shared : GlobalZone) (own : Li
 -- ---- presets, instruments, samples, texts
 
 -- a preset or an instrument, with zones valid at this level
-pub record IsOwner {H : Type 0} (name_of : H → List ℕ) (at : Level) (targets : ℕ) (x : WithZones H) : Type 0 where
+pub record IsOwner {H : Type 0} (name_of : H → List ℕ) (at : Level) (targets : ℕ) (x : ZoneOwner H) : Type 0 where
   pub name : IsName (name_of x.head)
   pub zones : AreZones at targets x.global x.zones
 
-abbrev pub IsPreset : ℕ → WithZones Head → Type 0
+abbrev pub IsPreset : ℕ → ZoneOwner Head → Type 0
 IsPreset instruments = IsOwner (λ (h : Head). h.name) level.Preset instruments
 
-abbrev pub IsInstrument : ℕ → WithZones (List ℕ) → Type 0
+abbrev pub IsInstrument : ℕ → ZoneOwner (List ℕ) → Type 0
 IsInstrument samples = IsOwner (λ name. name) level.Inst samples
 
 -- a loop of at least one point within n points
@@ -61,7 +61,7 @@ IsLoop n (Some looped) = (looped.0 < looped.1) × (looped.1 ≤ n)
 
 -- a link to one of n samples
 abbrev pub IsLink : ℕ → Kind → Type 0
-IsLink n kind = OfLink (λ link. link < n) kind
+IsLink n kind = IfLinked (λ link. link < n) kind
 
 pub record IsSample (samples : ℕ) (s : Sample) : Type 0 where
   pub name : IsName s.name
@@ -97,7 +97,7 @@ abbrev pub mod_count : GlobalZone → List Zone → ℕ
 mod_count global zones = length global.mods + sum_by (λ (z : Zone). length z.mods) zones
 
 -- the zones, the generators or the modulators of all presets, or of all instruments, as count counts them
-abbrev pub owner_total : {H : Type 0} → (GlobalZone → List Zone → ℕ) → List (WithZones H) → ℕ
+abbrev pub owner_total : {H : Type 0} → (GlobalZone → List Zone → ℕ) → List (ZoneOwner H) → ℕ
 owner_total count owners = sum_by (λ x. count x.global x.zones) owners
 
 -- the points of all samples, each with the zero points that follow it in a file

@@ -8,17 +8,17 @@ ghost use Rattle.bank_parts.specs.declared.counting.Records.{Records};
 ghost use Rattle.bank_parts.specs.Counts.{records_of_global, records_of_zone, records_of_owner, records_sum};
 ghost use Rattle.bank_parts.specs.Bagged.{zone_bag, global_bags, bags_of};
 ghost use Rattle.bank_parts.specs.Room.{CanHold, HasRoom, records_of_zones};
-ghost use Rattle.bank_parts.specs.Changes.{bag_size, gen_taken, mod_taken};
+ghost use Rattle.bank_parts.specs.Changes.{bag_size, gen_record_removed, mod_record_removed};
 
 use crate::counting::Records;
-use crate::parts::{GlobalZone, WithZones, Zone};
+use crate::parts::{GlobalZone, Zone, ZoneOwner};
 use crate::room::make_room;
 use bank_owner_bags::OwnerBags;
 use modulators::Modulator;
 use sf_base::OutOfMemory;
 
 /// Inserts the bag of a zone as bag `k` of owner `i`.
-pub(crate) fn put_zone(bags: &mut OwnerBags, i: usize, k: usize, operator: u16, zone: &Zone)
+pub(crate) fn insert_zone_bag(bags: &mut OwnerBags, i: usize, k: usize, operator: u16, zone: &Zone)
     requires place { IsSomeAnd (slice_get bags.old.owners i) (λ own. k ≤ length own) }
     requires room { HasRoom bags.old (records_of_zone zone.now) }
     ensures owners { bags.new.owners ≡ changed bags.old.owners i (λ own. insert own k (zone_bag operator zone.now)) }
@@ -30,13 +30,13 @@ pub(crate) fn put_zone(bags: &mut OwnerBags, i: usize, k: usize, operator: u16, 
 }
 
 /// Appends the bags of a preset or an instrument as the last owner.
-pub(crate) fn append_owner<H>(bags: &mut OwnerBags, operator: u16, owner: &WithZones<H>)
+pub(crate) fn append_owner<H>(bags: &mut OwnerBags, operator: u16, owner: &ZoneOwner<H>)
     requires room { HasRoom bags.old (records_of_owner owner.now) }
     requires owners { 0 < bags.old.spare_owners }
     ensures { bags.new.owners ≡ bags.old.owners ++ bags_of operator owner.now ∷ [] }
 {
     let i = bags.owner_count();
-    bags.open_owner(i);
+    bags.insert_empty_owner(i);
     append_global(bags, i, &owner.global);
     append_zones(bags, i, operator, owner.zones.as_slice());
 }
@@ -63,12 +63,12 @@ fn append_zones(bags: &mut OwnerBags, i: usize, operator: u16, zones: &[Zone])
 {
     for zone in zones {
         let count = bags.bag_count(i);
-        put_zone(bags, i, count, operator, zone);
+        insert_zone_bag(bags, i, count, operator, zone);
     }
 }
 
 /// Inserts a bag as the first of owner `i`.
-pub(crate) fn open_bag(
+pub(crate) fn insert_first_bag(
     bags: &mut OwnerBags,
     i: usize,
     gens: &[(u16, u16)],
@@ -90,9 +90,9 @@ pub(crate) fn open_bag(
 }
 
 /// Removes generator `j` of bag `k` of owner `i`, and the bag too if that was its last record.
-pub(crate) fn take_gen(bags: &mut OwnerBags, i: usize, k: usize, j: usize)
+pub(crate) fn remove_gen_record(bags: &mut OwnerBags, i: usize, k: usize, j: usize)
     requires { IsSomeAnd (bag_at bags.old.owners i k) (λ (b : Bag). j < length b.gens) }
-    ensures { IfSome (bag_at bags.old.owners i k) (λ (b : Bag). bags.new.owners ≡ gen_taken bags.old.owners i k j b) }
+    ensures { IfSome (bag_at bags.old.owners i k) (λ (b : Bag). bags.new.owners ≡ gen_record_removed bags.old.owners i k j b) }
 {
     if has_one_record(bags, i, k) {
         bags.cut_bag(i, k);
@@ -102,9 +102,9 @@ pub(crate) fn take_gen(bags: &mut OwnerBags, i: usize, k: usize, j: usize)
 }
 
 /// Removes modulator `j` of bag `k` of owner `i`, and the bag too if that was its last record.
-pub(crate) fn take_mod(bags: &mut OwnerBags, i: usize, k: usize, j: usize)
+pub(crate) fn remove_mod_record(bags: &mut OwnerBags, i: usize, k: usize, j: usize)
     requires { IsSomeAnd (bag_at bags.old.owners i k) (λ (b : Bag). j < length b.mods) }
-    ensures { IfSome (bag_at bags.old.owners i k) (λ (b : Bag). bags.new.owners ≡ mod_taken bags.old.owners i k j b) }
+    ensures { IfSome (bag_at bags.old.owners i k) (λ (b : Bag). bags.new.owners ≡ mod_record_removed bags.old.owners i k j b) }
 {
     if has_one_record(bags, i, k) {
         bags.cut_bag(i, k);

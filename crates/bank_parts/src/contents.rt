@@ -2,15 +2,15 @@
 ghost use Rattle.std.specs.Prelude.{◌≡◌};
 ghost use Rattle.std.specs.List.{list_any};
 ghost use Rattle.bank_parts.specs.declared.parts.Zone.{Zone};
-ghost use Rattle.bank_parts.specs.Contents.{misses_target, sets_foreign, has_foreign, is_bad_range, sets_bad_range, has_bad_range};
+ghost use Rattle.bank_parts.specs.Contents.{has_missing_target, sets_bad_generator, has_bad_generator, is_bad_range, sets_bad_range, has_bad_range};
 
-use crate::parts::{WithZones, Zone};
+use crate::parts::{Zone, ZoneOwner};
 use generators::{GenMap, Level, Range, allowed, is_range_operator};
 
-impl<H> WithZones<H> {
+impl<H> ZoneOwner<H> {
     /// Whether the target of any zone is not below `count`, the number of instruments or samples.
-    pub fn misses_target(&self, count: usize) -> bool
-        ensures { result ≡ misses_target count self.now }
+    pub fn has_missing_target(&self, count: usize) -> bool
+        ensures { result ≡ has_missing_target count self.now }
     {
         self.zones
             .as_slice()
@@ -20,10 +20,11 @@ impl<H> WithZones<H> {
 
     /// Whether any zone has a generator that the level does not allow (SoundFont 2.04, section 8.1.2). The target
     /// does not count as a generator.
-    pub fn has_foreign(&self, at: Level) -> bool
-        ensures { result ≡ has_foreign at self.now }
+    pub fn has_bad_generator(&self, at: Level) -> bool
+        ensures { result ≡ has_bad_generator at self.now }
     {
-        sets_foreign(at, &self.global.gens) || any_sets_foreign(at, self.zones.as_slice())
+        sets_bad_generator(at, &self.global.gens)
+            || any_sets_bad_generator(at, self.zones.as_slice())
     }
 
     /// Whether any zone has a key or velocity range that is reversed or exceeds 127 (SoundFont 2.04, section 8.1.2,
@@ -35,15 +36,15 @@ impl<H> WithZones<H> {
     }
 }
 
-fn any_sets_foreign(at: Level, zones: &[Zone]) -> bool
-    ensures { result ≡ list_any (λ (z : Zone). sets_foreign at z.gens) zones.now }
+fn any_sets_bad_generator(at: Level, zones: &[Zone]) -> bool
+    ensures { result ≡ list_any (λ (z : Zone). sets_bad_generator at z.gens) zones.now }
 {
-    zones.iter().any(|zone| sets_foreign(at, &zone.gens))
+    zones.iter().any(|zone| sets_bad_generator(at, &zone.gens))
 }
 
 /// Whether a map has an operator that the level does not allow (SoundFont 2.04, section 8.1.2).
-pub fn sets_foreign(at: Level, gens: &GenMap) -> bool
-    ensures { result ≡ sets_foreign at gens.now }
+pub fn sets_bad_generator(at: Level, gens: &GenMap) -> bool
+    ensures { result ≡ sets_bad_generator at gens.now }
 {
     gens.entries()
         .iter()

@@ -1,24 +1,24 @@
 //! Copies of banks and their parts, in memory of their own. Points and texts are not copied, but borrowed again.
 ghost use Rattle.std.specs.Prelude.{◌≡◌, IfOk};
 
-use crate::parts::{GlobalZone, Parts, Sample, WithZones, Zone};
+use crate::parts::{GlobalZone, Parts, Sample, Zone, ZoneOwner};
 use crate::texts::Texts;
 use bank_linked_members::LinkedMembers;
 use base_numbered_lists::NumberedList;
 use modulators::Modulator;
-use sf_base::{Lent, OutOfMemory};
+use sf_base::{BorrowedBytes, OutOfMemory};
 use std::alloc::Global;
 
 /// Values in the lists of a bank, which can be copied.
-pub trait CopyOut: Sized {
+pub trait TryClone: Sized {
     /// Returns an equal value in memory of its own, or `OutOfMemory`. Points and texts are borrowed again, not
     /// copied.
-    fn copy_out(&self, alloc: Global) -> Result<Self, OutOfMemory>
+    fn try_clone(&self, alloc: Global) -> Result<Self, OutOfMemory>
         ensures { IfOk result (λ copy. copy ≡ self.now) };
 }
 
-impl CopyOut for Zone {
-    fn copy_out(&self, alloc: Global) -> Result<Zone, OutOfMemory> {
+impl TryClone for Zone {
+    fn try_clone(&self, alloc: Global) -> Result<Zone, OutOfMemory> {
         Ok(Zone {
             target: self.target,
             gens: self.gens.copy(alloc)?,
@@ -27,9 +27,9 @@ impl CopyOut for Zone {
     }
 }
 
-impl<H: Copy> CopyOut for WithZones<H> {
-    fn copy_out(&self, alloc: Global) -> Result<WithZones<H>, OutOfMemory> {
-        Ok(WithZones {
+impl<H: Copy> TryClone for ZoneOwner<H> {
+    fn try_clone(&self, alloc: Global) -> Result<ZoneOwner<H>, OutOfMemory> {
+        Ok(ZoneOwner {
             head: self.head,
             global: copy_global(alloc, &self.global)?,
             zones: copy_list(alloc, &self.zones)?,
@@ -37,8 +37,8 @@ impl<H: Copy> CopyOut for WithZones<H> {
     }
 }
 
-impl<'a> CopyOut for Sample<'a> {
-    fn copy_out(&self, alloc: Global) -> Result<Sample<'a>, OutOfMemory> {
+impl<'a> TryClone for Sample<'a> {
+    fn try_clone(&self, alloc: Global) -> Result<Sample<'a>, OutOfMemory> {
         Ok(Sample {
             name: self.name,
             points: self.points.copy(alloc)?,
@@ -68,19 +68,19 @@ fn copy_texts<'a>(texts: &Texts<'a>) -> Texts<'a>
     ensures { result ≡ texts.now }
 {
     Texts {
-        engine: Lent::new(texts.engine.bytes()),
-        name: Lent::new(texts.name.bytes()),
-        date: Lent::new(texts.date.bytes()),
-        engineers: Lent::new(texts.engineers.bytes()),
-        product: Lent::new(texts.product.bytes()),
-        copyright: Lent::new(texts.copyright.bytes()),
-        comment: Lent::new(texts.comment.bytes()),
-        software: Lent::new(texts.software.bytes()),
+        engine: BorrowedBytes::new(texts.engine.bytes()),
+        name: BorrowedBytes::new(texts.name.bytes()),
+        date: BorrowedBytes::new(texts.date.bytes()),
+        engineers: BorrowedBytes::new(texts.engineers.bytes()),
+        product: BorrowedBytes::new(texts.product.bytes()),
+        copyright: BorrowedBytes::new(texts.copyright.bytes()),
+        comment: BorrowedBytes::new(texts.comment.bytes()),
+        software: BorrowedBytes::new(texts.software.bytes()),
     }
 }
 
 /// Returns a list of equal members, or `OutOfMemory`.
-pub(crate) fn copy_list<T: CopyOut + Drop>(
+pub(crate) fn copy_list<T: TryClone + Drop>(
     alloc: Global,
     list: &NumberedList<T>,
 ) -> Result<NumberedList<T>, OutOfMemory>
@@ -89,12 +89,12 @@ pub(crate) fn copy_list<T: CopyOut + Drop>(
     Ok(NumberedList::from_vec(copy_members(alloc, list.as_slice())?))
 }
 
-fn copy_members<T: CopyOut + Drop>(alloc: Global, members: &[T]) -> Result<Vec<T>, OutOfMemory>
+fn copy_members<T: TryClone + Drop>(alloc: Global, members: &[T]) -> Result<Vec<T>, OutOfMemory>
     ensures { IfOk result (λ copies. copies.items ≡ members.now) }
 {
     let mut copies = Vec::with_capacity(alloc, members.len())?;
     for member in members {
-        copies.push(member.copy_out(alloc)?)?;
+        copies.push(member.try_clone(alloc)?)?;
     }
     Ok(copies)
 }

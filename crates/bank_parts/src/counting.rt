@@ -2,7 +2,7 @@
 ghost use Rattle.std.specs.Prelude.{◌≡◌};
 ghost use Rattle.bank_parts.specs.Counts.{records_of_global, records_of_zone, records_of_owner, records_sum, all_counted};
 
-use crate::parts::{GlobalZone, WithZones, Zone};
+use crate::parts::{GlobalZone, Zone, ZoneOwner};
 
 /// Numbers of zone, generator and modulator records. The target of a zone counts as a generator, and an empty global
 /// zone counts as none.
@@ -26,7 +26,7 @@ impl Records {
     }
 }
 
-impl<H> WithZones<H> {
+impl<H> ZoneOwner<H> {
     /// How many records its zones have in a file. Each number saturates at 2^64 - 1, far above each limit.
     pub fn records(&self) -> Records
         ensures { result ≡ all_counted (records_of_owner self.now) }

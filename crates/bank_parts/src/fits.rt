@@ -5,10 +5,10 @@ ghost use Rattle.modulators.specs.Modulators.{FitsModulator};
 ghost use Rattle.bank_parts.specs.Fits.{FitsOwner, FitsGlobal, FitsZone, FitsSample, FitsLoop, FitsKind};
 
 use crate::heads::OwnerHead;
-use crate::parts::{GlobalZone, Kind, Sample, WithZones, Zone};
+use crate::parts::{GlobalZone, Kind, Sample, Zone, ZoneOwner};
 use modulators::Modulator;
 
-impl<H: OwnerHead> WithZones<H> {
+impl<H: OwnerHead> ZoneOwner<H> {
     /// The law that the head and the contents of all zones lie in the ranges of their fields. It does nothing.
     pub fn fits(&self)
         ensures { FitsOwner H.IsFit self.now }

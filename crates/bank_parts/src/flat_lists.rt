@@ -2,7 +2,7 @@
 ghost use Rattle.std.specs.Prelude.{◌≡◌, List, MatchOption, IfSome};
 ghost use Rattle.std.specs.List.{AllByRecursion};
 ghost use Rattle.generators.specs.Levels.{target_operator};
-ghost use Rattle.bank_parts.specs.declared.parts.WithZones.{WithZones};
+ghost use Rattle.bank_parts.specs.declared.parts.ZoneOwner.{ZoneOwner};
 ghost use Rattle.bank_parts.specs.Bagged.{IsPlainOwner};
 ghost use Rattle.bank_parts.specs.FlatLists.{AreFlat, lists_of};
 
@@ -10,7 +10,7 @@ use crate::heads::OwnerHead;
 use crate::level_contents::gens_fit;
 use crate::own_bags::are_all_bags;
 use crate::owners::Owners;
-use bank_linked_members::EndedList;
+use bank_linked_members::DoubleEndedList;
 use bank_owner_bags::OwnerBags;
 use base_numbered_lists::NumberedList;
 use flat_records::Recs;
@@ -21,7 +21,7 @@ impl<H: OwnerHead> Owners<H> {
     /// of their maps has the operator of targets. Allocates nothing.
     pub fn from_flat(heads: NumberedList<H>, first_bags: Vec<u16>, recs: Recs) -> Option<Owners<H>>
         ensures lists { MatchOption result
-            ((owners : List (WithZones H)) → AllByRecursion (IsPlainOwner (target_operator H.LEVEL)) owners
+            ((owners : List (ZoneOwner H)) → AllByRecursion (IsPlainOwner (target_operator H.LEVEL)) owners
             → ¬ AreFlat H.LEVEL heads (record { first_bags = first_bags.items; bags = recs.bags; gens = recs.gens; mods = recs.mods }) owners)
             (λ owners. AreFlat H.LEVEL heads (record { first_bags = first_bags.items; bags = recs.bags; gens = recs.gens; mods = recs.mods }) owners) }
         ensures plain { IfSome result (λ owners. AllByRecursion (IsPlainOwner (target_operator H.LEVEL)) owners) }
@@ -36,7 +36,7 @@ impl<H: OwnerHead> Owners<H> {
             return None;
         }
         gens_fit(bags.gen_records());
-        let heads = EndedList::from_vec(heads.into_vec());
+        let heads = DoubleEndedList::from_vec(heads.into_vec());
         Some(Owners { heads, bags })
     }
 

@@ -12,12 +12,12 @@ ghost use Rattle.bank_parts.specs.Owners.{targets};
 ghost use Rattle.bank_parts.specs.Counts.{records_of_owner, records_total, all_counted};
 ghost use Rattle.bank_parts.specs.Records.{is_target, is_valid_record};
 
+use crate::bag_targets::without_last;
 use crate::contents::is_bad_range;
 use crate::counting::Records;
 use crate::fits::modulator_fits;
 use crate::heads::OwnerHead;
 use crate::owners::Owners;
-use crate::reading::without_last;
 use generators::{Level, allowed};
 use modulators::Modulator;
 

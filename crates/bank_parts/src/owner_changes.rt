@@ -5,7 +5,7 @@ ghost use Rattle.std.specs.Prelude.{◌≡◌, ◌↔◌, IsTrue, ◌<◌, ◌�
 use crate::bag_changes::append_owner;
 use crate::heads::OwnerHead;
 use crate::owners::Owners;
-use crate::parts::WithZones;
+use crate::parts::ZoneOwner;
 use crate::room::{can_hold, has_operator, make_room};
 use sf_base::OutOfMemory;
 use std::alloc::Global;
@@ -13,7 +13,7 @@ use std::alloc::Global;
 impl<H: OwnerHead> Owners<H> {
     /// Inserts a preset or an instrument as number `i`; later ones move up by one. If an allocation fails, the list
     /// is unchanged and the argument is returned.
-    pub fn insert(&mut self, i: usize, owner: WithZones<H>) -> Result<(), WithZones<H>>
+    pub fn insert(&mut self, i: usize, owner: ZoneOwner<H>) -> Result<(), ZoneOwner<H>>
         requires place { i ≤ length self.old }
         requires storable { AreStorable H.LEVEL (insert self.old i owner) }
         ensures ok { OnOk result (self.new ≡ insert self.old i owner) }
@@ -36,7 +36,7 @@ impl<H: OwnerHead> Owners<H> {
 
     /// Whether the flat lists can hold one more: their records of each kind stay below 65,536, and none of its maps
     /// has the operator of targets.
-    pub fn has_room_for(&self, owner: &WithZones<H>) -> bool
+    pub fn has_room_for(&self, owner: &ZoneOwner<H>) -> bool
         ensures { IsTrue result ↔ AreStorable H.LEVEL (self.now ++ owner.now ∷ []) }
     {
         owner.fits();
@@ -45,7 +45,7 @@ impl<H: OwnerHead> Owners<H> {
 
     /// Appends one, for which [`has_room_for`](Owners::has_room_for) must hold. On `OutOfMemory` the list is
     /// unchanged.
-    pub fn push(&mut self, owner: WithZones<H>) -> Result<(), OutOfMemory>
+    pub fn push(&mut self, owner: ZoneOwner<H>) -> Result<(), OutOfMemory>
         requires { AreStorable H.LEVEL (self.old ++ owner ∷ []) }
         ensures ok { OnOk result (self.new ≡ self.old ++ owner ∷ []) }
         ensures err { OnErr result (self.new ≡ self.old) }
@@ -58,7 +58,7 @@ impl<H: OwnerHead> Owners<H> {
     }
 
     /// Removes number `i` and returns it; later ones move down by one. On `OutOfMemory` nothing changes.
-    pub fn remove(&mut self, alloc: Global, i: usize) -> Result<WithZones<H>, OutOfMemory>
+    pub fn remove(&mut self, alloc: Global, i: usize) -> Result<ZoneOwner<H>, OutOfMemory>
         requires { i < length self.old }
         ensures value { IfOk result (λ owner. slice_get self.old i ≡ Some owner) }
         ensures change { OnOk result (self.new ≡ remove self.old i) }

@@ -2,14 +2,14 @@
 ghost use Rattle.std.specs.Prelude.{◌≡◌, ◌<◌, length, slice_get, Some, IfOk};
 ghost use Rattle.std.specs.Option.{option_map};
 ghost use Rattle.bank_parts.specs.declared.owners.ZonePlace.TheVariants as place;
-ghost use Rattle.bank_parts.specs.declared.parts.WithZones.{WithZones};
+ghost use Rattle.bank_parts.specs.declared.parts.ZoneOwner.{ZoneOwner};
 ghost use Rattle.bank_parts.specs.Owners.{HasPlace, zone_at, gens_at, mods_at};
 ghost use Rattle.bank_parts.specs.Settings.{zones_at};
 
 use crate::heads::OwnerHead;
 use crate::owners::{Owners, ZonePlace};
-use crate::parts::{GlobalZone, WithZones, Zone};
-use bank_linked_members::EndedList;
+use crate::parts::{GlobalZone, Zone, ZoneOwner};
+use bank_linked_members::DoubleEndedList;
 use base_numbered_lists::NumberedList;
 use generators::GenMap;
 use modulators::Modulator;
@@ -29,13 +29,13 @@ impl<H: OwnerHead> Owners<H> {
     }
 
     /// Returns a copy of owner `i`, in memory of its own.
-    pub(crate) fn copy_owner(&self, alloc: Global, i: usize) -> Result<WithZones<H>, OutOfMemory>
+    pub(crate) fn copy_owner(&self, alloc: Global, i: usize) -> Result<ZoneOwner<H>, OutOfMemory>
         requires { i < length self.now }
         ensures { IfOk result (λ owner. slice_get self.now i ≡ Some owner) }
     {
         let global = self.copy_global(alloc, i)?;
         let zones = self.copy_zones(alloc, i)?;
-        Ok(WithZones {
+        Ok(ZoneOwner {
             head: *self.head(i),
             global,
             zones,
@@ -44,7 +44,7 @@ impl<H: OwnerHead> Owners<H> {
 
     fn copy_global(&self, alloc: Global, i: usize) -> Result<GlobalZone, OutOfMemory>
         requires { i < length self.now }
-        ensures { IfOk result (λ global. option_map (λ (x : WithZones H). x.global) (slice_get self.now i) ≡ Some global) }
+        ensures { IfOk result (λ global. option_map (λ (x : ZoneOwner H). x.global) (slice_get self.now i) ≡ Some global) }
     {
         let gens = self.copy_gens(alloc, i, ZonePlace::Global)?;
         let mods = self.copy_mods(alloc, i, ZonePlace::Global)?;
@@ -90,7 +90,7 @@ impl<H: OwnerHead> Owners<H> {
         let heads = Vec::from_slice(alloc, self.heads.as_slice())?;
         let bags = self.bags.copy(alloc)?;
         Ok(Owners {
-            heads: EndedList::from_vec(heads),
+            heads: DoubleEndedList::from_vec(heads),
             bags,
         })
     }

@@ -2,13 +2,13 @@
 ghost use Rattle.std.specs.Prelude.{◌≡◌, ◌<◌, ◌+◌, length, slice_get, [], Some, IfOk, IfSome};
 ghost use Rattle.generators.specs.Levels.{target_operator};
 ghost use Rattle.base_numbered_lists.specs.Moved.{moved, changed};
-ghost use Rattle.bank_parts.specs.declared.parts.WithZones.{WithZones};
+ghost use Rattle.bank_parts.specs.declared.parts.ZoneOwner.{ZoneOwner};
 ghost use Rattle.bank_parts.specs.Owners.{head_at, with_head, zone_count_at};
 ghost use Rattle.bank_parts.specs.Bagged.{global_bags};
 
+use crate::bag_targets::ends_in;
 use crate::heads::OwnerHead;
-use crate::reading::ends_in;
-use bank_linked_members::EndedList;
+use bank_linked_members::DoubleEndedList;
 use bank_owner_bags::OwnerBags;
 use sf_base::OutOfMemory;
 use std::alloc::Global;
@@ -27,7 +27,7 @@ pub enum ZonePlace {
 /// Flat lists hold at most 65,535 zones, generators and modulators in all, and no map with the operator of targets
 /// (SoundFont 2.04, sections 7.3 to 7.9). A call that adds some requires that the result fits.
 pub struct Owners<H: OwnerHead> {
-    pub(crate) heads: EndedList<H>,
+    pub(crate) heads: DoubleEndedList<H>,
     pub(crate) bags: OwnerBags,
 }
 
@@ -44,10 +44,10 @@ impl<H: OwnerHead> Model for Owners<H> {
     ghost use Rattle.std.specs.Coded.{codes};
     ghost use Rattle.generators.specs.Levels.{target_operator};
     ghost use Rattle.generators.specs.contracts.gen_map.GenMap as gens;
-    ghost use Rattle.bank_parts.specs.declared.parts.WithZones.{WithZones};
+    ghost use Rattle.bank_parts.specs.declared.parts.ZoneOwner.{ZoneOwner};
     ghost use Rattle.bank_parts.specs.Flat.{owners_in, AreRead};
 
-    ghost Value = { List (WithZones H) };
+    ghost Value = { List (ZoneOwner H) };
 
     ghost coded = { Prim.hlevel (codes, gens.the_row.coded) };
 
@@ -61,7 +61,7 @@ impl<H: OwnerHead> Owners<H> {
     pub fn with_capacity(alloc: Global, count: usize) -> Result<Owners<H>, OutOfMemory>
         ensures { IfOk result (λ owners. owners ≡ []) }
     {
-        let heads = EndedList::from_vec(Vec::with_capacity(alloc, count)?);
+        let heads = DoubleEndedList::from_vec(Vec::with_capacity(alloc, count)?);
         let mut bags = OwnerBags::new(alloc)?;
         bags.reserve(count, 0, 0, 0)?;
         Ok(Owners { heads, bags })
@@ -113,7 +113,7 @@ impl<H: OwnerHead> Owners<H> {
     // How many bags its global zone has: one, or none if it is empty.
     pub(crate) fn global_count(&self, i: usize) -> usize
         requires { i < length self.now }
-        ensures { IfSome (slice_get self.now i) (λ (x : WithZones H). result ≡ length (global_bags x.global)) }
+        ensures { IfSome (slice_get self.now i) (λ (x : ZoneOwner H). result ≡ length (global_bags x.global)) }
     {
         let count = self.bags.bag_count(i);
         if count == 0 {

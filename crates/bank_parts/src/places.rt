@@ -4,13 +4,13 @@ ghost use Rattle.std.specs.FinMap.{get, len};
 ghost use Rattle.std.specs.Option.{option_map};
 ghost use Rattle.generators.specs.Gens.{FitGens};
 ghost use Rattle.bank_parts.specs.declared.owners.ZonePlace.TheVariants as place;
-ghost use Rattle.bank_parts.specs.declared.parts.WithZones.{WithZones};
+ghost use Rattle.bank_parts.specs.declared.parts.ZoneOwner.{ZoneOwner};
 ghost use Rattle.bank_parts.specs.Owners.{HasPlace, zone_count_at, target_at, gens_at, entries_at, mods_at};
 ghost use Rattle.bank_parts.specs.Bagged.{global_bags, bag_number};
 
+use crate::bag_targets::{last_amount, without_target};
 use crate::heads::OwnerHead;
 use crate::owners::{Owners, ZonePlace};
-use crate::reading::{last_amount, without_target};
 use generators::search_entries;
 use modulators::Modulator;
 
@@ -29,7 +29,7 @@ impl<H: OwnerHead> Owners<H> {
     // have.
     pub(crate) fn zone_bag(&self, i: usize, k: usize) -> usize
         requires { IsSomeAnd (zone_count_at self.now i) (λ count. k ≤ count) }
-        ensures { IfSome (slice_get self.now i) (λ (x : WithZones H). result ≡ length (global_bags x.global) + k) }
+        ensures { IfSome (slice_get self.now i) (λ (x : ZoneOwner H). result ≡ length (global_bags x.global) + k) }
     {
         let _count = self.bags.bag_count(i);
         self.global_count(i) + k
@@ -38,7 +38,7 @@ impl<H: OwnerHead> Owners<H> {
     // The index of the bag of a place among the bags of owner i; none for an empty global zone.
     pub(crate) fn place_bag(&self, i: usize, place: ZonePlace) -> Option<usize>
         requires { HasPlace self.now i place }
-        ensures { IfSome (slice_get self.now i) (λ (x : WithZones H). result ≡ bag_number place x) }
+        ensures { IfSome (slice_get self.now i) (λ (x : ZoneOwner H). result ≡ bag_number place x) }
     {
         match place {
             ZonePlace::Global => {

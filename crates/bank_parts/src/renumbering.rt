@@ -7,10 +7,10 @@ use base_numbered_lists::{Renumber, Renumbering};
 impl<'a> Renumber for Sample<'a> {
     ghost use Rattle.std.specs.Prelude.{ℕ, ◌<◌, ◌^◌};
     ghost use Rattle.base_numbered_lists.specs.Renumbered.{renumbered};
-    ghost use Rattle.bank_parts.specs.Links.{OfLink};
+    ghost use Rattle.bank_parts.specs.Links.{IfLinked};
     ghost use Rattle.bank_parts.specs.Renumbered.{sample_renumbered};
 
-    ghost can_renumber = { λ by s. OfLink (λ link. renumbered by link < 2 ^ 16) s.kind };
+    ghost can_renumber = { λ by s. IfLinked (λ link. renumbered by link < 2 ^ 16) s.kind };
 
     ghost with_new_numbers = { sample_renumbered };
 

@@ -7,7 +7,7 @@ ghost use Rattle.bank_parts.specs.declared.parts.Zone.{Zone};
 ghost use Rattle.bank_parts.specs.Room.{CanHold, HasRoom, has_operator};
 
 use crate::counting::Records;
-use crate::parts::{WithZones, Zone};
+use crate::parts::{Zone, ZoneOwner};
 use bank_owner_bags::OwnerBags;
 use generators::GenMap;
 use sf_base::OutOfMemory;
@@ -49,7 +49,7 @@ pub(crate) fn make_room(
 }
 
 /// Whether a map of a preset or an instrument has the operator.
-pub(crate) fn has_operator<H>(operator: u16, owner: &WithZones<H>) -> bool
+pub(crate) fn has_operator<H>(operator: u16, owner: &ZoneOwner<H>) -> bool
     ensures { result ≡ has_operator operator owner.now }
 {
     is_set(operator, &owner.global.gens) || any_has(operator, owner.zones.as_slice())

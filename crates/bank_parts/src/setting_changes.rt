@@ -1,12 +1,12 @@
 //! Changes of the generators and modulators at a place of a preset or an instrument.
 ghost use Rattle.std.specs.Prelude.{◌≡◌, ◌<◌, ◌≤◌, Some, None, length, slice_get, IsSome, IsOk, IfSome, IfOk, OnOk, OnErr};
-ghost use Rattle.bank_parts.specs.declared.parts.WithZones.{WithZones};
+ghost use Rattle.bank_parts.specs.declared.parts.ZoneOwner.{ZoneOwner};
 ghost use Rattle.bank_parts.specs.Bagged.{bag_number};
 ghost use Rattle.bank_parts.specs.Owners.{HasPlace, mods_at, amount_at, mod_at};
 ghost use Rattle.bank_parts.specs.Room.{AreStorable};
 ghost use Rattle.bank_parts.specs.ZoneChanges.{gen_set, gen_cleared, mod_added, mod_removed, mod_set};
 
-use crate::bag_changes::{open_bag, take_gen, take_mod};
+use crate::bag_changes::{insert_first_bag, remove_gen_record, remove_mod_record};
 use crate::counting::Records;
 use crate::heads::OwnerHead;
 use crate::owners::{Owners, ZonePlace};
@@ -33,7 +33,7 @@ impl<H: OwnerHead> Owners<H> {
         ensures needs_no_memory { IsSome (amount_at self.old i place operator) → IsOk result }
     {
         let Some(at) = self.place_bag(i, place) else {
-            open_bag(&mut self.bags, i, &[(operator, amount)], &[])?;
+            insert_first_bag(&mut self.bags, i, &[(operator, amount)], &[])?;
             return Ok(None);
         };
         let entries = self.entries(i, place);
@@ -64,7 +64,7 @@ impl<H: OwnerHead> Owners<H> {
         match search_entries(entries, operator) {
             Ok(j) => {
                 let was = entries[j].1;
-                take_gen(&mut self.bags, i, at, j);
+                remove_gen_record(&mut self.bags, i, at, j);
                 Some(was)
             }
             Err(_) => None,
@@ -87,7 +87,7 @@ impl<H: OwnerHead> Owners<H> {
         ensures err { OnErr result (self.new ≡ self.old) }
     {
         let Some(at) = self.place_bag(i, place) else {
-            open_bag(&mut self.bags, i, &[], &[modulator])?;
+            insert_first_bag(&mut self.bags, i, &[], &[modulator])?;
             return Ok(());
         };
         make_room(&mut self.bags, 0, ONE_MODULATOR)?;
@@ -103,7 +103,7 @@ impl<H: OwnerHead> Owners<H> {
         ensures change { self.new ≡ mod_removed self.old i place j }
     {
         let (at, was) = self.bag_and_mod(i, place, j);
-        take_mod(&mut self.bags, i, at, j);
+        remove_mod_record(&mut self.bags, i, at, j);
         was
     }
 
@@ -129,7 +129,7 @@ impl<H: OwnerHead> Owners<H> {
     fn bag_and_mod(&self, i: usize, place: ZonePlace, j: usize) -> (usize, Modulator)
         requires there { HasPlace self.now i place }
         requires index { IfSome (mods_at self.now i place) (λ mods. j < length mods) }
-        ensures bag { IfSome (slice_get self.now i) (λ (x : WithZones H). Some result.0 ≡ bag_number place x) }
+        ensures bag { IfSome (slice_get self.now i) (λ (x : ZoneOwner H). Some result.0 ≡ bag_number place x) }
         ensures value { mod_at self.now i place j ≡ Some result.1 }
     {
         let Some(at) = self.place_bag(i, place) else {

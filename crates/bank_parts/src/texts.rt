@@ -2,7 +2,7 @@
 ghost use Rattle.std.specs.Prelude.{◌≡◌};
 ghost use Rattle.bank_parts.specs.Texts.{text_of};
 
-use sf_base::Lent;
+use sf_base::BorrowedBytes;
 
 /// Which of the eight texts (SoundFont 2.04, section 5).
 #[derive(Clone, Copy, Debug, PartialEq, Eq)]
@@ -29,14 +29,14 @@ pub enum InfoId {
 /// comment 65,535; no byte is zero, and the engine is not empty.
 #[derive(Debug, Drop)]
 pub struct Texts<'a> {
-    pub engine: Lent<'a>,
-    pub name: Lent<'a>,
-    pub date: Lent<'a>,
-    pub engineers: Lent<'a>,
-    pub product: Lent<'a>,
-    pub copyright: Lent<'a>,
-    pub comment: Lent<'a>,
-    pub software: Lent<'a>,
+    pub engine: BorrowedBytes<'a>,
+    pub name: BorrowedBytes<'a>,
+    pub date: BorrowedBytes<'a>,
+    pub engineers: BorrowedBytes<'a>,
+    pub product: BorrowedBytes<'a>,
+    pub copyright: BorrowedBytes<'a>,
+    pub comment: BorrowedBytes<'a>,
+    pub software: BorrowedBytes<'a>,
 }
 
 impl<'a> Texts<'a> {

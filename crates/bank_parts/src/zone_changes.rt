@@ -5,7 +5,7 @@ ghost use Rattle.bank_parts.specs.Owners.{HasPlace, zone_count_at, zone_at, targ
 ghost use Rattle.bank_parts.specs.Room.{AreStorable};
 ghost use Rattle.bank_parts.specs.ZoneChanges.{zone_added, zone_removed, zone_moved, target_set};
 
-use crate::bag_changes::put_zone;
+use crate::bag_changes::insert_zone_bag;
 use crate::heads::OwnerHead;
 use crate::owners::Owners;
 use crate::parts::Zone;
@@ -29,7 +29,7 @@ impl<H: OwnerHead> Owners<H> {
         let Ok(()) = make_room(&mut self.bags, 0, zone.records()) else {
             return Err(zone);
         };
-        put_zone(&mut self.bags, i, at, operator, &zone);
+        insert_zone_bag(&mut self.bags, i, at, operator, &zone);
         Ok(())
     }
 

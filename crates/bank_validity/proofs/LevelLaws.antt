@@ -31,15 +31,15 @@ unchanged level.Preset t = refl
 unchanged level.Inst t = refl
 
 -- a change that g undoes
-pub taken_back : (at : Level) (f g : LevelTotals → LevelTotals) → ((l : LevelTotals) → g (f l) ≡ l) → (t : Totals)
+pub change_undone : (at : Level) (f g : LevelTotals → LevelTotals) → ((l : LevelTotals) → g (f l) ≡ l) → (t : Totals)
     → level_changed at g (level_changed at f t) ≡ t
-taken_back at f g back t =
+change_undone at f g back t =
     changed_twice at f g t ∙ (changed_by at (λ l. g (f l)) (λ l. l) t (back (totals_at at t)) ∙ unchanged at t)
 
 -- if the changed totals are equal, the old totals of the level were
 pub same_before : (at : Level) (f g : LevelTotals → LevelTotals) → ((l : LevelTotals) → g (f l) ≡ l) → (t u : Totals)
     → level_changed at f t ≡ level_changed at f u → t ≡ u
-same_before at f g back t u e = sym (taken_back at f g back t) ∙ (ap (level_changed at g) e ∙ taken_back at f g back u)
+same_before at f g back t u e = sym (change_undone at f g back t) ∙ (ap (level_changed at g) e ∙ change_undone at f g back u)
 
 -- totals that become equal by a change of one level differ only in that level
 pub same_beside : (at : Level) (f g : LevelTotals → LevelTotals) (t u : Totals)

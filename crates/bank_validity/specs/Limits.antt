@@ -10,13 +10,13 @@ use Rattle.bank_validity.specs.declared.totals.Totals.{Totals}
 use Rattle.bank_validity.specs.declared.limits.Limit.{Limit}
 use Rattle.bank_validity.specs.declared.limits.Limit.TheVariants.{Presets, Instruments, Samples, Zones, Generators}
 use Rattle.bank_validity.specs.declared.limits.Limit.TheVariants.{Modulators, Points}
-use Rattle.bank_parts.specs.declared.parts.WithZones.{WithZones}
+use Rattle.bank_parts.specs.declared.parts.ZoneOwner.{ZoneOwner}
 use Rattle.bank_parts.specs.declared.parts.Parts.{Parts}
 use Rattle.bank_parts.specs.Counts.{counted, all_counted, records_sum}
 use Rattle.bank_parts.specs.Valid.{owner_total, zone_count, gen_count, mod_count, point_total}
 
 -- the number of presets or of instruments, and of their records
-abbrev pub level_totals : {H : Type 0} → List (WithZones H) → LevelTotals
+abbrev pub level_totals : {H : Type 0} → List (ZoneOwner H) → LevelTotals
 level_totals owners = record {
   count = length owners;
   records =

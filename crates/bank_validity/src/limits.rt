@@ -112,7 +112,7 @@ impl Totals {
     }
 
     /// The first limit that is broken after a preset or an instrument with `more` records is added. Their numbers
-    /// may be saturated, as those of `WithZones::records` are.
+    /// may be saturated, as those of `ZoneOwner::records` are.
     pub fn broken_with_owner(self, at: Level, more: Records) -> Option<Limit>
         requires { broken self ≡ None }
         ensures { (r : Records) → more ≡ all_counted r → result ≡ broken (with_owner at self r) }

@@ -14,9 +14,9 @@ use Rattle.modulators.specs.declared.modulator.Modulator.{Modulator}
 use Rattle.bank_zone_ranges.specs.declared.axes.Axis.{Axis}
 use Rattle.bank_parts.specs.declared.parts.Zone.{Zone}
 use Rattle.bank_zone_ranges.specs.Ranges.{range_operator, without_range}
-use Rattle.bank_zone_ranges.specs.Splits.{same_gens as gens_test, same_mod, same_mods, are_alike}
-use Rattle.bank_zone_ranges.proofs.Parting.{all_at}
-use Rattle.bank_zone_ranges.specs.Alike.{AgreesBut, AgreeBut}
+use Rattle.bank_zone_ranges.specs.Splits.{same_gens as gens_test, same_mod, same_mods, agree_but_range}
+use Rattle.bank_zone_ranges.proofs.SplitLists.{all_at}
+use Rattle.bank_zone_ranges.specs.Agreement.{AgreesBut, AgreeBut}
 
 all_by_place : {X : Type 0} (P : X → Type 0) (xs : List X) → ((j : ℕ) (x : X) → slice_get xs j ≡ Some x → P x)
     → AllByRecursion P xs
@@ -27,17 +27,17 @@ get-remove_other : (m : Gens) (op q : ℕ) → q ≢ op → map.get (map.remove 
 get-remove_other m op q differ = get-remove_any m op q ∙ ap (λ b. cond b None (map.get m q)) (untied q op differ)
 
 -- m has every generator of n, apart from op
-says : (m n : Gens) (op q w : ℕ) → AgreeBut m op n → q ≢ op → map.get n q ≡ Some w → map.get m q ≡ Some w
-says m n op q w h differ e =
+agreed_amount : (m n : Gens) (op q w : ℕ) → AgreeBut m op n → q ≢ op → map.get n q ≡ Some w → map.get m q ≡ Some w
+agreed_amount m n op q w h differ e =
     let (j, at) = entries.set_is_entry n q w e in all_at (AgreesBut m op) (map.entries n) j (q, w) at h differ
 
 same_else : (m n : Gens) (op q : ℕ) → AgreeBut m op n → AgreeBut n op m → q ≢ op → map.get m q ≡ map.get n q
 same_else m n op q h k differ =
     (elim (map.get n q) as (λ o. map.get n q ≡ o → map.get m q ≡ o) [
-      | Some w ↦ λ e. says m n op q w h differ e
+      | Some w ↦ λ e. agreed_amount m n op q w h differ e
       | None ↦ λ e. (elim (map.get m q) as (λ o. map.get m q ≡ o → o ≡ None) [
         | None ↦ λ f. refl
-        | Some w ↦ λ f. let g = says n m op q w k differ f in cc
+        | Some w ↦ λ f. let g = agreed_amount n m op q w k differ f in cc
       ]) refl
     ]) refl
 
@@ -162,7 +162,7 @@ gens_of_entries : (m n : Gens) → map.entries m ≡ map.entries n → m ≡ n
 gens_of_entries m n e = sym (entries.from_entries-entries m) ∙ ap map.from_entries e ∙ entries.from_entries-entries n
 
 -- zones are alike exactly if they are equal without their ranges
-pub alike_is : (axis : Axis) (y z : Zone) → are_alike axis y z ≡ true → without_range axis y ≡ without_range axis z
+pub alike_is : (axis : Axis) (y z : Zone) → agree_but_range axis y z ≡ true → without_range axis y ≡ without_range axis z
 alike_is axis y z h =
     let t = y.target == z.target in
     let g = gens_test (map.entries (without_range axis y).gens) (map.entries (without_range axis z).gens) in
@@ -176,7 +176,7 @@ alike_is axis y z h =
       mods_are y.mods z.mods (both_right (t && g) m h),
     )
 
-pub is_alike : (axis : Axis) (y z : Zone) → without_range axis y ≡ without_range axis z → are_alike axis y z ≡ true
+pub is_alike : (axis : Axis) (y z : Zone) → without_range axis y ≡ without_range axis z → agree_but_range axis y z ≡ true
 is_alike axis y z e =
     let parts = (alike_zones axis y z).1 e in
     let t = y.target == z.target in
@@ -189,8 +189,8 @@ is_alike axis y z e =
     (subst (λ ms. same_mods y.mods ms ≡ true) parts.2 (mods_same y.mods))
 
 -- two tests of the same proposition are equal
-pub answers_same : {P : Type 0} (r s : Bool) → (IsTrue r ↔ P) → (s ≡ true → P) → (P → s ≡ true) → r ≡ s
-answers_same true true h k l = refl
-answers_same true false h k l = sym (l (h.0 refl))
-answers_same false true h k l = h.1 (k refl)
-answers_same false false h k l = refl
+pub tests_equal : {P : Type 0} (r s : Bool) → (IsTrue r ↔ P) → (s ≡ true → P) → (P → s ≡ true) → r ≡ s
+tests_equal true true h k l = refl
+tests_equal true false h k l = sym (l (h.0 refl))
+tests_equal false true h k l = h.1 (k refl)
+tests_equal false false h k l = refl

@@ -1,5 +1,5 @@
 pub mod AlikeLaws
-pub mod Parting
+pub mod SplitLists
 pub mod SplitLaws
-pub mod There
+pub mod Existing
 pub mod PartLaws

@@ -19,7 +19,7 @@ use Rattle.bank_zone_ranges.specs.Ranges.{range_operator, low_end, high_end, ran
 use Rattle.bank_zone_ranges.specs.Ranges.{inherited_range, range_of, with_range, without_range}
 use Rattle.bank_zone_ranges.specs.Splits.{joint_range, joined, are_joinable}
 use Rattle.bank_zone_ranges.specs.Undone.{own_amount}
-use Rattle.bank_zone_ranges.proofs.Parting.{all_at}
+use Rattle.bank_zone_ranges.proofs.SplitLists.{all_at}
 use Rattle.bank_zone_ranges.proofs.SplitLaws.{IsSplitAt, joined_at, low_of_range, high_of_range, low_is_small}
 
 is_range : (axis : Axis) → is_range_operator (range_operator axis) ≡ true

@@ -12,20 +12,20 @@ use Rattle.generators.proofs.Order.{tied, tied_same, tied_is_same}
 use Rattle.std.specs.FinMap as map
 use Rattle.bank_parts.specs.declared.parts.GlobalZone.{GlobalZone}
 use Rattle.bank_parts.specs.declared.parts.Zone.{Zone}
-use Rattle.bank_parts.specs.declared.parts.WithZones.{WithZones}
+use Rattle.bank_parts.specs.declared.parts.ZoneOwner.{ZoneOwner}
 use Rattle.bank_parts.specs.Settings.{with_zones}
 use Rattle.bank_zone_ranges.specs.declared.axes.Axis.{Axis}
 use Rattle.bank_zone_ranges.specs.declared.axes.Keep.{Keep}
 use Rattle.bank_zone_ranges.specs.declared.axes.Keep.TheVariants as keeping
 use Rattle.bank_zone_ranges.specs.Ranges.{range_operator, low_end, high_end, range_from, whole_range, own_range}
 use Rattle.bank_zone_ranges.specs.Ranges.{inherited_range, range_of, with_range, without_range}
-use Rattle.bank_zone_ranges.specs.Splits.{is_inside, lower_part, upper_part, parted, zones_split, are_alike, joint_range}
+use Rattle.bank_zone_ranges.specs.Splits.{is_split_point, lower_zone, upper_zone, split_in_two, zones_split, agree_but_range, joint_range}
 use Rattle.bank_zone_ranges.specs.Splits.{are_neighbours, have_neighbours, are_joinable, joined, merged, zones_joined}
 use Rattle.bank_zone_ranges.specs.Splits.{keep_for}
 use Rattle.bank_zone_ranges.specs.Undone.{own_low, own_amount, SplitUndone, JoinUndone, SplitIsJoinable, JoinIsSplittable}
 use Rattle.bank_zone_ranges.proofs.AlikeLaws.{both_left, both_right, both, equal, alike_is, is_alike}
-use Rattle.bank_zone_ranges.proofs.Parting.{first_parted, second_parted, merged_parted, first_merged, parted_merged}
-use Rattle.bank_zone_ranges.proofs.Parting.{changed_back}
+use Rattle.bank_zone_ranges.proofs.SplitLists.{first_split, second_split, merged_split, first_merged, split_merged}
+use Rattle.bank_zone_ranges.proofs.SplitLists.{changed_back}
 
 -- ---- amounts of ranges
 
@@ -62,7 +62,7 @@ is_le a b h = grind (arith, nat_tests)
 same_is : (a b : ℕ) → a ≡ b → (a == b) ≡ true
 same_is a b h = grind (arith, nat_tests)
 
-pub split_at : (axis : Axis) (m : ℕ) (global : GlobalZone) (z : Zone) → is_inside axis m global z ≡ true
+pub split_at : (axis : Axis) (m : ℕ) (global : GlobalZone) (z : Zone) → is_split_point axis m global z ≡ true
     → IsSplitAt axis m global z
 split_at axis m global z h =
     let w = range_of axis global z in
@@ -72,7 +72,7 @@ split_at axis m global z h =
     }
 
 pub at_split : (axis : Axis) (m : ℕ) (global : GlobalZone) (z : Zone) → IsSplitAt axis m global z
-    → is_inside axis m global z ≡ true
+    → is_split_point axis m global z ≡ true
 at_split axis m global z h =
     let w = range_of axis global z in
     both (nat_lt (low_end w) m) (nat_le m (high_end w)) (is_lt (low_end w) m h.above) (is_le m (high_end w) h.within)
@@ -83,7 +83,7 @@ IsInherited axis keeping.Keep global amount = Unit {0}
 IsInherited axis keeping.Bare global amount = amount ≡ inherited_range axis global
 
 pub record AreJoined (axis : Axis) (keep : Keep) (global : GlobalZone) (y z : Zone) : Type 0 where
-  pub alike : without_range axis y ≡ without_range axis z
+  pub agreement : without_range axis y ≡ without_range axis z
   pub first : ℕ
   pub own_first : own_range axis y ≡ Some first
   pub second : ℕ
@@ -121,7 +121,7 @@ held test (Some x) h = record { member = x; there = refl; holds = h }
 pub joined_at : (axis : Axis) (keep : Keep) (global : GlobalZone) (y z : Zone)
     → are_joinable axis keep global y z ≡ true → AreJoined axis keep global y z
 joined_at axis keep global y z h =
-    let neighbours = both_right (are_alike axis y z) (have_neighbours axis keep global y z) h in
+    let neighbours = both_right (agree_but_range axis y z) (have_neighbours axis keep global y z) h in
     let v =
     held
     (λ first. option_map_or (λ second. are_neighbours axis keep global first second) (own_range axis z) false)
@@ -129,7 +129,7 @@ joined_at axis keep global y z h =
     let w = held (λ second. are_neighbours axis keep global v.member second) (own_range axis z) v.holds in
     let ends = inherited_is axis keep global v.member w.member w.holds in
     record {
-      alike = alike_is axis y z (both_left (are_alike axis y z) (have_neighbours axis keep global y z) h);
+      agreement = alike_is axis y z (both_left (agree_but_range axis y z) (have_neighbours axis keep global y z) h);
       first = v.member;
       own_first = v.there;
       second = w.member;
@@ -141,7 +141,7 @@ joined_at axis keep global y z h =
 pub at_joined : (axis : Axis) (keep : Keep) (global : GlobalZone) (y z : Zone) → AreJoined axis keep global y z
     → are_joinable axis keep global y z ≡ true
 at_joined axis keep global y z h =
-    both (are_alike axis y z) (have_neighbours axis keep global y z) (is_alike axis y z h.alike)
+    both (agree_but_range axis y z) (have_neighbours axis keep global y z) (is_alike axis y z h.agreement)
     (rw (h.own_first, h.own_second) (neighbours_are axis keep global h.first h.second h.next h.inherited))
 
 -- ---- zones with and without their own range
@@ -230,8 +230,8 @@ module _ (axis : Axis) (m : ℕ) (global : GlobalZone) (z : Zone) (small : m < 2
       let high = high_of_range m (high_end w) small in
       (λ i. range_from (low i) (high i)) ∙ range_of_ends w
 
-  joint_of_own : joint_range (own_amount axis (lower_part axis m global z))
-      (own_amount axis (upper_part axis m global z))
+  joint_of_own : joint_range (own_amount axis (lower_zone axis m global z))
+      (own_amount axis (upper_zone axis m global z))
       ≡ range_of axis global z
   joint_of_own =
       let w = range_of axis global z in
@@ -239,14 +239,14 @@ module _ (axis : Axis) (m : ℕ) (global : GlobalZone) (z : Zone) (small : m < 2
       let two = ap (λ o. unwrap_or o whole_range) (own_with axis (range_from m (high_end w)) z) in
       (λ i. joint_range (one i) (two i)) ∙ joint_of_parts
 
-  pub joined_parts : joined axis (keep_for axis z) (lower_part axis m global z) (upper_part axis m global z) ≡ z
+  pub joined_parts : joined axis (keep_for axis z) (lower_zone axis m global z) (upper_zone axis m global z) ≡ z
   joined_parts =
       (elim (own_range axis z) as (λ o. own_range axis z ≡ o → joined axis
-      (option_map_or (λ _. keeping.Keep) o keeping.Bare) (lower_part axis m global z)
-      (upper_part axis m global z) ≡ z) [
+      (option_map_or (λ _. keeping.Keep) o keeping.Bare) (lower_zone axis m global z)
+      (upper_zone axis m global z) ≡ z) [
         | None ↦ λ e. without_again axis (range_from (low_end (range_of axis global z)) (m - 1)) z e
         | Some w ↦ λ e.
-            ap (λ amount. with_range axis amount (lower_part axis m global z))
+            ap (λ amount. with_range axis amount (lower_zone axis m global z))
             (joint_of_own ∙ ap (λ o. unwrap_or o (inherited_range axis global)) e)
             ∙ with_twice axis (range_from (low_end (range_of axis global z)) (m - 1)) w z ∙ with_own axis w z e
       ]) refl
@@ -254,15 +254,15 @@ module _ (axis : Axis) (m : ℕ) (global : GlobalZone) (z : Zone) (small : m < 2
   pub split_joined : (zones : List Zone) (k : ℕ) → slice_get zones k ≡ Some z
       → zones_joined axis (keep_for axis z) (zones_split axis m global zones k) k ≡ zones
   split_joined zones k there =
-      let lower = lower_part axis m global z in
-      let upper = upper_part axis m global z in
+      let lower = lower_zone axis m global z in
+      let upper = upper_zone axis m global z in
       let inside = slice_get-within zones k z there in
-      rw (there, first_parted zones k lower upper inside, second_parted zones k lower upper inside)
-      (merged_parted zones k lower upper inside (joined axis (keep_for axis z) lower upper)
+      rw (there, first_split zones k lower upper inside, second_split zones k lower upper inside)
+      (merged_split zones k lower upper inside (joined axis (keep_for axis z) lower upper)
       ∙ ap (slice_set zones k) joined_parts ∙ slice_set_same zones k z there)
 
   parts_joinable : IsSplitAt axis m global z
-      → AreJoined axis (keep_for axis z) global (lower_part axis m global z) (upper_part axis m global z)
+      → AreJoined axis (keep_for axis z) global (lower_zone axis m global z) (upper_zone axis m global z)
   parts_joinable h =
       let w = range_of axis global z in
       let v = range_from (low_end w) (m - 1) in
@@ -271,7 +271,7 @@ module _ (axis : Axis) (m : ℕ) (global : GlobalZone) (z : Zone) (small : m < 2
       let high = high_of_range (low_end w) (m - 1) (low_is_small w) in
       let low = low_of_range m (high_end w) small in
       record {
-        alike = without_with axis v z ∙ sym (without_with axis u z);
+        agreement = without_with axis v z ∙ sym (without_with axis u z);
         first = v;
         own_first = own_with axis v z;
         second = u;
@@ -286,13 +286,13 @@ module _ (axis : Axis) (m : ℕ) (global : GlobalZone) (z : Zone) (small : m < 2
 
 pub split_is_joinable : SplitIsJoinable
 split_is_joinable axis m global z small h =
-    at_joined axis (keep_for axis z) global (lower_part axis m global z) (upper_part axis m global z)
+    at_joined axis (keep_for axis z) global (lower_zone axis m global z) (upper_zone axis m global z)
     (parts_joinable axis m global z small (split_at axis m global z h))
 
 pub split_undone : {H : Type 0} → SplitUndone H
 split_undone {H} owners i k axis m x z there zone small h =
-    changed_back owners i (λ (x : WithZones H). with_zones (zones_split axis m x.global x.zones k) x)
-    (λ (x : WithZones H). with_zones (zones_joined axis (keep_for axis z) x.zones k) x) x there
+    changed_back owners i (λ (x : ZoneOwner H). with_zones (zones_split axis m x.global x.zones k) x)
+    (λ (x : ZoneOwner H). with_zones (zones_joined axis (keep_for axis z) x.zones k) x) x there
     (ap (λ zones. with_zones zones x) (split_joined axis m x.global z small x.zones k zone))
 
 -- ---- the split after a join
@@ -319,7 +319,7 @@ module _ (axis : Axis) (keep : Keep) (global : GlobalZone) (y z : Zone) (h : Are
       ∙ joint_is
   range_of_joined keeping.Bare i = ap (λ o. unwrap_or o (inherited_range axis global)) (own_without axis y) ∙ sym i
 
-  lower_of_joined : lower_part axis (own_low axis z) global (joined axis keep y z) ≡ y
+  lower_of_joined : lower_zone axis (own_low axis z) global (joined axis keep y z) ≡ y
   lower_of_joined =
       let v = h.first in
       let w = h.second in
@@ -332,7 +332,7 @@ module _ (axis : Axis) (keep : Keep) (global : GlobalZone) (y z : Zone) (h : Are
       ∙ ap (λ amount. with_range axis amount (joined axis keep y z)) (range_of_ends v) ∙ rejoined keep v
       ∙ with_own axis v y h.own_first
 
-  upper_of_joined : upper_part axis (own_low axis z) global (joined axis keep y z) ≡ z
+  upper_of_joined : upper_zone axis (own_low axis z) global (joined axis keep y z) ≡ z
   upper_of_joined =
       let v = h.first in
       let w = h.second in
@@ -341,7 +341,7 @@ module _ (axis : Axis) (keep : Keep) (global : GlobalZone) (y z : Zone) (h : Are
       let low = ap low_end second_is in
       (λ i. with_range axis (range_from (low i) (high i)) (joined axis keep y z))
       ∙ ap (λ amount. with_range axis amount (joined axis keep y z)) (range_of_ends w) ∙ rejoined keep w
-      ∙ sym (with_after_without axis w y) ∙ ap (with_range axis w) h.alike ∙ with_after_without axis w z
+      ∙ sym (with_after_without axis w y) ∙ ap (with_range axis w) h.agreement ∙ with_after_without axis w z
       ∙ with_own axis w z h.own_second
 
   pub joined_split : (zones : List Zone) (k : ℕ) → slice_get zones k ≡ Some y → slice_get zones (k + 1) ≡ Some z
@@ -351,7 +351,7 @@ module _ (axis : Axis) (keep : Keep) (global : GlobalZone) (y z : Zone) (h : Are
       let lower = lower_of_joined in
       let upper = upper_of_joined in
       rw (first, second, first_merged zones k y z first second one)
-      ((λ i. parted (merged zones k one) k (lower i) (upper i)) ∙ parted_merged zones k y z first second one)
+      ((λ i. split_in_two (merged zones k one) k (lower i) (upper i)) ∙ split_merged zones k y z first second one)
 
   joined_inside : IsRange (own_amount axis y) → IsRange (own_amount axis z)
       → IsSplitAt axis (own_low axis z) global (joined axis keep y z)
@@ -374,8 +374,8 @@ join_is_splittable axis keep global y z h first second =
 
 pub join_undone : {H : Type 0} → JoinUndone H
 join_undone {H} owners i k axis keep x y z there first second h =
-    changed_back owners i (λ (x : WithZones H). with_zones (zones_joined axis keep x.zones k) x)
-    (λ (x : WithZones H). with_zones (zones_split axis (own_low axis z) x.global x.zones k) x) x there
+    changed_back owners i (λ (x : ZoneOwner H). with_zones (zones_joined axis keep x.zones k) x)
+    (λ (x : ZoneOwner H). with_zones (zones_split axis (own_low axis z) x.global x.zones k) x) x there
     (ap (λ zones. with_zones zones x)
     (joined_split axis keep x.global y z (joined_at axis keep x.global y z h) x.zones k first second))
 

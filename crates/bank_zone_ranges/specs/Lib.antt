@@ -1,4 +1,4 @@
 pub mod Ranges
 pub mod Splits
-pub mod Alike
+pub mod Agreement
 pub mod Undone

@@ -5,7 +5,7 @@ use Rattle.std.specs.Option.{option_map, option_and_then}
 use Rattle.std.specs.FinMap as map
 use Rattle.bank_parts.specs.declared.parts.GlobalZone.{GlobalZone}
 use Rattle.bank_parts.specs.declared.parts.Zone.{Zone}
-use Rattle.bank_parts.specs.declared.parts.WithZones.{WithZones}
+use Rattle.bank_parts.specs.declared.parts.ZoneOwner.{ZoneOwner}
 use Rattle.bank_zone_ranges.specs.declared.axes.Axis.{Axis}
 use Rattle.bank_zone_ranges.specs.declared.axes.Axis.TheVariants.{Key, Vel}
 
@@ -52,6 +52,6 @@ abbrev pub without_range : Axis → Zone → Zone
 without_range axis z = record z { gens = map.remove z.gens (range_operator axis) }
 
 -- the effective range of zone k of owner i; none if there is no such zone
-abbrev pub range_at : {H : Type 0} → Axis → List (WithZones H) → ℕ → ℕ → Option ℕ
+abbrev pub range_at : {H : Type 0} → Axis → List (ZoneOwner H) → ℕ → ℕ → Option ℕ
 range_at axis owners i k =
     option_and_then (λ x. option_map (range_of axis x.global) (slice_get x.zones k)) (slice_get owners i)

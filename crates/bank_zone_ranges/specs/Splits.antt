@@ -9,7 +9,7 @@ use Rattle.modulators.specs.declared.modulator.Modulator.{Modulator}
 use Rattle.bank_parts.specs.declared.counting.Records.{Records}
 use Rattle.bank_parts.specs.declared.parts.GlobalZone.{GlobalZone}
 use Rattle.bank_parts.specs.declared.parts.Zone.{Zone}
-use Rattle.bank_parts.specs.declared.parts.WithZones.{WithZones}
+use Rattle.bank_parts.specs.declared.parts.ZoneOwner.{ZoneOwner}
 use Rattle.bank_parts.specs.Settings.{with_zones}
 use Rattle.bank_zone_ranges.specs.declared.axes.Axis.{Axis}
 use Rattle.bank_zone_ranges.specs.declared.axes.Keep.{Keep}
@@ -20,29 +20,29 @@ use Rattle.bank_zone_ranges.specs.Ranges.{range_of, with_range, without_range}
 -- ---- split
 
 -- m lies in the effective range of the zone, but not at the low end
-abbrev pub is_inside : Axis → ℕ → GlobalZone → Zone → Bool
-is_inside axis m global z = nat_lt (low_end (range_of axis global z)) m && nat_le m (high_end (range_of axis global z))
+abbrev pub is_split_point : Axis → ℕ → GlobalZone → Zone → Bool
+is_split_point axis m global z = nat_lt (low_end (range_of axis global z)) m && nat_le m (high_end (range_of axis global z))
 
 -- the first zone after a split at m
-abbrev pub lower_part : Axis → ℕ → GlobalZone → Zone → Zone
-lower_part axis m global z = with_range axis (range_from (low_end (range_of axis global z)) (m - 1)) z
+abbrev pub lower_zone : Axis → ℕ → GlobalZone → Zone → Zone
+lower_zone axis m global z = with_range axis (range_from (low_end (range_of axis global z)) (m - 1)) z
 
 -- the second zone after a split at m
-abbrev pub upper_part : Axis → ℕ → GlobalZone → Zone → Zone
-upper_part axis m global z = with_range axis (range_from m (high_end (range_of axis global z))) z
+abbrev pub upper_zone : Axis → ℕ → GlobalZone → Zone → Zone
+upper_zone axis m global z = with_range axis (range_from m (high_end (range_of axis global z))) z
 
 -- member k replaced by two members
-abbrev pub parted : {X : Type 0} → List X → ℕ → X → X → List X
-parted xs k x y = slice_set (insert xs (k + 1) y) k x
+abbrev pub split_in_two : {X : Type 0} → List X → ℕ → X → X → List X
+split_in_two xs k x y = slice_set (insert xs (k + 1) y) k x
 
 -- zone k replaced by its two halves: from its low end to m - 1, and from m on
 abbrev pub zones_split : Axis → ℕ → GlobalZone → List Zone → ℕ → List Zone
 zones_split axis m global zones k =
-    option_map_or (λ (z : Zone). parted zones k (lower_part axis m global z) (upper_part axis m global z))
+    option_map_or (λ (z : Zone). split_in_two zones k (lower_zone axis m global z) (upper_zone axis m global z))
     (slice_get zones k) zones
 
 -- zone k of owner i is split
-abbrev pub zone_split : {H : Type 0} → List (WithZones H) → ℕ → ℕ → Axis → ℕ → List (WithZones H)
+abbrev pub zone_split : {H : Type 0} → List (ZoneOwner H) → ℕ → ℕ → Axis → ℕ → List (ZoneOwner H)
 zone_split owners i k axis m = changed owners i (λ x. with_zones (zones_split axis m x.global x.zones k) x)
 
 -- ---- join
@@ -66,8 +66,8 @@ same_mods (m ∷ ms) (n ∷ ns) = same_mod m n && same_mods ms ns
 same_mods _ _ = false
 
 -- the zones differ only in their own ranges on the axis
-abbrev pub are_alike : Axis → Zone → Zone → Bool
-are_alike axis y z =
+abbrev pub agree_but_range : Axis → Zone → Zone → Bool
+agree_but_range axis y z =
     y.target == z.target && same_gens (entries (without_range axis y).gens) (entries (without_range axis z).gens)
     && same_mods y.mods z.mods
 
@@ -91,7 +91,7 @@ have_neighbours axis keep global y z =
 
 -- the two zones can be joined
 abbrev pub are_joinable : Axis → Keep → GlobalZone → Zone → Zone → Bool
-are_joinable axis keep global y z = are_alike axis y z && have_neighbours axis keep global y z
+are_joinable axis keep global y z = agree_but_range axis y z && have_neighbours axis keep global y z
 
 -- the joined zone
 abbrev pub joined : Axis → Keep → Zone → Zone → Zone
@@ -113,18 +113,18 @@ zones_joined axis keep zones k =
     (slice_get zones k) zones
 
 -- zones k and k + 1 of owner i are joined
-abbrev pub zone_joined : {H : Type 0} → List (WithZones H) → ℕ → ℕ → Axis → Keep → List (WithZones H)
+abbrev pub zone_joined : {H : Type 0} → List (ZoneOwner H) → ℕ → ℕ → Axis → Keep → List (ZoneOwner H)
 zone_joined owners i k axis keep = changed owners i (λ x. with_zones (zones_joined axis keep x.zones k) x)
 
 -- ---- tests of the zones of an owner; false if there is no such zone
 
 -- zone k can be split at m
-abbrev pub splits : {H : Type 0} → Axis → ℕ → ℕ → WithZones H → Bool
-splits axis m k x = option_map_or (is_inside axis m x.global) (slice_get x.zones k) false
+abbrev pub is_splittable : {H : Type 0} → Axis → ℕ → ℕ → ZoneOwner H → Bool
+is_splittable axis m k x = option_map_or (is_split_point axis m x.global) (slice_get x.zones k) false
 
 -- zones k and k + 1 can be joined
-abbrev pub joins : {H : Type 0} → Axis → Keep → ℕ → WithZones H → Bool
-joins axis keep k x =
+abbrev pub is_joinable : {H : Type 0} → Axis → Keep → ℕ → ZoneOwner H → Bool
+is_joinable axis keep k x =
     option_map_or (λ (y : Zone). option_map_or (are_joinable axis keep x.global y) (slice_get x.zones (k + 1)) false)
     (slice_get x.zones k) false
 
@@ -133,12 +133,12 @@ abbrev pub keep_for : Axis → Zone → Keep
 keep_for axis z = option_map_or (λ _. keep.Keep) (own_range axis z) keep.Bare
 
 -- zone k of owner i can be split at m
-abbrev pub splits_at : {H : Type 0} → Axis → ℕ → List (WithZones H) → ℕ → ℕ → Bool
-splits_at axis m owners i k = option_map_or (λ x. splits axis m k x) (slice_get owners i) false
+abbrev pub is_splittable_at : {H : Type 0} → Axis → ℕ → List (ZoneOwner H) → ℕ → ℕ → Bool
+is_splittable_at axis m owners i k = option_map_or (λ x. is_splittable axis m k x) (slice_get owners i) false
 
 -- zones k and k + 1 of owner i can be joined
-abbrev pub joins_at : {H : Type 0} → Axis → Keep → List (WithZones H) → ℕ → ℕ → Bool
-joins_at axis keep owners i k = option_map_or (λ x. joins axis keep k x) (slice_get owners i) false
+abbrev pub is_joinable_at : {H : Type 0} → Axis → Keep → List (ZoneOwner H) → ℕ → ℕ → Bool
+is_joinable_at axis keep owners i k = option_map_or (λ x. is_joinable axis keep k x) (slice_get owners i) false
 
 -- ---- records
 

@@ -2,7 +2,7 @@
 //! neighbouring zones.
 #![tactic(auto)]
 
-mod alike;
+mod agreement;
 mod axes;
 mod laws;
 mod ranges;
@@ -13,4 +13,4 @@ pub use axes::{Axis, Keep};
 pub use laws::splits_and_joins_undone;
 pub use ranges::{range_operator, zone_range};
 pub use records::{join_records, split_records};
-pub use splitting::{join_zones, joins, split_zone, splits};
+pub use splitting::{is_joinable, is_splittable, join_zones, split_zone};

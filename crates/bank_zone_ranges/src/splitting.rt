@@ -8,9 +8,9 @@ ghost use Rattle.bank_parts.specs.Room.{AreStorable};
 ghost use Rattle.bank_parts.specs.ZoneChanges.{zone_added, gen_set, gen_cleared};
 ghost use Rattle.bank_zone_ranges.specs.declared.axes.Axis.{Axis};
 ghost use Rattle.bank_zone_ranges.specs.Ranges.{inherited_range};
-ghost use Rattle.bank_zone_ranges.specs.Splits.{splits_at, joins_at, zone_split, zone_joined, have_neighbours, are_neighbours, joint_range};
+ghost use Rattle.bank_zone_ranges.specs.Splits.{is_splittable_at, is_joinable_at, zone_split, zone_joined, have_neighbours, are_neighbours, joint_range};
 
-use crate::alike::are_alike;
+use crate::agreement::agree_but_range;
 use crate::axes::{Axis, Keep};
 use crate::ranges::{WHOLE_RANGE, inherited_range, own_range, range_operator, zone_range};
 use bank_parts::{OwnerHead, Owners, Zone, ZonePlace};
@@ -20,8 +20,8 @@ use std::alloc::Global;
 
 /// Whether zone `k` of owner `i` exists and can be split at a key or a velocity: `at` lies in its effective range,
 /// but not at the low end.
-pub fn splits<H: OwnerHead>(owners: &Owners<H>, i: u32, k: u32, axis: Axis, at: u8) -> bool
-    ensures { result ≡ splits_at axis at owners.now i k }
+pub fn is_splittable<H: OwnerHead>(owners: &Owners<H>, i: u32, k: u32, axis: Axis, at: u8) -> bool
+    ensures { result ≡ is_splittable_at axis at owners.now i k }
 {
     if !owners.has_place(i as usize, ZonePlace::Zone(k as usize)) {
         return false;
@@ -33,15 +33,15 @@ pub fn splits<H: OwnerHead>(owners: &Owners<H>, i: u32, k: u32, axis: Axis, at: 
 /// Whether zones `k` and `k + 1` of owner `i` exist and can be joined: they differ only in their own ranges on the
 /// axis, the second range begins one above the end of the first and, for `Keep::Bare`, both ranges together are the
 /// one that the joined zone inherits.
-pub fn joins<H: OwnerHead>(owners: &Owners<H>, i: u32, k: u32, axis: Axis, keep: Keep) -> bool
-    ensures { result ≡ joins_at axis keep owners.now i k }
+pub fn is_joinable<H: OwnerHead>(owners: &Owners<H>, i: u32, k: u32, axis: Axis, keep: Keep) -> bool
+    ensures { result ≡ is_joinable_at axis keep owners.now i k }
 {
     let (i, first) = (i as usize, k as usize);
     let second = first + 1;
     if !owners.has_place(i, ZonePlace::Zone(second)) {
         return false;
     }
-    are_alike(owners, i, first, second, axis)
+    agree_but_range(owners, i, first, second, axis)
         && have_neighbours(owners, i, first, second, axis, keep)
 }
 
@@ -100,7 +100,7 @@ pub fn split_zone<H: OwnerHead>(
     axis: Axis,
     at: u8,
 ) -> Result<(), OutOfMemory>
-    requires splits { splits_at axis at owners.old i k ≡ true }
+    requires is_splittable { is_splittable_at axis at owners.old i k ≡ true }
     requires storable { AreStorable H.LEVEL (zone_split owners.old i k axis at) }
     ensures ok { OnOk result (owners.new ≡ zone_split owners.old i k axis at) }
     ensures err { OnErr result (owners.new ≡ owners.old) }
@@ -117,12 +117,12 @@ pub fn split_zone<H: OwnerHead>(
         low: range.low,
         high: at - 1,
     };
-    put_parts(owners, i, k, operator, up_to_there.to_amount(), upper)?;
+    set_both_zones(owners, i, k, operator, up_to_there.to_amount(), upper)?;
     Ok(())
 }
 
 // Sets the operator of zone `k` to this amount, and inserts a zone after it. On `OutOfMemory` nothing changes.
-fn put_parts<H: OwnerHead>(
+fn set_both_zones<H: OwnerHead>(
     owners: &mut Owners<H>,
     i: u32,
     k: u32,
@@ -140,14 +140,14 @@ fn put_parts<H: OwnerHead>(
     match owners.insert_zone(i, k + 1, upper) {
         Ok(()) => Ok(()),
         Err(_upper) => {
-            set_back(owners, i, k, operator, was);
+            restore_gen(owners, i, k, operator, was);
             Err(OutOfMemory)
         }
     }
 }
 
 // Restores the old amount of an operator that is set now, or clears it if it had none. Allocates nothing.
-fn set_back<H: OwnerHead>(
+fn restore_gen<H: OwnerHead>(
     owners: &mut Owners<H>,
     i: usize,
     k: usize,
@@ -178,7 +178,7 @@ pub fn join_zones<H: OwnerHead>(
     axis: Axis,
     keep: Keep,
 ) -> Result<(), OutOfMemory>
-    requires { joins_at axis keep owners.old i k ≡ true }
+    requires { is_joinable_at axis keep owners.old i k ≡ true }
     ensures ok { OnOk result (owners.new ≡ zone_joined owners.old i k axis keep) }
     ensures err { OnErr result (owners.new ≡ owners.old) }
 {
@@ -191,6 +191,6 @@ pub fn join_zones<H: OwnerHead>(
         Keep::Keep => Some(joint_range(low, high)),
         Keep::Bare => None,
     };
-    set_back(owners, i, first, range_operator(axis), was);
+    restore_gen(owners, i, first, range_operator(axis), was);
     Ok(())
 }

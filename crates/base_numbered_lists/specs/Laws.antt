@@ -58,31 +58,31 @@ NumberedMoveUndone X =
 -- The numbers
 
 -- Every number is restored when an inserted member is removed.
-abbrev pub InsertionReturns : Type 0
-InsertionReturns = (i x : ℕ) → renumbered (Removal i) (renumbered (Insertion i) x) ≡ x
+abbrev pub InsertionRenumberingUndone : Type 0
+InsertionRenumberingUndone = (i x : ℕ) → renumbered (Removal i) (renumbered (Insertion i) x) ≡ x
 
 -- Every number except the removed member's is restored when the member is inserted again.
-abbrev pub RemovalReturns : Type 0
-RemovalReturns = (i x : ℕ) → x ≢ i → renumbered (Insertion i) (renumbered (Removal i) x) ≡ x
+abbrev pub RemovalRenumberingUndone : Type 0
+RemovalRenumberingUndone = (i x : ℕ) → x ≢ i → renumbered (Insertion i) (renumbered (Removal i) x) ≡ x
 
 -- Every number is restored when a move is undone.
-abbrev pub MoveReturns : Type 0
-MoveReturns = (i j x : ℕ) → renumbered (Move j i) (renumbered (Move i j) x) ≡ x
+abbrev pub MoveRenumberingUndone : Type 0
+MoveRenumberingUndone = (i j x : ℕ) → renumbered (Move j i) (renumbered (Move i j) x) ≡ x
 
 -- A list of numbers is restored when an inserted member is removed.
-abbrev pub InsertionReturnsAll : Type 0
-InsertionReturnsAll =
+abbrev pub InsertionRenumberingUndoneAll : Type 0
+InsertionRenumberingUndoneAll =
     (i : ℕ) (xs : List ℕ) → map (renumbered (Removal i)) (map (renumbered (Insertion i)) xs) ≡ xs
 
 -- A list of numbers without the removed member's is restored when the member is inserted again.
-abbrev pub RemovalReturnsAll : Type 0
-RemovalReturnsAll =
+abbrev pub RemovalRenumberingUndoneAll : Type 0
+RemovalRenumberingUndoneAll =
     (i : ℕ) (xs : List ℕ) → All (λ x. x ≢ i) xs
     → map (renumbered (Insertion i)) (map (renumbered (Removal i)) xs) ≡ xs
 
 -- A list of numbers is restored when a move is undone.
-abbrev pub MoveReturnsAll : Type 0
-MoveReturnsAll = (i j : ℕ) (xs : List ℕ) → map (renumbered (Move j i)) (map (renumbered (Move i j)) xs) ≡ xs
+abbrev pub MoveRenumberingUndoneAll : Type 0
+MoveRenumberingUndoneAll = (i j : ℕ) (xs : List ℕ) → map (renumbered (Move j i)) (map (renumbered (Move i j)) xs) ≡ xs
 
 -- The new number refers to the member that the old number referred to
 
@@ -105,8 +105,8 @@ MoveFollowed X =
     → slice_get (moved xs i j) (renumbered (Move i j) k) ≡ slice_get xs k
 
 -- No new number is the inserted member's.
-abbrev pub InsertionMissed : Type 0
-InsertionMissed = (i k : ℕ) → renumbered (Insertion i) k ≢ i
+abbrev pub InsertedNumberIsFree : Type 0
+InsertedNumberIsFree = (i k : ℕ) → renumbered (Insertion i) k ≢ i
 
 -- The length of the list, and that a member's number stays below it
 

@@ -1,8 +1,8 @@
 //! Laws, as functions that do nothing: the law is the contract, and holds for all lists and numbers.
 ghost use Rattle.base_numbered_lists.specs.Laws.{InsertionUndone, RemovalUndone, MoveUndone, ExchangeUndone, ChangeUndone};
 ghost use Rattle.base_numbered_lists.specs.Laws.{RenumberingUndone, NumberedInsertionUndone, NumberedRemovalUndone, NumberedMoveUndone};
-ghost use Rattle.base_numbered_lists.specs.Laws.{InsertionReturns, RemovalReturns, MoveReturns, InsertionReturnsAll, RemovalReturnsAll, MoveReturnsAll};
-ghost use Rattle.base_numbered_lists.specs.Laws.{InsertionFollowed, RemovalFollowed, MoveFollowed, InsertionMissed};
+ghost use Rattle.base_numbered_lists.specs.Laws.{InsertionRenumberingUndone, RemovalRenumberingUndone, MoveRenumberingUndone, InsertionRenumberingUndoneAll, RemovalRenumberingUndoneAll, MoveRenumberingUndoneAll};
+ghost use Rattle.base_numbered_lists.specs.Laws.{InsertionFollowed, RemovalFollowed, MoveFollowed, InsertedNumberIsFree};
 ghost use Rattle.base_numbered_lists.specs.Laws.{InsertionLengthens, RemovalShortens, MoveKeepsLength, ChangeKeepsLength};
 ghost use Rattle.base_numbered_lists.specs.Laws.{InsertionStaysBelow, RemovalStaysBelow, MoveStaysBelow};
 
@@ -36,13 +36,13 @@ pub fn renumbering_undone<T>()
 {}
 
 /// Renumbering numbers and renumbering them back restores them, except the number of a removed member.
-pub fn numbers_return()
-    ensures insertion { InsertionReturns }
-    ensures removal { RemovalReturns }
-    ensures move_back { MoveReturns }
-    ensures insertion_all { InsertionReturnsAll }
-    ensures removal_all { RemovalReturnsAll }
-    ensures move_all { MoveReturnsAll }
+pub fn numbers_restored()
+    ensures insertion { InsertionRenumberingUndone }
+    ensures removal { RemovalRenumberingUndone }
+    ensures move_back { MoveRenumberingUndone }
+    ensures insertion_all { InsertionRenumberingUndoneAll }
+    ensures removal_all { RemovalRenumberingUndoneAll }
+    ensures move_all { MoveRenumberingUndoneAll }
 {}
 
 /// A new number refers to the member that the old number referred to, and none to an inserted member.
@@ -50,7 +50,7 @@ pub fn numbers_follow<T>()
     ensures insertion { InsertionFollowed T }
     ensures removal { RemovalFollowed T }
     ensures moved { MoveFollowed T }
-    ensures missed { InsertionMissed }
+    ensures missed { InsertedNumberIsFree }
 {}
 
 /// The number of members after a change.

@@ -8,8 +8,8 @@ mod renumbering;
 
 pub use in_place::{insert_within, move_within};
 pub use laws::{
-    exchange_undone, insertion_undone, lengths_follow, move_undone, numbers_follow, numbers_return,
-    numbers_stay_below, removal_undone, renumbering_undone,
+    exchange_undone, insertion_undone, lengths_follow, move_undone, numbers_follow,
+    numbers_restored, numbers_stay_below, removal_undone, renumbering_undone,
 };
 pub use list::NumberedList;
 pub use renumbering::{Renumber, Renumbering, renumber_all};

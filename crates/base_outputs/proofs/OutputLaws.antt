@@ -39,14 +39,14 @@ module _ {W : Type 0} {c : W → Option (List ℕ)} where
 
 -- The rest of the whole text is still to be put.
 pub record Putting {W : Type 0} (c : W → Option (List ℕ)) (old now : Output W) (whole rest : List ℕ) : Type 0 where
-  pub gone : List ℕ
-  pub parts : whole ≡ gone ++ rest
-  pub puts : Puts c old now gone
+  pub prefix : List ℕ
+  pub parts : whole ≡ prefix ++ rest
+  pub puts : Puts c old now prefix
 
 module _ {W : Type 0} {c : W → Option (List ℕ)} {o : Output W} where
   -- At the start all of the text remains.
   pub putting_start : (whole : List ℕ) → Putting c o o whole whole
-  putting_start whole = record { gone = []; parts = refl; puts = puts_nothing o }
+  putting_start whole = record { prefix = []; parts = refl; puts = puts_nothing o }
 
   pub putting_from : (whole rest : List ℕ) → whole ≡ rest → Putting c o o whole rest
   putting_from whole rest e = subst (λ (t : List ℕ). Putting c o o whole t) e (putting_start whole)
@@ -55,9 +55,9 @@ module _ {W : Type 0} {c : W → Option (List ℕ)} {o : Output W} where
   pub putting_step : {p q : Output W} {whole rest : List ℕ} (x others : List ℕ) → Putting c o p whole rest
       → rest ≡ x ++ others → Puts c p q x → Putting c o q whole others
   putting_step {whole = whole} x others s e h = record {
-    gone = s.gone ++ x;
-    parts = s.parts ∙ ap (λ (y : List ℕ). s.gone ++ y) e ∙ sym (append_assoc s.gone x others);
-    puts = puts_then s.gone x s.puts h;
+    prefix = s.prefix ++ x;
+    parts = s.parts ∙ ap (λ (y : List ℕ). s.prefix ++ y) e ∙ sym (append_assoc s.prefix x others);
+    puts = puts_then s.prefix x s.puts h;
   }
 
   -- After the text of a member is put, in a loop over the members.
@@ -69,10 +69,10 @@ module _ {W : Type 0} {c : W → Option (List ℕ)} {o : Output W} where
 
   -- At the end nothing remains.
   pub putting_end : {p : Output W} {whole : List ℕ} → Putting c o p whole [] → Puts c o p whole
-  putting_end {whole = whole} s = puts_as s.gone whole (sym (s.parts ∙ append-nil s.gone)) s.puts
+  putting_end {whole = whole} s = puts_as s.prefix whole (sym (s.parts ∙ append-nil s.prefix)) s.puts
 
   -- The last put is all that remains.
   pub putting_last : {p q : Output W} {whole rest : List ℕ} → Putting c o p whole rest → Puts c p q rest
       → Puts c o q whole
   putting_last {whole = whole} {rest} s h =
-      puts_as (s.gone ++ rest) whole (sym s.parts) (puts_then s.gone rest s.puts h)
+      puts_as (s.prefix ++ rest) whole (sym s.parts) (puts_then s.prefix rest s.puts h)

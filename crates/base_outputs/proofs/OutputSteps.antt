@@ -8,16 +8,16 @@ use Rattle.std.proofs.Math.Seq.{take-append-add}
 use Rattle.std.proofs.lemmas.List.{length-append, take-append-le}
 use Rattle.base_outputs.specs.declared.writing.WriteFault.{WriteFault}
 use Rattle.base_outputs.specs.declared.output.Output.{Output}
-use Rattle.base_outputs.specs.Writing.{StopsIn, Sends}
-use Rattle.base_outputs.specs.Output.{IsOnItsWay, StoppedIn, Puts, Ends, EndsFlushed}
+use Rattle.base_outputs.specs.Writing.{StopsIn, WritesAfter}
+use Rattle.base_outputs.specs.Output.{IsPartlyWritten, StoppedIn, Puts, Ends, EndsFlushed}
 
 -- A stop after a written prefix is a stop in the whole text.
-stopped_after : (a b d : Option (List ℕ)) (n w : ℕ) (gone t : List ℕ) → n ≡ length gone → Appends a b gone
-    → StopsIn b d n t w → StoppedIn a d (gone ++ t) w
-stopped_after a b d n w gone t e out h = record {
-  within = (let p = h.within in let q = h.counted in omega (arith, length-append gone t, p, q, e));
-  front = (let q = h.counted in let same : w ≡ length gone + h.part = omega (arith, q, e) in
-      rw (same, take-append-add gone t h.part) (Appends-trans a b d gone (take h.part t) out h.front));
+stopped_after : (a b d : Option (List ℕ)) (n w : ℕ) (prefix t : List ℕ) → n ≡ length prefix → Appends a b prefix
+    → StopsIn b d n t w → StoppedIn a d (prefix ++ t) w
+stopped_after a b d n w prefix t e out h = record {
+  within = (let p = h.within in let q = h.counted in omega (arith, length-append prefix t, p, q, e));
+  front = (let q = h.counted in let same : w ≡ length prefix + h.part = omega (arith, q, e) in
+      rw (same, take-append-add prefix t h.part) (Appends-trans a b d prefix (take h.part t) out h.front));
 }
 
 -- A fault in a text is a fault in a longer text.
@@ -31,26 +31,26 @@ stopped_in_more {a} {d} {w} {t} u h = record {
 -- What is known of an output with this fault.
 abbrev Known : {W : Type 0} → (W → Option (List ℕ)) → Option (List ℕ) → Output W → List ℕ → Option WriteFault → Type 0
 Known c start o text fault =
-    MatchOption fault (IsOnItsWay start (c o.out.now) o.held.items o.sent text)
+    MatchOption fault (IsPartlyWritten start (c o.out.now) o.held.items o.sent text)
     (λ f. StoppedIn start (c o.out.now) text f.written)
 
 module _ {W : Type 0} {c : W → Option (List ℕ)} where
   -- Of the held bytes and the text after them, a prefix is written and the rest held.
-  pub puts_on : {o q : Output W} {t : List ℕ} (gone : List ℕ) → o.fault ≡ None → q.fault ≡ None
-      → q.out.ghost_name ≡ o.out.ghost_name → o.held.items ++ t ≡ gone ++ q.held.items
-      → (q.sent ≡ o.sent + length gone) × Appends (c o.out.now) (c q.out.now) gone → Puts c o q t
-  puts_on {o} {q} {t} gone before after same parts h = record {
+  pub puts_on : {o q : Output W} {t : List ℕ} (prefix : List ℕ) → o.fault ≡ None → q.fault ≡ None
+      → q.out.ghost_name ≡ o.out.ghost_name → o.held.items ++ t ≡ prefix ++ q.held.items
+      → (q.sent ≡ o.sent + length prefix) × Appends (c o.out.now) (c q.out.now) prefix → Puts c o q t
+  puts_on {o} {q} {t} prefix before after same parts h = record {
     same_writer = same;
     grows = λ start text d.
         let way : Known c start o text None = subst (Known c start o text) before d in
         let all : Known c start q (text ++ t) None = record {
-          gone = way.gone ++ gone;
+          prefix = way.prefix ++ prefix;
           parts =
-              ap (λ (x : List ℕ). x ++ t) way.parts ∙ append_assoc way.gone o.held.items t
-              ∙ ap (λ (x : List ℕ). way.gone ++ x) parts
-              ∙ sym (append_assoc way.gone gone q.held.items);
-          counted = (let m = way.counted in let n = h.0 in omega (arith, m, n, length-append way.gone gone));
-          out = Appends-trans start (c o.out.now) (c q.out.now) way.gone gone way.out h.1;
+              ap (λ (x : List ℕ). x ++ t) way.parts ∙ append_assoc way.prefix o.held.items t
+              ∙ ap (λ (x : List ℕ). way.prefix ++ x) parts
+              ∙ sym (append_assoc way.prefix prefix q.held.items);
+          counted = (let m = way.counted in let n = h.0 in omega (arith, m, n, length-append way.prefix prefix));
+          out = Appends-trans start (c o.out.now) (c q.out.now) way.prefix prefix way.out h.1;
         } in
         subst (Known c start q (text ++ t)) (sym after) all;
   }
@@ -63,11 +63,11 @@ module _ {W : Type 0} {c : W → Option (List ℕ)} where
     same_writer = same;
     grows = λ start text d.
         let way : Known c start o text None = subst (Known c start o text) before d in
-        let grouped : way.gone ++ (o.held.items ++ t) ≡ text ++ t =
-        sym (append_assoc way.gone o.held.items t) ∙ ap (λ (x : List ℕ). x ++ t) (sym way.parts) in
+        let grouped : way.prefix ++ (o.held.items ++ t) ≡ text ++ t =
+        sym (append_assoc way.prefix o.held.items t) ∙ ap (λ (x : List ℕ). x ++ t) (sym way.parts) in
         let stopped : Known c start q (text ++ t) (Some f) =
         subst (λ (x : List ℕ). StoppedIn start (c q.out.now) x f.written) grouped
-        (stopped_after start (c o.out.now) (c q.out.now) o.sent f.written way.gone (o.held.items ++ t)
+        (stopped_after start (c o.out.now) (c q.out.now) o.sent f.written way.prefix (o.held.items ++ t)
         way.counted way.out h)
         in
         subst (Known c start q (text ++ t)) (sym after) stopped;
@@ -86,19 +86,19 @@ module _ {W : Type 0} {c : W → Option (List ℕ)} where
 module _ {W : Type 0} (c : W → Option (List ℕ)) (o : Output W) where
   -- The held bytes are written at the end.
   pub ends_sent : (now : Option (List ℕ)) (answer : Result ℕ WriteFault) → o.fault ≡ None
-      → Sends (c o.out.now) now o.sent o.held.items answer → Ends c o now answer
+      → WritesAfter (c o.out.now) now o.sent o.held.items answer → Ends c o now answer
   ends_sent now (Ok total) e h start text d =
       let way : Known c start o text None = subst (Known c start o text) e d in (
         subst (λ (x : List ℕ). Appends start now x) (sym way.parts)
-            (Appends-trans start (c o.out.now) now way.gone o.held.items way.out h.1),
+            (Appends-trans start (c o.out.now) now way.prefix o.held.items way.out h.1),
         (let p =
             ap length way.parts in let m =
-            way.counted in let n = h.0 in omega (arith, p, m, n, length-append way.gone o.held.items)),
+            way.counted in let n = h.0 in omega (arith, p, m, n, length-append way.prefix o.held.items)),
       )
   ends_sent now (Err f) e h start text d =
       let way : Known c start o text None = subst (Known c start o text) e d in
       let stopped =
-      stopped_after start (c o.out.now) now o.sent f.written way.gone o.held.items way.counted way.out h in
+      stopped_after start (c o.out.now) now o.sent f.written way.prefix o.held.items way.counted way.out h in
       let same : StoppedIn start now text f.written =
       subst (λ (x : List ℕ). StoppedIn start now x f.written) (sym way.parts) stopped in
       ((same.within, same.front), tt)

@@ -7,11 +7,11 @@ use Rattle.base_outputs.specs.declared.output.Output.{Output}
 use Rattle.base_outputs.specs.Writing.{Writes, Delivers}
 
 -- A prefix of the text is written, and the rest is held back.
-pub record IsOnItsWay (start now : Option (List ℕ)) (held : List ℕ) (sent : ℕ) (text : List ℕ) : Type 0 where
-  pub gone : List ℕ
-  pub parts : text ≡ gone ++ held
-  pub counted : sent ≡ length gone
-  pub out : Appends start now gone
+pub record IsPartlyWritten (start now : Option (List ℕ)) (held : List ℕ) (sent : ℕ) (text : List ℕ) : Type 0 where
+  pub prefix : List ℕ
+  pub parts : text ≡ prefix ++ held
+  pub counted : sent ≡ length prefix
+  pub out : Appends start now prefix
 
 -- Exactly the first `written` bytes of the text are written, and at least one is not.
 pub record StoppedIn (start now : Option (List ℕ)) (text : List ℕ) (written : ℕ) : Type 0 where
@@ -23,7 +23,7 @@ pub record StoppedIn (start now : Option (List ℕ)) (text : List ℕ) (written 
 abbrev pub HasPut : {W : Type 0} → (W → Option (List ℕ)) → Option (List ℕ) → Output W → List ℕ → Type 0
 HasPut contents start o text =
     MatchOption o.fault
-    (IsOnItsWay start (contents o.out.now) o.held.items o.sent text)
+    (IsPartlyWritten start (contents o.out.now) o.held.items o.sent text)
     (λ f. StoppedIn start (contents o.out.now) text f.written)
 
 -- An output to this writer into which nothing is put yet.

@@ -45,7 +45,7 @@ impl<'a, W: Write> Output<'a, W> {
         if self.fault.is_some() || self.held.try_extend_from_slice(text).is_ok() {
             return;
         }
-        self.send_held();
+        self.write_held();
         self.put_first(text);
     }
 
@@ -66,7 +66,7 @@ impl<'a, W: Write> Output<'a, W> {
 
     // Writes the held bytes.
     #[tactic(auto, using(crate::proofs::OutputSteps::puts_on, crate::proofs::OutputSteps::puts_fault))]
-    fn send_held(&mut self)
+    fn write_held(&mut self)
         requires { self.old.fault ≡ None }
         ensures puts { Puts W.contents self.old self.new [] }
         ensures emptied { self.new.held.items ≡ [] }

@@ -1,6 +1,6 @@
 //! The only loop that writes.
 ghost use Rattle.std.specs.Prelude.{◌≡◌, ◌+◌, ◌<◌, ◌≤◌, ◌^◌, ℕ, List, [], length};
-ghost use Rattle.base_outputs.specs.Writing.{Sends, Writes, Finishes};
+ghost use Rattle.base_outputs.specs.Writing.{WritesAfter, Writes, Flushes};
 
 use std::io::Write;
 use thiserror::Error;
@@ -17,7 +17,7 @@ pub struct WriteFault {
 /// An error, or a `write` of no bytes, is a fault, which counts the earlier bytes too. There is no retry. If the sum is
 /// above 2^64, which no run reaches, none of `bytes` is written.
 pub(crate) fn put_after<W: Write>(out: &mut W, sent: u64, bytes: &[u8]) -> Result<u64, WriteFault>
-    ensures { Sends (W.contents out.old) (W.contents out.new) sent bytes.now result }
+    ensures { WritesAfter (W.contents out.old) (W.contents out.new) sent bytes.now result }
 {
     let Some(total) = sent.checked_add(bytes.len() as u64) else {
         return Err(WriteFault { written: sent });
@@ -46,7 +46,7 @@ pub fn put_all<W: Write>(out: &mut W, text: &[u8]) -> Result<(), WriteFault>
 
 /// Flushes a writer to which all `sent` bytes are written. A failed flush is a fault after all of them.
 pub(crate) fn finish<W: Write>(out: &mut W, sent: u64) -> Result<(), WriteFault>
-    ensures { Finishes (W.contents out.old) (W.contents out.new) sent result }
+    ensures { Flushes (W.contents out.old) (W.contents out.new) sent result }
 {
     match out.flush() {
         Ok(()) => Ok(()),

@@ -24,9 +24,9 @@ pub enum Work {
 
 /// Ignores all reports.
 #[derive(Clone, Copy)]
-pub struct Unheard;
+pub struct NoReports;
 
-impl Progress for Unheard {
+impl Progress for NoReports {
     fn begin(&mut self, _work: Work, _count: u64) {}
 
     fn advance(&mut self, _count: u64) {}

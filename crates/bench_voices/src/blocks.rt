@@ -10,7 +10,7 @@ use std::io;
 use voices::{Voice, Workspace};
 
 /// The largest number of frames of a block.
-pub(crate) const MOST: usize = 1024;
+pub(crate) const MAX_BLOCK: usize = 1024;
 
 /// The number of frames to play of a voice, rounded down to whole blocks.
 pub(crate) const FRAMES: u64 = 65536;
@@ -24,9 +24,9 @@ pub(crate) fn play(
     round: u32,
     block: usize,
 ) -> io::Result<u64>
-    requires { (16 ≤ block) × (block ≤ MOST) }
+    requires { (16 ≤ block) × (block ≤ MAX_BLOCK) }
 {
-    let mut sums: [i32; 2 * MOST] = silence();
+    let mut sums: [i32; 2 * MAX_BLOCK] = silence();
     if let Some(mut voice) = example.voice(points.copy(alloc).map_err(no_memory)?, round) {
         let mut work = Workspace::new();
         add_blocks(
@@ -36,7 +36,7 @@ pub(crate) fn play(
             &mut sums[..2 * block],
         );
     }
-    Ok(folded(&sums[..2 * block]))
+    Ok(checksum(&sums[..2 * block]))
 }
 
 /// Whether the frames of a block equal the frames read one by one.
@@ -45,7 +45,7 @@ pub(crate) fn is_as_single_frames(
     points: &Points,
     example: Example,
 ) -> io::Result<bool> {
-    let mut sums: [i32; 4 * MOST] = silence();
+    let mut sums: [i32; 4 * MAX_BLOCK] = silence();
     let in_block = example.voice(points.copy(alloc).map_err(no_memory)?, 0);
     let one_by_one = example.voice(points.copy(alloc).map_err(no_memory)?, 0);
     let (Some(mut in_block), Some(mut one_by_one)) = (in_block, one_by_one) else {
@@ -80,9 +80,9 @@ fn silence<const N: usize>() -> [i32; N]
 
 // Adds `blocks` blocks of a voice to the same sums.
 fn add_blocks(voice: &mut Voice, blocks: u64, work: &mut Workspace, sums: &mut [i32])
-    requires fresh { voice.old.age ≡ 0 }
+    requires unplayed { voice.old.age ≡ 0 }
     requires few { blocks ≤ 65534 }
-    requires short { length sums.old ≤ 2 * MOST }
+    requires short { length sums.old ≤ 2 * MAX_BLOCK }
     requires even { length sums.old % 2 ≡ 0 }
     requires silent { AllWithin 0 sums.old }
 {
@@ -92,7 +92,7 @@ fn add_blocks(voice: &mut Voice, blocks: u64, work: &mut Workspace, sums: &mut [
 }
 
 // A checksum of the sums that depends on their order.
-fn folded(sums: &[i32]) -> u64 {
+fn checksum(sums: &[i32]) -> u64 {
     let mut sum: u64 = 0;
     for k in 0..sums.len() {
         sum = sum

@@ -11,7 +11,7 @@ use zone_select::VoiceParameters;
 const POINTS: u32 = 65536;
 
 /// The frames of a phase, more than are played.
-const PHASE: u32 = 70000;
+const PHASE_FRAMES: u32 = 70000;
 
 /// A phase of an envelope.
 #[derive(Debug, Clone, Copy, PartialEq, Eq)]
@@ -70,16 +70,28 @@ fn parameters(example: Example, round: u32) -> VoiceParameters
         loop_end: 1400,
         looped: example.looped,
         until_release: false,
-        step: if example.looped { 98193 } else { 40000 },
+        phase_increment: if example.looped { 98193 } else { 40000 },
         delay: 0,
-        attack: if phase == Phase::Attack { PHASE } else { 0 },
+        attack: if phase == Phase::Attack {
+            PHASE_FRAMES
+        } else {
+            0
+        },
         hold: 0,
-        decay: if phase == Phase::Decay { PHASE } else { 0 },
-        release: PHASE,
+        decay: if phase == Phase::Decay {
+            PHASE_FRAMES
+        } else {
+            0
+        },
+        release: PHASE_FRAMES,
         sustain: if phase == Phase::Decay { 960 } else { 100 },
         attenuation: 30,
         pan: 100,
-        length: if phase == Phase::Release { 0 } else { PHASE },
+        length: if phase == Phase::Release {
+            0
+        } else {
+            PHASE_FRAMES
+        },
         class: 0,
     }
 }

@@ -1,7 +1,7 @@
 //! Plays notes as in a live session: all together, block by block.
 ghost use Rattle.std.specs.Prelude.{◌≤◌};
 
-use crate::blocks::MOST;
+use crate::blocks::MAX_BLOCK;
 use mixer::Player;
 use script_notes::parse_notes;
 use sf_reader::read;
@@ -27,9 +27,9 @@ pub(crate) fn player_of<'a>(alloc: Global, file: &'a [u8], notes: &[u8]) -> io::
 
 /// Plays `blocks` blocks, and returns a checksum of the first sample of each.
 pub(crate) fn play_blocks(player: &mut Player, block: usize, blocks: u64) -> u64
-    requires { block ≤ MOST }
+    requires { block ≤ MAX_BLOCK }
 {
-    let mut out = [0i16; 2 * MOST];
+    let mut out = [0i16; 2 * MAX_BLOCK];
     let mut sum: u64 = 0;
     for _ in 0..blocks {
         player.block(&mut out[..2 * block]);

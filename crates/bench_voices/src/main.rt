@@ -17,7 +17,7 @@ mod examples;
 mod live;
 mod notes;
 
-use crate::blocks::{FRAMES, MOST, is_as_single_frames, play};
+use crate::blocks::{FRAMES, MAX_BLOCK, is_as_single_frames, play};
 use crate::examples::{Example, PHASES, sample_bytes};
 use crate::live::{play_blocks, player_of};
 use crate::notes::voice_frames;
@@ -26,13 +26,13 @@ use std::time::Instant;
 use std::{env, fs, io};
 
 /// The smallest number of frames of a block.
-const LEAST: usize = 16;
+const MIN_BLOCK: usize = 16;
 
 /// The frames of a block if no argument gives them.
-const USUAL: usize = 512;
+const DEFAULT_BLOCK: usize = 512;
 
 /// The frames of ten seconds of live play.
-const LIVE: u64 = 441000;
+const LIVE_FRAMES: u64 = 441000;
 
 fn main(rt: HostRuntime) -> io::Result<()> {
     let mut words = env::args(&rt)?;
@@ -45,7 +45,7 @@ fn main(rt: HostRuntime) -> io::Result<()> {
             &notes,
             frames_of(&block),
         ),
-        (Some(first), None, _) => measure_all(&rt, &first, USUAL),
+        (Some(first), None, _) => measure_all(&rt, &first, DEFAULT_BLOCK),
         (Some(first), Some(second), None) => {
             if second.parse::<u32>().is_ok() {
                 measure_all(&rt, &first, frames_of(&second))
@@ -56,11 +56,14 @@ fn main(rt: HostRuntime) -> io::Result<()> {
     }
 }
 
-// The frames of a block that an argument gives, in `LEAST..=MOST`; `USUAL` if it is no number.
+// The frames of a block that an argument gives, in `MIN_BLOCK..=MAX_BLOCK`; `DEFAULT_BLOCK` if it is no number.
 fn frames_of(word: &str) -> usize
-    ensures { (16 ≤ result) × (result ≤ MOST) }
+    ensures { (16 ≤ result) × (result ≤ MAX_BLOCK) }
 {
-    word.parse::<usize>().unwrap_or(USUAL).max(LEAST).min(MOST)
+    word.parse::<usize>()
+        .unwrap_or(DEFAULT_BLOCK)
+        .max(MIN_BLOCK)
+        .min(MAX_BLOCK)
 }
 
 fn count(rt: &HostRuntime, bank: &str, notes: &str) -> io::Result<()> {
@@ -71,13 +74,13 @@ fn count(rt: &HostRuntime, bank: &str, notes: &str) -> io::Result<()> {
 }
 
 fn measure_live(rt: &HostRuntime, bank: &str, notes: &str, block: usize) -> io::Result<()>
-    requires { (16 ≤ block) × (block ≤ MOST) }
+    requires { (16 ≤ block) × (block ≤ MAX_BLOCK) }
 {
     let bank = fs::read(rt, bank)?;
     let notes = fs::read(rt, notes)?;
     let mut player = player_of(rt.alloc(), bank.as_slice(), notes.as_slice())?;
     let started = Instant::now(rt)?;
-    let blocks = LIVE / block as u64;
+    let blocks = LIVE_FRAMES / block as u64;
     let sum = play_blocks(&mut player, block, blocks);
     let nanoseconds = started.elapsed(rt)?.as_nanos();
     let frames = blocks * block as u64;
@@ -107,7 +110,7 @@ fn compare(rt: &HostRuntime, points: &Points, example: Example) -> io::Result<()
 }
 
 fn measure_all(rt: &HostRuntime, rounds: &str, block: usize) -> io::Result<()>
-    requires { (16 ≤ block) × (block ≤ MOST) }
+    requires { (16 ≤ block) × (block ≤ MAX_BLOCK) }
 {
     let Ok(rounds) = rounds.parse() else {
         return Err(io::Error::from(io::ErrorKind::InvalidInput));
@@ -131,7 +134,7 @@ fn measure(
     rounds: u32,
     block: usize,
 ) -> io::Result<()>
-    requires { (16 ≤ block) × (block ≤ MOST) }
+    requires { (16 ≤ block) × (block ≤ MAX_BLOCK) }
 {
     let started = Instant::now(rt)?;
     let mut sum: u64 = 0;

@@ -19,23 +19,23 @@ pub(crate) fn voice_frames(alloc: Global, file: &[u8], notes: &[u8]) -> io::Resu
     };
     let mut frames: u64 = 0;
     for note in notes.as_slice() {
-        frames = frames.saturating_add(of_note(alloc, &bank, note)?);
+        frames = frames.saturating_add(frames_of_note(alloc, &bank, note)?);
     }
     Ok(frames)
 }
 
-fn of_note(alloc: Global, bank: &Bank<'_>, note: &Note) -> io::Result<u64> {
+fn frames_of_note(alloc: Global, bank: &Bank<'_>, note: &Note) -> io::Result<u64> {
     let mut frames: u64 = 0;
     for pair in matches(bank, note) {
         let Ok(mut voice) = Voice::start(alloc, bank, note, pair) else {
             return Err(io::Error::from(io::ErrorKind::OutOfMemory));
         };
-        frames = frames.saturating_add(until_over(&mut voice));
+        frames = frames.saturating_add(frames_until_end(&mut voice));
     }
     Ok(frames)
 }
 
-fn until_over(voice: &mut Voice) -> u64 {
+fn frames_until_end(voice: &mut Voice) -> u64 {
     for frame in 0..u64::MAX {
         if voice.done() {
             return frame;

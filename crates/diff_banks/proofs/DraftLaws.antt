@@ -6,15 +6,15 @@ use Rattle.edit_forms.specs.declared.step.Step.{Step}
 use Rattle.edit_forms.specs.declared.edit.Edit.{Edit}
 use Rattle.edit_forms.specs.declared.edit.Edit.TheVariants.{One}
 use Rattle.edit_refusals.specs.Edits.{raw}
-use Rattle.script_of_bank.specs.Whole.{Leads}
-use Rattle.script_of_bank.proofs.Turns.{after-then, taken-then}
-use Rattle.diff_banks.specs.Drafts.{IsTry}
+use Rattle.script_of_bank.specs.LeadsTo.{Leads}
+use Rattle.script_of_bank.proofs.SequenceLaws.{after-then, is_accepted-then}
+use Rattle.diff_banks.specs.Drafts.{IsStepResult}
 
 pub leads_on : {Why : Type 0} → (first old new : Parts) (was now : List Edit) (s : Step) (r : Result (Unit {0}) Why)
-    → IsTry old new was now s r → Leads first was old → Leads first now new
+    → IsStepResult old new was now s r → Leads first was old → Leads first now new
 leads_on first old new was now s (Ok done) d l =
     let more : Leads first (was ++ One s ∷ []) (raw old (One s)) = record {
-      taken = taken-then first old was (One s ∷ []) l.given l.taken (d.taken, tt);
+      is_accepted = is_accepted-then first old was (One s ∷ []) l.given l.is_accepted (d.is_accepted, tt);
       given = after-then first old (raw old (One s)) was (One s ∷ []) l.given refl;
     } in
     subst (λ (b : Parts). Leads first now b) (sym d.changed)

@@ -5,7 +5,7 @@ use Rattle.edit_forms.specs.declared.step.Step.{Step}
 use Rattle.edit_forms.specs.declared.edit.Edit.{Edit}
 use Rattle.edit_forms.specs.declared.edit.Edit.TheVariants.{One}
 use Rattle.edit_refusals.specs.Edits.{raw}
-use Rattle.bank_edits.specs.Undone.{IsTaken}
+use Rattle.bank_edits.specs.Undone.{IsAccepted}
 
 -- a first bank, edits, and the bank to which they lead
 pub record Drafted : Type 0 where
@@ -15,7 +15,7 @@ pub record Drafted : Type 0 where
 
 -- the step is accepted by the bank, and appended to the list of edits
 pub record IsDoneStep (old new : Parts) (was now : List Edit) (s : Step) : Type 0 where
-  pub taken : IsTaken old (One s)
+  pub is_accepted : IsAccepted old (One s)
   pub changed : new ≡ raw old (One s)
   pub listed : now ≡ was ++ One s ∷ []
 
@@ -25,6 +25,6 @@ pub record IsNoStep (old new : Parts) (was now : List Edit) : Type 0 where
   pub list : now ≡ was
 
 -- a step is applied and listed, or nothing changes
-abbrev pub IsTry : {Why : Type 0} → Parts → Parts → List Edit → List Edit → Step → Result (Unit {0}) Why → Type 0
-IsTry old new was now s (Ok done) = IsDoneStep old new was now s
-IsTry old new was now s (Err why) = IsNoStep old new was now
+abbrev pub IsStepResult : {Why : Type 0} → Parts → Parts → List Edit → List Edit → Step → Result (Unit {0}) Why → Type 0
+IsStepResult old new was now s (Ok done) = IsDoneStep old new was now s
+IsStepResult old new was now s (Err why) = IsNoStep old new was now

@@ -1,2 +1,2 @@
-pub use Rattle.script_of_bank.specs.Whole
+pub use Rattle.script_of_bank.specs.LeadsTo
 pub mod Drafts

@@ -1,8 +1,8 @@
 //! A draft: a first bank, the edits so far, and the bank to which they lead.
 ghost use Rattle.std.specs.Prelude.{◌≡◌, IfOk};
-ghost use Rattle.script_of_bank.specs.Whole.{Leads};
+ghost use Rattle.script_of_bank.specs.LeadsTo.{Leads};
 
-use crate::doing::{Stop, do_step};
+use crate::applied_steps::{Stop, apply_step};
 use bank_core::Bank;
 use edit_forms::{Edit, Step};
 use sf_base::OutOfMemory;
@@ -18,7 +18,7 @@ pub(crate) struct Draft<'d, 'a> {
 }
 
 impl<'d, 'a> Model for Draft<'d, 'a> {
-    ghost use Rattle.script_of_bank.specs.Whole.{Leads};
+    ghost use Rattle.script_of_bank.specs.LeadsTo.{Leads};
     ghost use Rattle.diff_banks.specs.Drafts.{Drafted};
     ghost use Rattle.generators.specs.contracts.gen_map.GenMap as gens;
     ghost use Rattle.std.specs.Coded.{codes};
@@ -73,6 +73,6 @@ impl<'d, 'a> Draft<'d, 'a> {
     fn edit(&mut self, alloc: Global, step: Step<'a>) -> Result<(), Stop>
         ensures { self.new.first ≡ self.old.first }
     {
-        do_step(alloc, &mut self.bank, &mut self.edits, step)
+        apply_step(alloc, &mut self.bank, &mut self.edits, step)
     }
 }

@@ -2,8 +2,8 @@
 //! kept small by heuristics.
 #![tactic(auto)]
 
-mod between;
-mod doing;
+mod applied_steps;
 mod draft;
+mod two_banks;
 
-pub use between::difference;
+pub use two_banks::difference;

@@ -3,19 +3,21 @@
 //! call here is only proved not to panic.
 #![tactic(auto)]
 
-mod level;
-mod members;
 mod numbers;
+mod owner_lists;
+mod point_diff;
 mod points;
 mod pushing;
-mod recuts;
+mod renumbered_owners;
 mod samples;
 mod settings;
 mod splits;
 mod texts;
 mod zones;
 
-pub use level::Level;
-pub use members::{Member, Plan, member_plan, remove_steps, split_steps, zone_steps};
-pub use samples::{kind_steps, remove_sample_steps, sample_plan};
+pub use owner_lists::{
+    EditableHead, Rearrangement, member_rearrangement, remove_steps, split_steps, zone_steps,
+};
+pub use renumbered_owners::RenumberedOwners;
+pub use samples::{kind_steps, remove_sample_steps, sample_rearrangement};
 pub use texts::text_steps;

@@ -2,7 +2,7 @@
 use crate::numbers::member_number;
 use crate::pushing::push_setting_step;
 use bank_core::{Owner, Place};
-use diff_orders::{before, behind, common_back, common_front};
+use diff_orders::{before, common_back, common_front, tail_from};
 use edit_forms::{SettingStep, Step};
 use modulators::Modulator;
 use sf_base::OutOfMemory;
@@ -41,7 +41,7 @@ fn clear_steps<'a>(
 }
 
 /// Whether the modulators differ but no step can change them, as one of them is a link.
-pub(crate) fn mods_are_barred(had: &[Modulator], wanted: &[Modulator]) -> bool {
+pub(crate) fn mods_are_unreachable(had: &[Modulator], wanted: &[Modulator]) -> bool {
     had != wanted && (has_link(had) || has_link(wanted))
 }
 
@@ -58,14 +58,14 @@ pub(crate) fn mod_steps<'a>(
     wanted: &[Modulator],
 ) -> Result<(), OutOfMemory> {
     let first = common_front(had, wanted);
-    let (had, wanted) = (behind(had, first), behind(wanted, first));
+    let (had, wanted) = (tail_from(had, first), tail_from(wanted, first));
     let last = common_back(had, wanted);
     let had = before(had, had.len().saturating_sub(last));
     let wanted = before(wanted, wanted.len().saturating_sub(last));
     set_steps(steps, owner, place, first, before(wanted, had.len()))?;
     let both = first.saturating_add(wanted.len().min(had.len()));
-    remove_steps(steps, owner, place, both, behind(had, wanted.len()))?;
-    add_steps(steps, owner, place, both, behind(wanted, had.len()))
+    remove_steps(steps, owner, place, both, tail_from(had, wanted.len()))?;
+    add_steps(steps, owner, place, both, tail_from(wanted, had.len()))
 }
 
 fn set_steps<'a>(

@@ -1,7 +1,7 @@
 //! Proposes splits of zones.
 use crate::numbers::member_number;
 use crate::pushing::push_zone_step;
-use crate::zones::Pair;
+use crate::zones::OwnerPair;
 use bank_core::ZonePlace;
 use bank_parts::OwnerHead;
 use bank_zone_ranges::range_operator;
@@ -9,7 +9,7 @@ use edit_forms::{Axis, Step, ZoneStep};
 use generators::Range;
 use sf_base::OutOfMemory;
 
-impl<'s, H: OwnerHead> Pair<'s, H> {
+impl<'s, H: OwnerHead> OwnerPair<'s, H> {
     /// Proposes a split of each zone that corresponds to two wanted zones, if the zones before it are
     /// unchanged or split too.
     pub(crate) fn split_steps<'a>(&self, steps: &mut Vec<Step<'a>>) -> Result<(), OutOfMemory> {

@@ -2,7 +2,7 @@
 use crate::pushing::push_step;
 use bank_core::{Bank, InfoId};
 use edit_forms::{Step, TextStep};
-use sf_base::{Lent, OutOfMemory};
+use sf_base::{BorrowedBytes, OutOfMemory};
 use std::alloc::Global;
 
 const IDS: [InfoId; 8] = [
@@ -26,7 +26,7 @@ pub fn text_steps<'a>(
     for id in IDS {
         let text = to.info(id);
         if now.info(id) != text {
-            let text = Lent::new(text);
+            let text = BorrowedBytes::new(text);
             push_step(&mut steps, Step::Text(TextStep::SetInfo { id, text }))?;
         }
     }

@@ -11,11 +11,11 @@ use Rattle.bank_parts.specs.declared.texts.InfoId.{InfoId}
 use Rattle.bank_parts.specs.declared.parts.Kind.{Kind}
 use Rattle.bank_parts.specs.declared.parts.Kind.TheVariants.{Mono, Right, Left, Linked}
 use Rattle.bank_parts.specs.declared.parts.Zone.{Zone}
-use Rattle.bank_parts.specs.declared.parts.WithZones.{WithZones}
+use Rattle.bank_parts.specs.declared.parts.ZoneOwner.{ZoneOwner}
 use Rattle.bank_parts.specs.declared.parts.Sample.{Sample}
 use Rattle.bank_parts.specs.declared.parts.Parts.{Parts}
 use Rattle.bank_parts.specs.Texts.{most_bytes, is_engine}
-use Rattle.bank_parts.specs.Contents.{misses_target, sets_foreign, has_foreign, is_bad_range, sets_bad_range}
+use Rattle.bank_parts.specs.Contents.{has_missing_target, sets_bad_generator, has_bad_generator, is_bad_range, sets_bad_range}
 use Rattle.bank_parts.specs.Contents.{has_bad_range}
 use Rattle.bank_zone_ranges.specs.declared.axes.Axis.{Axis}
 use Rattle.bank_zone_ranges.specs.declared.axes.Keep.{Keep}
@@ -23,7 +23,7 @@ use Rattle.bank_changes.specs.declared.members.Owner.{Owner}
 use Rattle.bank_changes.specs.declared.members.Owner.TheVariants as owner
 use Rattle.bank_changes.specs.declared.members.Place.{Place}
 use Rattle.bank_changes.specs.declared.members.Place.TheVariants as place
-use Rattle.bank_changes.specs.Members.{own_zone_count, target_count, mods_of, amount_of}
+use Rattle.bank_changes.specs.Members.{owner_zone_count, target_count, mods_of, amount_of}
 use Rattle.bank_changes.specs.Zones.{can_split, can_join}
 use Rattle.bank_changes.specs.Instruments.{instrument_in_use}
 use Rattle.bank_changes.specs.Samples.{sample_in_use}
@@ -37,16 +37,16 @@ use Rattle.edit_forms.specs.declared.cause.Cause.TheVariants.{BadLoop, BadText}
 
 -- a cause of refusal, and whether it applies
 pub record Test : Type 0 where
-  pub stands : Bool
+  pub applies : Bool
   pub cause : Cause
 
 abbrev pub test : Bool → Cause → Test
-test stands cause = record { stands = stands; cause = cause }
+test applies cause = record { applies = applies; cause = cause }
 
 -- the first cause that applies, otherwise `last`
 abbrev pub first_cause : List Test → Option Cause → Option Cause
 first_cause [] last = last
-first_cause (t ∷ others) last = if t.stands then Some t.cause else first_cause others last
+first_cause (t ∷ others) last = if t.applies then Some t.cause else first_cause others last
 
 -- ---- presets and instruments
 
@@ -68,7 +68,7 @@ no_such_owner b (owner.Inst i) = no_such_instrument b i
 
 -- the number of zones of an owner without its global zone; 0 if there is no such owner
 abbrev pub zone_total : Parts → Owner → ℕ
-zone_total b o = unwrap_or (own_zone_count b o) 0
+zone_total b o = unwrap_or (owner_zone_count b o) 0
 
 abbrev pub no_such_zone : Parts → Owner → ℕ → Test
 no_such_zone b o k = test (nat_le (zone_total b o) k) NoSuchZone
@@ -89,11 +89,11 @@ no_such_target_of b o target = test (nat_le (target_count b o) target) (target_c
 
 -- the operators and ranges of one zone
 
-abbrev pub bad_generators : Level → Zone → Test
-bad_generators at zone = test (sets_foreign at zone.gens) BadGenerator
+abbrev pub bad_zone_generator : Level → Zone → Test
+bad_zone_generator at zone = test (sets_bad_generator at zone.gens) BadGenerator
 
-abbrev pub bad_ranges : Zone → Test
-bad_ranges zone = test (sets_bad_range zone.gens) BadRange
+abbrev pub bad_zone_range : Zone → Test
+bad_zone_range zone = test (sets_bad_range zone.gens) BadRange
 
 -- not `lo < M <= hi` for the effective range of the zone
 abbrev pub split_outside : Parts → Owner → ℕ → Axis → ℕ → Test
@@ -133,15 +133,15 @@ linked_modulator b o at m = test (list_any is_link (mods_there b o at) || is_lin
 -- ---- presets or instruments to be added
 
 -- the target of a zone is not below `count`
-abbrev pub no_such_target : {H : Type 0} → ℕ → WithZones H → Cause → Test
-no_such_target count x cause = test (misses_target count x) cause
+abbrev pub no_such_target : {H : Type 0} → ℕ → ZoneOwner H → Cause → Test
+no_such_target count x cause = test (has_missing_target count x) cause
 
 -- an operator that the level does not allow; target operators are included
-abbrev pub bad_generator : {H : Type 0} → Level → WithZones H → Test
-bad_generator at x = test (has_foreign at x) BadGenerator
+abbrev pub bad_generator : {H : Type 0} → Level → ZoneOwner H → Test
+bad_generator at x = test (has_bad_generator at x) BadGenerator
 
 -- a range without `low <= high <= 127`
-abbrev pub bad_range : {H : Type 0} → WithZones H → Test
+abbrev pub bad_range : {H : Type 0} → ZoneOwner H → Test
 bad_range x = test (has_bad_range x) BadRange
 
 -- ---- samples
@@ -194,12 +194,12 @@ used_sample b sample = test (sample_in_use b sample) InUse
 -- ---- indexes
 
 -- an index at which nothing can be inserted in a list of this length
-abbrev pub bad_place : ℕ → ℕ → Test
-bad_place count at = test (nat_lt count at) BadPlace
+abbrev pub bad_insert_index : ℕ → ℕ → Test
+bad_insert_index count at = test (nat_lt count at) BadPlace
 
 -- not the index of a member of a list of this length
-abbrev pub no_such_place : ℕ → ℕ → Test
-no_such_place count at = test (nat_le count at) BadPlace
+abbrev pub bad_member_index : ℕ → ℕ → Test
+bad_member_index count at = test (nat_le count at) BadPlace
 
 -- ---- texts
 

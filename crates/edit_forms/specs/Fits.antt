@@ -18,9 +18,9 @@ use Rattle.edit_forms.specs.Settings as settings
 use Rattle.edit_forms.specs.Texts as texts
 
 -- the number of an owner has 32 bits
-abbrev pub FitsNumberOf : Owner → Type 0
-FitsNumberOf (owner.Preset p) = p < 2 ^ 32
-FitsNumberOf (owner.Inst i) = i < 2 ^ 32
+abbrev pub FitsOwnerNumber : Owner → Type 0
+FitsOwnerNumber (owner.Preset p) = p < 2 ^ 32
+FitsOwnerNumber (owner.Inst i) = i < 2 ^ 32
 
 abbrev pub FitsPlace : Place → Type 0
 FitsPlace place.Global = Unit {0}
@@ -32,8 +32,8 @@ FitsStep (Preset s) = presets.Fits s
 FitsStep (Instrument s) = instruments.Fits s
 FitsStep (Sample s) = samples.Fits s
 FitsStep (Points i s) = (i < 2 ^ 32) × points.Fits s
-FitsStep (Zone o s) = FitsNumberOf o × zones.Fits s
-FitsStep (Setting o at s) = FitsNumberOf o × FitsPlace at × settings.Fits s
+FitsStep (Zone o s) = FitsOwnerNumber o × zones.Fits s
+FitsStep (Setting o at s) = FitsOwnerNumber o × FitsPlace at × settings.Fits s
 FitsStep (Text s) = texts.Fits s
 
 abbrev pub FitsEdit : Edit → Type 0

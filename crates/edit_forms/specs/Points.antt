@@ -50,12 +50,12 @@ inverse b sample (SetTune rate key correction) =
     (SetTune rate key correction)
 
 -- applying the step allocates nothing
-abbrev pub GrowsNothing : PointStep → Type 0
-GrowsNothing (Trim front back) = ⊥
-GrowsNothing (Extend front back) = ⊥
-GrowsNothing (SetLoop looped) = Unit {0}
-GrowsNothing (SetKind kind) = Unit {0}
-GrowsNothing (SetTune rate key correction) = Unit {0}
+abbrev pub AllocatesNothing : PointStep → Type 0
+AllocatesNothing (Trim front back) = ⊥
+AllocatesNothing (Extend front back) = ⊥
+AllocatesNothing (SetLoop looped) = Unit {0}
+AllocatesNothing (SetKind kind) = Unit {0}
+AllocatesNothing (SetTune rate key correction) = Unit {0}
 
 -- the step changes no sound, for any bank
 abbrev pub is_neutral : PointStep → Bool
@@ -66,6 +66,6 @@ is_neutral (SetKind kind) = true
 is_neutral (SetTune rate key correction) = false
 
 -- the points that the step adds before and after those of the sample
-abbrev pub points_in : PointStep → Option (List ℕ × List ℕ)
-points_in (Extend front back) = Some (front, back)
-points_in _ = None
+abbrev pub added_points : PointStep → Option (List ℕ × List ℕ)
+added_points (Extend front back) = Some (front, back)
+added_points _ = None

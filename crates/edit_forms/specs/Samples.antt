@@ -8,7 +8,7 @@ use Rattle.bank_parts.specs.Fits.{FitsSample}
 use Rattle.bank_changes.specs.Samples.{sample_renamed, sample_added, sample_removed, sample_moved}
 use Rattle.edit_forms.specs.declared.samples.SampleStep.{SampleStep}
 use Rattle.edit_forms.specs.declared.samples.SampleStep.TheVariants.{RenameSample, AddSample, RemoveSample, MoveSample}
-use Rattle.edit_forms.specs.Causes.{Test, no_such_sample, no_such_link, used_sample, no_such_place, bad_place, bad_loop}
+use Rattle.edit_forms.specs.Causes.{Test, no_such_sample, no_such_link, used_sample, bad_member_index, bad_insert_index, bad_loop}
 
 -- each number, name and text is in the range of its field
 abbrev pub Fits : SampleStep → Type 0
@@ -27,9 +27,9 @@ raw b (MoveSample from to) = sample_moved b from to
 -- the step's possible causes of refusal, in the order of their numbers
 abbrev pub causes : Parts → SampleStep → List Test
 causes b (RenameSample sample name) = no_such_sample b sample ∷ []
-causes b (AddSample at sample) = no_such_link b sample.kind ∷ bad_place (length b.samples) at ∷ bad_loop sample ∷ []
+causes b (AddSample at sample) = no_such_link b sample.kind ∷ bad_insert_index (length b.samples) at ∷ bad_loop sample ∷ []
 causes b (RemoveSample sample) = no_such_sample b sample ∷ used_sample b sample ∷ []
-causes b (MoveSample from to) = no_such_sample b from ∷ no_such_place (length b.samples) to ∷ []
+causes b (MoveSample from to) = no_such_sample b from ∷ bad_member_index (length b.samples) to ∷ []
 
 -- the inverse step, computed from the bank before the step
 abbrev pub inverse : Parts → SampleStep → SampleStep
@@ -41,22 +41,22 @@ inverse b (RemoveSample sample) =
 inverse b (MoveSample from to) = MoveSample to from
 
 -- applying the step allocates nothing
-abbrev pub GrowsNothing : SampleStep → Type 0
-GrowsNothing (RenameSample sample name) = Unit {0}
-GrowsNothing (AddSample at sample) = ⊥
-GrowsNothing (RemoveSample sample) = ⊥
-GrowsNothing (MoveSample from to) = Unit {0}
+abbrev pub AllocatesNothing : SampleStep → Type 0
+AllocatesNothing (RenameSample sample name) = Unit {0}
+AllocatesNothing (AddSample at sample) = ⊥
+AllocatesNothing (RemoveSample sample) = ⊥
+AllocatesNothing (MoveSample from to) = Unit {0}
 
 -- the step changes no sound, for any bank
 abbrev pub is_neutral : SampleStep → Bool
 is_neutral s = true
 
 -- the sample that the step adds
-abbrev pub sample_in : SampleStep → Option Sample
-sample_in (AddSample at sample) = Some sample
-sample_in _ = None
+abbrev pub added_sample : SampleStep → Option Sample
+added_sample (AddSample at sample) = Some sample
+added_sample _ = None
 
 -- the name that the step sets
-abbrev pub name_in : SampleStep → Option (List ℕ)
-name_in (RenameSample sample name) = Some name
-name_in _ = None
+abbrev pub new_name : SampleStep → Option (List ℕ)
+new_name (RenameSample sample name) = Some name
+new_name _ = None

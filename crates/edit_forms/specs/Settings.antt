@@ -11,7 +11,7 @@ use Rattle.bank_changes.specs.Members.{level_of, amount_of, mod_at}
 use Rattle.bank_changes.specs.Settings.{gen_set, gen_cleared, mod_added, mod_removed, mod_set}
 use Rattle.edit_forms.specs.declared.settings.SettingStep.{SettingStep}
 use Rattle.edit_forms.specs.declared.settings.SettingStep.TheVariants.{SetGen, ClearGen, AddMod, RemoveMod, SetMod}
-use Rattle.edit_forms.specs.Causes.{Test, bad_place, mods_there, no_such_modulator, linked_place, linked_modulator}
+use Rattle.edit_forms.specs.Causes.{Test, bad_insert_index, mods_there, no_such_modulator, linked_place, linked_modulator}
 use Rattle.edit_forms.specs.Causes.{foreign_operator, bad_amount, not_set}
 
 -- each number, name and text is in the range of its field
@@ -35,7 +35,7 @@ abbrev pub causes : Parts → Owner → Place → SettingStep → List Test
 causes b o at (SetGen operator amount) = foreign_operator (level_of o) operator ∷ bad_amount operator amount ∷ []
 causes b o at (ClearGen operator) = foreign_operator (level_of o) operator ∷ not_set b o at operator ∷ []
 causes b o at (AddMod index modulator) =
-    bad_place (length (mods_there b o at)) index ∷ linked_modulator b o at modulator ∷ []
+    bad_insert_index (length (mods_there b o at)) index ∷ linked_modulator b o at modulator ∷ []
 causes b o at (RemoveMod index) = no_such_modulator b o at index ∷ linked_place b o at ∷ []
 causes b o at (SetMod index modulator) = no_such_modulator b o at index ∷ linked_modulator b o at modulator ∷ []
 
@@ -52,8 +52,8 @@ inverse b o at (SetMod index modulator) =
     option_map_or (λ (m : Modulator). SetMod index m) (mod_at b o at index) (SetMod index modulator)
 
 -- applying the step allocates nothing
-abbrev pub GrowsNothing : SettingStep → Type 0
-GrowsNothing s = ⊥
+abbrev pub AllocatesNothing : SettingStep → Type 0
+AllocatesNothing s = ⊥
 
 -- the step changes no sound, for any bank
 abbrev pub is_neutral : SettingStep → Bool

@@ -52,14 +52,14 @@ inverse b (Setting o at s) = Setting o at (settings.inverse b o at s)
 inverse b (Text s) = Text (texts.inverse b s)
 
 -- applying the step allocates nothing
-abbrev pub GrowsNothing : Step → Type 0
-GrowsNothing (Preset s) = presets.GrowsNothing s
-GrowsNothing (Instrument s) = instruments.GrowsNothing s
-GrowsNothing (Sample s) = samples.GrowsNothing s
-GrowsNothing (Points i s) = points.GrowsNothing s
-GrowsNothing (Zone o s) = zones.GrowsNothing s
-GrowsNothing (Setting o at s) = settings.GrowsNothing s
-GrowsNothing (Text s) = texts.GrowsNothing s
+abbrev pub AllocatesNothing : Step → Type 0
+AllocatesNothing (Preset s) = presets.AllocatesNothing s
+AllocatesNothing (Instrument s) = instruments.AllocatesNothing s
+AllocatesNothing (Sample s) = samples.AllocatesNothing s
+AllocatesNothing (Points i s) = points.AllocatesNothing s
+AllocatesNothing (Zone o s) = zones.AllocatesNothing s
+AllocatesNothing (Setting o at s) = settings.AllocatesNothing s
+AllocatesNothing (Text s) = texts.AllocatesNothing s
 
 -- the step changes no sound, for any bank
 abbrev pub is_neutral_step : Step → Bool

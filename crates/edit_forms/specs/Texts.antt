@@ -25,8 +25,8 @@ abbrev pub inverse : Parts → TextStep → TextStep
 inverse b (SetInfo id text) = SetInfo id (text_of b.texts id)
 
 -- applying the step allocates nothing
-abbrev pub GrowsNothing : TextStep → Type 0
-GrowsNothing (SetInfo id text) = Unit {0}
+abbrev pub AllocatesNothing : TextStep → Type 0
+AllocatesNothing (SetInfo id text) = Unit {0}
 
 -- the step changes no sound, for any bank
 abbrev pub is_neutral : TextStep → Bool

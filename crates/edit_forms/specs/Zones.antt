@@ -12,8 +12,8 @@ use Rattle.bank_changes.specs.Zones.{zone_added, zone_removed, zone_moved, zone_
 use Rattle.edit_forms.specs.declared.zones.ZoneStep.{ZoneStep}
 use Rattle.edit_forms.specs.declared.zones.ZoneStep.TheVariants.{AddZone, RemoveZone, MoveZone, SplitZone, JoinZone}
 use Rattle.edit_forms.specs.declared.zones.ZoneStep.TheVariants.{SetTarget}
-use Rattle.edit_forms.specs.Causes.{Test, zone_total, no_such_zone, no_such_target_of, no_such_place, bad_place}
-use Rattle.edit_forms.specs.Causes.{bad_generators, bad_ranges, split_outside, not_joinable}
+use Rattle.edit_forms.specs.Causes.{Test, zone_total, no_such_zone, no_such_target_of, bad_member_index, bad_insert_index}
+use Rattle.edit_forms.specs.Causes.{bad_zone_generator, bad_zone_range, split_outside, not_joinable}
 
 -- each number, name and text is in the range of its field
 abbrev pub Fits : ZoneStep → Type 0
@@ -37,12 +37,12 @@ raw b o (SetTarget zone target) = target_set b o zone target
 abbrev pub causes : Parts → Owner → ZoneStep → List Test
 causes b o (AddZone at zone) =
     no_such_target_of b o zone.target
-    ∷ bad_place (zone_total b o) at
-    ∷ bad_generators (level_of o) zone
-    ∷ bad_ranges zone
+    ∷ bad_insert_index (zone_total b o) at
+    ∷ bad_zone_generator (level_of o) zone
+    ∷ bad_zone_range zone
     ∷ []
 causes b o (RemoveZone zone) = no_such_zone b o zone ∷ []
-causes b o (MoveZone from to) = no_such_zone b o from ∷ no_such_place (zone_total b o) to ∷ []
+causes b o (MoveZone from to) = no_such_zone b o from ∷ bad_member_index (zone_total b o) to ∷ []
 causes b o (SplitZone zone axis at) = no_such_zone b o zone ∷ split_outside b o zone axis at ∷ []
 causes b o (JoinZone zone axis kept) = no_such_zone b o (zone + 1) ∷ not_joinable b o zone axis kept ∷ []
 causes b o (SetTarget zone target) = no_such_target_of b o target ∷ no_such_zone b o zone ∷ []
@@ -61,13 +61,13 @@ inverse b o (SetTarget zone target) =
     option_map_or (λ (was : ℕ). SetTarget zone was) (target_of b o zone) (SetTarget zone target)
 
 -- applying the step allocates nothing
-abbrev pub GrowsNothing : ZoneStep → Type 0
-GrowsNothing (AddZone at zone) = ⊥
-GrowsNothing (RemoveZone zone) = ⊥
-GrowsNothing (MoveZone from to) = ⊥
-GrowsNothing (SplitZone zone axis at) = ⊥
-GrowsNothing (JoinZone zone axis kept) = ⊥
-GrowsNothing (SetTarget zone target) = Unit {0}
+abbrev pub AllocatesNothing : ZoneStep → Type 0
+AllocatesNothing (AddZone at zone) = ⊥
+AllocatesNothing (RemoveZone zone) = ⊥
+AllocatesNothing (MoveZone from to) = ⊥
+AllocatesNothing (SplitZone zone axis at) = ⊥
+AllocatesNothing (JoinZone zone axis kept) = ⊥
+AllocatesNothing (SetTarget zone target) = Unit {0}
 
 -- the step changes no sound, for any bank
 abbrev pub is_neutral : ZoneStep → Bool
@@ -79,6 +79,6 @@ is_neutral (JoinZone zone axis kept) = true
 is_neutral (SetTarget zone target) = false
 
 -- the zone that the step adds
-abbrev pub zone_in : ZoneStep → Option Zone
-zone_in (AddZone at zone) = Some zone
-zone_in _ = None
+abbrev pub added_zone : ZoneStep → Option Zone
+added_zone (AddZone at zone) = Some zone
+added_zone _ = None

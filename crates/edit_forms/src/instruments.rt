@@ -1,8 +1,8 @@
 //! Steps that edit instruments.
 ghost use Rattle.std.specs.Prelude.{◌≡◌, Some, IsSome, IfOk};
-ghost use Rattle.edit_forms.specs.Instruments.{Fits, instrument_in, name_in};
+ghost use Rattle.edit_forms.specs.Instruments.{Fits, added_instrument, new_name};
 
-use bank_parts::{CopyOut, Instrument};
+use bank_parts::{Instrument, TryClone};
 use sf_base::{Name20, OutOfMemory};
 use std::alloc::Global;
 
@@ -39,8 +39,8 @@ impl Drop for InstrumentStep {
 impl InstrumentStep {
     /// Returns the instrument that the step adds.
     pub fn into_instrument(self) -> Instrument
-        requires { IsSome (instrument_in self) }
-        ensures { instrument_in self ≡ Some result }
+        requires { IsSome (added_instrument self) }
+        ensures { added_instrument self ≡ Some result }
     {
         match self {
             InstrumentStep::AddInstrument { at: _, instrument } => instrument,
@@ -50,8 +50,8 @@ impl InstrumentStep {
 
     /// Returns the name that the step sets.
     pub fn into_name(self) -> Name20
-        requires { IsSome (name_in self) }
-        ensures { name_in self ≡ Some result }
+        requires { IsSome (new_name self) }
+        ensures { new_name self ≡ Some result }
     {
         match self {
             InstrumentStep::RenameInstrument {
@@ -92,7 +92,7 @@ impl InstrumentStep {
         Ok(match *self {
             InstrumentStep::AddInstrument { at, ref instrument } => InstrumentStep::AddInstrument {
                 at,
-                instrument: instrument.copy_out(alloc)?,
+                instrument: instrument.try_clone(alloc)?,
             },
             InstrumentStep::RemoveInstrument { instrument } => {
                 InstrumentStep::RemoveInstrument { instrument }

@@ -1,6 +1,6 @@
 //! Steps that edit one sample's contents.
 ghost use Rattle.std.specs.Prelude.{◌≡◌, Some, IsSome, IfOk};
-ghost use Rattle.edit_forms.specs.Points.{Fits, is_neutral, points_in};
+ghost use Rattle.edit_forms.specs.Points.{Fits, is_neutral, added_points};
 
 use bank_parts::{Kind, loop_fits};
 use sample_view::Points;
@@ -43,8 +43,8 @@ impl Drop for PointStep<'_> {
 impl<'a> PointStep<'a> {
     /// Returns the points that the step adds before and after those of the sample.
     pub fn into_points(self) -> (Points<'a>, Points<'a>)
-        requires { IsSome (points_in self) }
-        ensures { points_in self.entry ≡ Some (result.0, result.1) }
+        requires { IsSome (added_points self) }
+        ensures { added_points self.entry ≡ Some (result.0, result.1) }
     {
         match self {
             PointStep::Extend { front, back } => (front, back),

@@ -1,8 +1,8 @@
 //! Steps that edit presets.
 ghost use Rattle.std.specs.Prelude.{◌≡◌, Some, IsSome, IfOk};
-ghost use Rattle.edit_forms.specs.Presets.{Fits, preset_in, name_in};
+ghost use Rattle.edit_forms.specs.Presets.{Fits, added_preset, new_name};
 
-use bank_parts::{CopyOut, Preset};
+use bank_parts::{Preset, TryClone};
 use sf_base::{Name20, OutOfMemory};
 use std::alloc::Global;
 
@@ -52,8 +52,8 @@ impl Drop for PresetStep {
 impl PresetStep {
     /// Returns the preset that the step adds.
     pub fn into_preset(self) -> Preset
-        requires { IsSome (preset_in self) }
-        ensures { preset_in self ≡ Some result }
+        requires { IsSome (added_preset self) }
+        ensures { added_preset self ≡ Some result }
     {
         match self {
             PresetStep::AddPreset { at: _, preset } => preset,
@@ -63,8 +63,8 @@ impl PresetStep {
 
     /// Returns the name that the step sets.
     pub fn into_name(self) -> Name20
-        requires { IsSome (name_in self) }
-        ensures { name_in self ≡ Some result }
+        requires { IsSome (new_name self) }
+        ensures { new_name self ≡ Some result }
     {
         match self {
             PresetStep::SetHead {
@@ -114,7 +114,7 @@ impl PresetStep {
         Ok(match *self {
             PresetStep::AddPreset { at, ref preset } => PresetStep::AddPreset {
                 at,
-                preset: preset.copy_out(alloc)?,
+                preset: preset.try_clone(alloc)?,
             },
             PresetStep::RemovePreset { preset } => PresetStep::RemovePreset { preset },
             PresetStep::MovePreset { from, to } => PresetStep::MovePreset { from, to },

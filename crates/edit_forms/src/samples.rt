@@ -1,8 +1,8 @@
 //! Steps that edit the list of samples.
 ghost use Rattle.std.specs.Prelude.{◌≡◌, Some, IsSome, IfOk};
-ghost use Rattle.edit_forms.specs.Samples.{Fits, sample_in, name_in};
+ghost use Rattle.edit_forms.specs.Samples.{Fits, added_sample, new_name};
 
-use bank_parts::{CopyOut, Sample};
+use bank_parts::{Sample, TryClone};
 use sf_base::{Name20, OutOfMemory};
 use std::alloc::Global;
 
@@ -33,8 +33,8 @@ impl Drop for SampleStep<'_> {
 impl<'a> SampleStep<'a> {
     /// Returns the sample that the step adds.
     pub fn into_sample(self) -> Sample<'a>
-        requires { IsSome (sample_in self) }
-        ensures { sample_in self.entry ≡ Some result }
+        requires { IsSome (added_sample self) }
+        ensures { added_sample self.entry ≡ Some result }
     {
         match self {
             SampleStep::AddSample { at: _, sample } => sample,
@@ -44,8 +44,8 @@ impl<'a> SampleStep<'a> {
 
     /// Returns the name that the step sets.
     pub fn into_name(self) -> Name20
-        requires { IsSome (name_in self) }
-        ensures { name_in self.entry ≡ Some result }
+        requires { IsSome (new_name self) }
+        ensures { new_name self.entry ≡ Some result }
     {
         match self {
             SampleStep::RenameSample { sample: _, name } => name,
@@ -84,7 +84,7 @@ impl<'a> SampleStep<'a> {
             SampleStep::RenameSample { sample, name } => SampleStep::RenameSample { sample, name },
             SampleStep::AddSample { at, ref sample } => SampleStep::AddSample {
                 at,
-                sample: sample.copy_out(alloc)?,
+                sample: sample.try_clone(alloc)?,
             },
             SampleStep::RemoveSample { sample } => SampleStep::RemoveSample { sample },
             SampleStep::MoveSample { from, to } => SampleStep::MoveSample { from, to },

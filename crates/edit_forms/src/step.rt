@@ -1,6 +1,6 @@
 //! Steps that change a bank, grouped by what they edit.
 ghost use Rattle.std.specs.Prelude.{◌≡◌, IfOk};
-ghost use Rattle.edit_forms.specs.Fits.{FitsNumberOf, FitsPlace, FitsStep};
+ghost use Rattle.edit_forms.specs.Fits.{FitsOwnerNumber, FitsPlace, FitsStep};
 ghost use Rattle.edit_forms.specs.Steps.{is_neutral_step};
 
 use crate::instruments::InstrumentStep;
@@ -87,7 +87,7 @@ impl<'a> Step<'a> {
 // ---- what steps refer to
 
 fn owner_fits(owner: Owner)
-    ensures { FitsNumberOf owner }
+    ensures { FitsOwnerNumber owner }
 {
     match owner {
         Owner::Preset(_number) | Owner::Inst(_number) => {}

@@ -3,13 +3,13 @@ ghost use Rattle.std.specs.Prelude.{◌≡◌};
 ghost use Rattle.edit_forms.specs.Texts.{Fits};
 
 use bank_parts::InfoId;
-use sf_base::Lent;
+use sf_base::BorrowedBytes;
 
 /// A step that edits the texts of a bank. It borrows its text.
 #[derive(Drop)]
 pub enum TextStep<'a> {
     /// `set-info ID TEXT`: sets the text.
-    SetInfo { id: InfoId, text: Lent<'a> },
+    SetInfo { id: InfoId, text: BorrowedBytes<'a> },
 }
 
 impl<'a> TextStep<'a> {
@@ -31,7 +31,7 @@ impl<'a> TextStep<'a> {
         match self {
             TextStep::SetInfo { id, text } => TextStep::SetInfo {
                 id: *id,
-                text: Lent::new(text.bytes()),
+                text: BorrowedBytes::new(text.bytes()),
             },
         }
     }

@@ -1,8 +1,8 @@
 //! Steps that edit the zones of a preset or an instrument.
 ghost use Rattle.std.specs.Prelude.{◌≡◌, Some, IsSome, IfOk};
-ghost use Rattle.edit_forms.specs.Zones.{Fits, is_neutral, zone_in};
+ghost use Rattle.edit_forms.specs.Zones.{Fits, is_neutral, added_zone};
 
-use bank_parts::{CopyOut, Zone};
+use bank_parts::{TryClone, Zone};
 use bank_zone_ranges::{Axis, Keep};
 use sf_base::OutOfMemory;
 use std::alloc::Global;
@@ -49,8 +49,8 @@ impl Drop for ZoneStep {
 impl ZoneStep {
     /// Returns the zone that the step adds.
     pub fn into_zone(self) -> Zone
-        requires { IsSome (zone_in self) }
-        ensures { zone_in self ≡ Some result }
+        requires { IsSome (added_zone self) }
+        ensures { added_zone self ≡ Some result }
     {
         match self {
             ZoneStep::AddZone { at: _, zone } => zone,
@@ -102,7 +102,7 @@ impl ZoneStep {
         Ok(match *self {
             ZoneStep::AddZone { at, ref zone } => ZoneStep::AddZone {
                 at,
-                zone: zone.copy_out(alloc)?,
+                zone: zone.try_clone(alloc)?,
             },
             ZoneStep::RemoveZone { zone } => ZoneStep::RemoveZone { zone },
             ZoneStep::MoveZone { from, to } => ZoneStep::MoveZone { from, to },

@@ -2,7 +2,7 @@
 use Rattle.std.proofs.Common.{◌≡◌, ◌<◌, ◌≤◌, ℕ, false, List, length, None, ◌∙◌, ap, true, refl}
 use Rattle.sf_base.specs.Names.{IsName}
 use Rattle.generators.specs.declared.level.Level.TheVariants as level
-use Rattle.bank_parts.specs.declared.parts.WithZones.{WithZones}
+use Rattle.bank_parts.specs.declared.parts.ZoneOwner.{ZoneOwner}
 use Rattle.bank_parts.specs.declared.parts.Parts.{Parts}
 use Rattle.bank_parts.specs.Valid.{IsValid}
 use Rattle.bank_parts.specs.Fits.{FitsOwner}
@@ -20,7 +20,7 @@ use Rattle.edit_forms.specs.declared.instruments.InstrumentStep.TheVariants.{Ren
 use Rattle.edit_forms.specs.declared.step.Step.TheVariants as steps
 use Rattle.edit_forms.specs.declared.cause.Cause.TheVariants.{NoSuchInstrument, NoSuchSample}
 use Rattle.edit_forms.specs.Steps.{refusal, causes}
-use Rattle.edit_refusals.proofs.Accepted.{NoneStands, accepted, below}
+use Rattle.edit_refusals.proofs.Accepted.{NoneApplies, accepted, below}
 use Rattle.edit_refusals.proofs.Moves.{Moves, moves}
 use Rattle.edit_refusals.proofs.OwnerLaws.{GoesIn, goes_in}
 use Rattle.edit_forms.specs.declared.instruments.InstrumentStep.{InstrumentStep}
@@ -29,7 +29,7 @@ use Rattle.edit_refusals.proofs.Rises.{rises}
 
 -- ---- add-inst
 
-module _ (b : Parts) (i : ℕ) (x : WithZones (List ℕ)) where
+module _ (b : Parts) (i : ℕ) (x : ZoneOwner (List ℕ)) where
   abbrev pub InstrumentGoes : Type 0
   InstrumentGoes = GoesIn (λ name. name) level.Inst (length b.samples) (length b.instruments) i x
 
@@ -58,7 +58,7 @@ module _ (b : Parts) (i : ℕ) where
     pub there : i < length b.instruments
     pub free : instrument_in_use b i ≡ false
 
-  pub instrument_comes : NoneStands (causes b (steps.Instrument (RemoveInstrument i))) → InstrumentComes
+  pub instrument_comes : NoneApplies (causes b (steps.Instrument (RemoveInstrument i))) → InstrumentComes
   instrument_comes (there, (free, end)) = record { there = below (length b.instruments) i there; free = free }
 
   pub sound_remove_instrument : IsSound b → refusal b (steps.Instrument (RemoveInstrument i)) ≡ None

@@ -18,7 +18,7 @@ use Rattle.edit_forms.specs.declared.cause.Cause.TheVariants.{BadLoop, BadText, 
 use Rattle.edit_forms.specs.CauseNames.{number_of}
 use Rattle.edit_forms.specs.Causes.{Test, first_cause, no_such_zone_at}
 use Rattle.edit_forms.specs.Steps.{raw, causes, refusal}
-use Rattle.edit_refusals.specs.Order.{NumbersNeverFall, Stands, IsLowest, LowestIsTold}
+use Rattle.edit_refusals.specs.Order.{NumbersNeverFall, CauseApplies, IsLowest, LowestIsReported}
 use Rattle.edit_forms.specs.declared.step.Step.TheVariants.{Preset, Instrument, Sample, Points, Zone, Setting, Text}
 use Rattle.edit_forms.specs.Zones as zones
 use Rattle.edit_forms.specs.Settings as settings
@@ -76,12 +76,12 @@ numbers_never_fall b s = never_falls 0 (causes b s) (each_rises b s)
 
 -- ---- the reported cause has the lowest number
 
-abbrev StandsIn : List Test → Option Limit → Cause → Type 0
-StandsIn ts l cause = Any (λ (t : Test). (t.stands ≡ true) × (t.cause ≡ cause)) ts ⊎ (option_map Full l ≡ Some cause)
+abbrev AppliesIn : List Test → Option Limit → Cause → Type 0
+AppliesIn ts l cause = Any (λ (t : Test). (t.applies ≡ true) × (t.cause ≡ cause)) ts ⊎ (option_map Full l ≡ Some cause)
 
 record IsLowestIn (ts : List Test) (l : Option Limit) (cause : Cause) : Type 0 where
-  stands : StandsIn ts l cause
-  lowest : (other : Cause) → StandsIn ts l other → number_of cause ≤ number_of other
+  applies : AppliesIn ts l cause
+  lowest : (other : Cause) → AppliesIn ts l other → number_of cause ≤ number_of other
 
 no_higher : (cause : Cause) → number_of cause ≤ 37
 no_higher NoSuchPreset = omega arith
@@ -111,7 +111,7 @@ up_to_limit cause (Some limit) other h = let e : Full limit ≡ other = cc in rw
 
 -- the cause of the first test, if it applies, has the lowest number
 first_is : (n : ℕ) (t : Test) (ts : List Test) (l : Option Limit) (other : Cause) → rises n (t ∷ ts) ≡ true
-    → StandsIn (t ∷ ts) l other → number_of t.cause ≤ number_of other
+    → AppliesIn (t ∷ ts) l other → number_of t.cause ≤ number_of other
 first_is n t ts l other up (inl (k, x, lt, at, is)) =
     let least = never_falls n (t ∷ ts) up 0 k x (omega arith) lt in
     let here : number_of (slice_index_or (t ∷ ts) k x).cause ≡ number_of other =
@@ -120,74 +120,74 @@ first_is n t ts l other up (inl (k, x, lt, at, is)) =
 first_is n t ts l other up (inr e) = up_to_limit t.cause l other e
 
 -- a cause that applies, but not by the first test, applies by a later one
-later : (t : Test) (ts : List Test) (l : Option Limit) (other : Cause) → t.stands ≡ false → StandsIn (t ∷ ts) l other
-    → StandsIn ts l other
+later : (t : Test) (ts : List Test) (l : Option Limit) (other : Cause) → t.applies ≡ false → AppliesIn (t ∷ ts) l other
+    → AppliesIn ts l other
 later t ts l other off (inl (zero, x, lt, at, is)) =
-    let e : t.stands ≡ x.stands = ap (λ (y : Test). y.stands) at in let on = is.0 in cc
+    let e : t.applies ≡ x.applies = ap (λ (y : Test). y.applies) at in let on = is.0 in cc
 later t ts l other off (inl (suc k, x, lt, at, is)) = inl (k, x, omega (arith, lt), at, is)
 later t ts l other off (inr e) = inr e
 
 -- a cause that applies by a later test applies by the whole list
-behind : (t : Test) (ts : List Test) (l : Option Limit) (cause : Cause) → StandsIn ts l cause
-    → StandsIn (t ∷ ts) l cause
+behind : (t : Test) (ts : List Test) (l : Option Limit) (cause : Cause) → AppliesIn ts l cause
+    → AppliesIn (t ∷ ts) l cause
 behind t ts l cause (inl (k, x, lt, at, is)) = inl (suc k, x, omega (arith, lt), at, is)
 behind t ts l cause (inr e) = inr e
 
-none_is_there : (other : Cause) (l : Option Limit) → StandsIn [] l other → option_map Full l ≡ Some other
+none_is_there : (other : Cause) (l : Option Limit) → AppliesIn [] l other → option_map Full l ≡ Some other
 none_is_there other l (inl (k, x, lt, at, is)) = absurd (omega (arith, lt))
 none_is_there other l (inr e) = e
 
 -- the first test applies, or the lowest cause is that of the others
 lowest_of : (n : ℕ) (t : Test) (ts : List Test) (l : Option Limit) (cause : Cause) → rises n (t ∷ ts) ≡ true
-    → ((t.stands ≡ true) × (t.cause ≡ cause)) ⊎ ((t.stands ≡ false) × IsLowestIn ts l cause)
+    → ((t.applies ≡ true) × (t.cause ≡ cause)) ⊎ ((t.applies ≡ false) × IsLowestIn ts l cause)
     → IsLowestIn (t ∷ ts) l cause
 lowest_of n t ts l cause up (inl is) = record {
-  stands = inl (0, t, omega arith, refl, is);
+  applies = inl (0, t, omega arith, refl, is);
   lowest = λ other s. let e = is.1 in rw (sym (ap number_of e)) (first_is n t ts l other up s);
 }
 lowest_of n t ts l cause up (inr rest) = record {
-  stands = behind t ts l cause rest.1.stands;
+  applies = behind t ts l cause rest.1.applies;
   lowest = λ other s. rest.1.lowest other (later t ts l other rest.0 s);
 }
 
 -- the first test applies, or the cause is that of the others
-told : (t : Test) (stands : Bool) (rest : Option Cause) (cause : Cause) (L : Type 0) → (rest ≡ Some cause → L)
-    → cond stands (Some t.cause) rest ≡ Some cause
-    → ((stands ≡ true) × (t.cause ≡ cause)) ⊎ ((stands ≡ false) × L)
-told t true rest cause L go h = inl (refl, cc)
-told t false rest cause L go h = inr (refl, go h)
+reported : (t : Test) (applies : Bool) (rest : Option Cause) (cause : Cause) (L : Type 0) → (rest ≡ Some cause → L)
+    → cond applies (Some t.cause) rest ≡ Some cause
+    → ((applies ≡ true) × (t.cause ≡ cause)) ⊎ ((applies ≡ false) × L)
+reported t true rest cause L go h = inl (refl, cc)
+reported t false rest cause L go h = inr (refl, go h)
 
 lowest_in : (n : ℕ) (ts : List Test) (l : Option Limit) (cause : Cause) → rises n ts ≡ true
     → first_cause ts (option_map Full l) ≡ Some cause → IsLowestIn ts l cause
 lowest_in n [] l cause up h = record {
-  stands = inr h;
+  applies = inr h;
   lowest = λ other is. up_to_limit cause l other (none_is_there other l is);
 }
 lowest_in n (t ∷ ts) l cause up h =
     let above = (both (nat_le n (number_of t.cause)) (rises (number_of t.cause) ts) up).1 in
     lowest_of n t ts l cause up
-    (told t t.stands (first_cause ts (option_map Full l)) cause (IsLowestIn ts l cause)
+    (reported t t.applies (first_cause ts (option_map Full l)) cause (IsLowestIn ts l cause)
     (lowest_in (number_of t.cause) ts l cause above) h)
 
 -- if no cause is reported, none applies
-none_told : (stands : Bool) (cause : Cause) (rest : Option Cause) → cond stands (Some cause) rest ≡ None
-    → (stands ≡ false) × (rest ≡ None)
-none_told true cause rest h = cc
-none_told false cause rest h = (refl, h)
+none_reported : (applies : Bool) (cause : Cause) (rest : Option Cause) → cond applies (Some cause) rest ≡ None
+    → (applies ≡ false) × (rest ≡ None)
+none_reported true cause rest h = cc
+none_reported false cause rest h = (refl, h)
 
 none_in : (ts : List Test) (l : Option Limit) → first_cause ts (option_map Full l) ≡ None → (other : Cause)
-    → StandsIn ts l other → ⊥
+    → AppliesIn ts l other → ⊥
 none_in [] l h other s = let e = none_is_there other l s in cc
 none_in (t ∷ ts) l h other s =
-    let n = none_told t.stands t.cause (first_cause ts (option_map Full l)) h in
+    let n = none_reported t.applies t.cause (first_cause ts (option_map Full l)) h in
     none_in ts l n.1 other (later t ts l other n.0 s)
 
 by_answer : (b : Parts) (s : Step) (answer : Option Cause) → refusal b s ≡ answer
-    → MatchOption answer ((other : Cause) → Stands b s other → ⊥) (IsLowest b s)
+    → MatchOption answer ((other : Cause) → CauseApplies b s other → ⊥) (IsLowest b s)
 by_answer b s None h = none_in (causes b s) (broken_limit (raw b s)) h
 by_answer b s (Some cause) h =
     let lowest = lowest_in 0 (causes b s) (broken_limit (raw b s)) cause (each_rises b s) h in
-    record { stands = lowest.stands; lowest = lowest.lowest }
+    record { applies = lowest.applies; lowest = lowest.lowest }
 
-pub lowest_is_told : LowestIsTold
-lowest_is_told b s = by_answer b s (refusal b s) refl
+pub lowest_is_reported : LowestIsReported
+lowest_is_reported b s = by_answer b s (refusal b s) refl

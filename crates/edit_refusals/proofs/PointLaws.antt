@@ -11,7 +11,7 @@ use Rattle.bank_parts.specs.Fits.{FitsKind}
 use Rattle.bank_parts.specs.Sound.{IsSound}
 use Rattle.bank_validity.specs.Limits.{totals_of, broken, broken_limit}
 use Rattle.bank_validity.proofs.LimitLaws.{no_limit_of}
-use Rattle.bank_changes.specs.Points.{points_of, loop_of, looped_as, of_kind, tuned, sample_changed, sample_trimmed}
+use Rattle.bank_changes.specs.Points.{points_of, loop_of, with_loop, with_kind, with_tune, sample_changed, sample_trimmed}
 use Rattle.bank_changes.specs.Points.{sample_extended, loop_set, kind_set, tune_set}
 use Rattle.bank_changes.proofs.Everywhere.{or_left, or_right, or_none}
 use Rattle.bank_changes.proofs.References.{link_weaker}
@@ -21,7 +21,7 @@ use Rattle.edit_forms.specs.declared.points.PointStep.TheVariants.{Trim, Extend,
 use Rattle.edit_forms.specs.declared.step.Step.TheVariants as steps
 use Rattle.edit_forms.specs.Causes.{cuts_loop, no_such_sample}
 use Rattle.edit_forms.specs.Steps.{refusal, causes}
-use Rattle.edit_refusals.proofs.Accepted.{NoneStands, accepted, by_limit, below, not_below, up_to, not_above}
+use Rattle.edit_refusals.proofs.Accepted.{NoneApplies, accepted, by_limit, below, not_below, up_to, not_above}
 use Rattle.edit_refusals.proofs.SampleLaws.{link_hits, hit_link, loop_hits, hit_loop}
 use Rattle.edit_forms.specs.declared.points.PointStep.{PointStep}
 use Rattle.edit_forms.specs.Points as points
@@ -56,14 +56,14 @@ module _ (b : Parts) (i front back : ℕ) where
     pub inside : front + back ≤ length (points_of b i)
     pub outside : OutsideLoop (length (points_of b i)) front back (loop_of b i)
 
-  pub trims : NoneStands (causes b (steps.Points i (Trim front back))) → Trims
+  pub trims : NoneApplies (causes b (steps.Points i (Trim front back))) → Trims
   trims (there, (inside, (outside, end))) = record {
     there = below (length b.samples) i there;
     inside = up_to (length (points_of b i)) (front + back) inside;
     outside = outside_loop (length (points_of b i)) front back (loop_of b i) outside;
   }
 
-  pub tests_trim : Trims → NoneStands (causes b (steps.Points i (Trim front back)))
+  pub tests_trim : Trims → NoneApplies (causes b (steps.Points i (Trim front back)))
   tests_trim t = (
     not_below (length b.samples) i t.there,
     (
@@ -102,11 +102,11 @@ module _ (b : Parts) (i : ℕ) (looped : Option (ℕ × ℕ)) where
     pub there : i < length b.samples
     pub inside : IsLoop (length (points_of b i)) looped
 
-  pub loops : NoneStands (causes b (steps.Points i (SetLoop looped))) → Loops
+  pub loops : NoneApplies (causes b (steps.Points i (SetLoop looped))) → Loops
   loops (there, (inside, end)) =
       record { there = below (length b.samples) i there; inside = loop_hits (length (points_of b i)) looped inside }
 
-  pub tests_loop : Loops → NoneStands (causes b (steps.Points i (SetLoop looped)))
+  pub tests_loop : Loops → NoneApplies (causes b (steps.Points i (SetLoop looped)))
   tests_loop l = (not_below (length b.samples) i l.there, (hit_loop (length (points_of b i)) looped l.inside, tt))
 
   pub sound_loop : IsSound b → Loops → IsSound (loop_set b i looped)
@@ -117,7 +117,7 @@ module _ (b : Parts) (i : ℕ) (looped : Option (ℕ × ℕ)) where
       let inside : IsLoop (length s.points) looped = rw e at l.inside in
       let all = among b.samples i s e in
       let few = sound.valid.limits.points in
-      changed_sound b i (looped_as looped) s e sound
+      changed_sound b i (with_loop looped) s e sound
       (record { name = v.name; looped = inside; kind = v.kind })
       (record {
         name =
@@ -132,7 +132,7 @@ module _ (b : Parts) (i : ℕ) (looped : Option (ℕ × ℕ)) where
         correction = g.correction;
         kind = g.kind;
       })
-      (within_change b i (looped_as looped) sound l.there (λ s. refl))
+      (within_change b i (with_loop looped) sound l.there (λ s. refl))
 
 -- ---- set-kind
 
@@ -141,11 +141,11 @@ module _ (b : Parts) (i : ℕ) (kind : Kind) where
     pub there : i < length b.samples
     pub link : IsLink (length b.samples) kind
 
-  pub links : NoneStands (causes b (steps.Points i (SetKind kind))) → Links
+  pub links : NoneApplies (causes b (steps.Points i (SetKind kind))) → Links
   links (there, (link, end)) =
       record { there = below (length b.samples) i there; link = link_hits (length b.samples) kind link }
 
-  pub tests_kind : Links → NoneStands (causes b (steps.Points i (SetKind kind)))
+  pub tests_kind : Links → NoneApplies (causes b (steps.Points i (SetKind kind)))
   tests_kind l = (not_below (length b.samples) i l.there, (hit_link (length b.samples) kind l.link, tt))
 
   pub sound_kind : IsSound b → Links → IsSound (kind_set b i kind)
@@ -156,7 +156,7 @@ module _ (b : Parts) (i : ℕ) (kind : Kind) where
       let few = sound.valid.limits.samples in
       let fits : FitsKind kind =
       link_weaker (λ x. x < length b.samples) (λ x. x < 2 ^ 16) (λ x h. omega (arith, h, few)) kind l.link in
-      changed_sound b i (of_kind kind) s e sound
+      changed_sound b i (with_kind kind) s e sound
       (record { name = v.name; looped = v.looped; kind = l.link })
       (record {
         name =
@@ -169,7 +169,7 @@ module _ (b : Parts) (i : ℕ) (kind : Kind) where
         correction = g.correction;
         kind = fits;
       })
-      (within_change b i (of_kind kind) sound l.there (λ s. refl))
+      (within_change b i (with_kind kind) sound l.there (λ s. refl))
 
 -- ---- set-tune
 
@@ -178,11 +178,11 @@ module _ (b : Parts) (i rate key : ℕ) (correction : ℤ) where
   there_of_tune h = below (length b.samples) i (accepted b (steps.Points i (SetTune rate key correction)) h).tests.0
 
   -- set-tune is accepted for every existing sample
-  pub takes_tune : IsSound b → (no_such_sample b i).stands ≡ false
+  pub takes_tune : IsSound b → (no_such_sample b i).applies ≡ false
       → refusal b (steps.Points i (SetTune rate key correction)) ≡ None
   takes_tune sound there =
       by_limit b (steps.Points i (SetTune rate key correction)) None (Ok tt) (there, tt)
-      (within_change b i (tuned rate key correction) sound (below (length b.samples) i there) (λ s. refl)) refl
+      (within_change b i (with_tune rate key correction) sound (below (length b.samples) i there) (λ s. refl)) refl
 
   pub sound_tune : IsSound b → (rate < 2 ^ 32) → (key < 2 ^ 8) → FitsSigned w8 correction → i < length b.samples
       → IsSound (tune_set b i rate key correction)
@@ -190,10 +190,10 @@ module _ (b : Parts) (i rate key : ℕ) (correction : ℤ) where
       let (s, e) = slice_get-found b.samples i lt in
       let v = there_valid b i s e sound in
       let g = there_fits b i s e sound in
-      changed_sound b i (tuned rate key correction) s e sound
+      changed_sound b i (with_tune rate key correction) s e sound
       (record { name = v.name; looped = v.looped; kind = v.kind })
       (record { name = g.name; points = g.points; looped = g.looped; rate = r; key = k; correction = c; kind = g.kind })
-      (within_change b i (tuned rate key correction) sound lt (λ s. refl))
+      (within_change b i (with_tune rate key correction) sound lt (λ s. refl))
 
 -- ---- the order of their causes
 

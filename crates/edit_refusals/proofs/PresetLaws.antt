@@ -2,7 +2,7 @@
 use Rattle.std.proofs.Common.{◌≡◌, ◌<◌, ◌≤◌, ℕ, List, length, None, ◌∙◌, ap, true, refl}
 use Rattle.generators.specs.declared.level.Level.TheVariants as level
 use Rattle.bank_parts.specs.declared.parts.Head.{Head}
-use Rattle.bank_parts.specs.declared.parts.WithZones.{WithZones}
+use Rattle.bank_parts.specs.declared.parts.ZoneOwner.{ZoneOwner}
 use Rattle.bank_parts.specs.declared.parts.Parts.{Parts}
 use Rattle.bank_parts.specs.Valid.{IsValid}
 use Rattle.bank_parts.specs.Fits.{FitsHead, FitsOwner}
@@ -26,7 +26,7 @@ use Rattle.edit_refusals.proofs.Rises.{rises}
 
 -- ---- add-preset
 
-module _ (b : Parts) (i : ℕ) (p : WithZones Head) where
+module _ (b : Parts) (i : ℕ) (p : ZoneOwner Head) where
   abbrev pub PresetGoes : Type 0
   PresetGoes = GoesIn (λ (h : Head). h.name) level.Preset (length b.instruments) (length b.presets) i p
 

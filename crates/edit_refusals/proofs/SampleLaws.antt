@@ -19,7 +19,7 @@ use Rattle.edit_forms.specs.declared.step.Step.TheVariants as steps
 use Rattle.edit_forms.specs.declared.cause.Cause.TheVariants.{NoSuchSample}
 use Rattle.edit_forms.specs.Causes.{link_misses, loop_misses}
 use Rattle.edit_forms.specs.Steps.{refusal, causes}
-use Rattle.edit_refusals.proofs.Accepted.{NoneStands, accepted, below, not_below, up_to, not_above}
+use Rattle.edit_refusals.proofs.Accepted.{NoneApplies, accepted, below, not_below, up_to, not_above}
 use Rattle.edit_refusals.proofs.Moves.{Moves, moves}
 use Rattle.edit_forms.specs.declared.samples.SampleStep.{SampleStep}
 use Rattle.edit_forms.specs.Samples as samples
@@ -67,7 +67,7 @@ module _ (b : Parts) (i : ℕ) (s : Sample) where
     pub place : i ≤ length b.samples
     pub looped : IsLoop (length s.points) s.looped
 
-  pub goes_in : NoneStands (causes b (steps.Sample (AddSample i s))) → Goes
+  pub goes_in : NoneApplies (causes b (steps.Sample (AddSample i s))) → Goes
   goes_in (link, (place, (looped, end))) =
       record {
         link =
@@ -77,7 +77,7 @@ module _ (b : Parts) (i : ℕ) (s : Sample) where
         looped = loop_hits (length s.points) s.looped looped;
       }
 
-  pub tests_add : Goes → NoneStands (causes b (steps.Sample (AddSample i s)))
+  pub tests_add : Goes → NoneApplies (causes b (steps.Sample (AddSample i s)))
   tests_add g = (
     hit_link (length b.samples + 1) s.kind g.link,
     (not_above (length b.samples) i g.place, (hit_loop (length s.points) s.looped g.looped, tt)),
@@ -102,7 +102,7 @@ module _ (b : Parts) (i : ℕ) where
     pub there : i < length b.samples
     pub free : sample_in_use b i ≡ false
 
-  pub comes_out : NoneStands (causes b (steps.Sample (RemoveSample i))) → Comes
+  pub comes_out : NoneApplies (causes b (steps.Sample (RemoveSample i))) → Comes
   comes_out (there, (free, end)) = record { there = below (length b.samples) i there; free = free }
 
   pub sound_remove : IsSound b → refusal b (steps.Sample (RemoveSample i)) ≡ None → IsSound (sample_removed b i)

@@ -15,7 +15,7 @@ use Rattle.bank_validity.specs.Limits.{broken_limit}
 use Rattle.bank_changes.specs.declared.members.Owner.{Owner}
 use Rattle.bank_changes.specs.declared.members.Place.{Place}
 use Rattle.bank_changes.specs.Members.{settings_of, level_of, amount_of}
-use Rattle.bank_changes.specs.Settings.{gen_set, gen_cleared, own_place_changed, mod_added, mod_removed, mod_set}
+use Rattle.bank_changes.specs.Settings.{gen_set, gen_cleared, owner_place_changed, mod_added, mod_removed, mod_set}
 use Rattle.bank_changes.proofs.SettingLaws.{sound_gen_set, sound_gen_cleared, within_gen_cleared, amount_found}
 use Rattle.bank_changes.proofs.SettingLaws.{sound_mod_added, sound_mod_removed, sound_mod_set, within_mod_removed}
 use Rattle.bank_changes.proofs.SettingLaws.{within_mod_set}
@@ -23,7 +23,7 @@ use Rattle.edit_forms.specs.declared.settings.SettingStep.TheVariants.{SetGen, C
 use Rattle.edit_forms.specs.declared.step.Step.TheVariants as steps
 use Rattle.edit_forms.specs.Causes.{no_such_owner, no_such_zone_at, mods_there, linked_place, linked_modulator}
 use Rattle.edit_forms.specs.Steps.{refusal, causes}
-use Rattle.edit_refusals.proofs.Accepted.{NoneStands, accepted, below, not_below, up_to, not_above}
+use Rattle.edit_refusals.proofs.Accepted.{NoneApplies, accepted, below, not_below, up_to, not_above}
 use Rattle.edit_refusals.proofs.PlaceLaws.{place_found, mods_there_are, owner_stays_there, place_stays_there}
 use Rattle.edit_refusals.proofs.PlaceLaws.{settings_after}
 use Rattle.std.specs.Prelude.{slice_get, slice_set}
@@ -77,8 +77,8 @@ module _ (lvl : Level) (op amount : ℕ) where
 -- ---- an existing place, and an operator that its level allows
 
 pub record AllowsThere (b : Parts) (o : Owner) (at : Place) (op : ℕ) : Type 0 where
-  pub owner : (no_such_owner b o).stands ≡ false
-  pub zone : (no_such_zone_at b o at).stands ≡ false
+  pub owner : (no_such_owner b o).applies ≡ false
+  pub zone : (no_such_zone_at b o at).applies ≡ false
   pub operator : not (is_allowed (level_of o) op) ≡ false
 
 pub settings_allowed : (b : Parts) (o : Owner) (at : Place) (op : ℕ) → AllowsThere b o at op
@@ -92,13 +92,13 @@ module _ (b : Parts) (o : Owner) (at : Place) (op amount : ℕ) where
     pub allows : AllowsThere b o at op
     pub is : IsGenerator (level_of o) (op, amount)
 
-  pub gen_goes : NoneStands (causes b (steps.Setting o at (SetGen op amount))) → GenGoes
+  pub gen_goes : NoneApplies (causes b (steps.Setting o at (SetGen op amount))) → GenGoes
   gen_goes (owner, (zone, (own, (good, end)))) = record {
     allows = record { owner = owner; zone = zone; operator = own };
     is = generator_from_tests (level_of o) op amount own good;
   }
 
-  pub tests_set_gen : GenGoes → NoneStands (causes b (steps.Setting o at (SetGen op amount)))
+  pub tests_set_gen : GenGoes → NoneApplies (causes b (steps.Setting o at (SetGen op amount)))
   tests_set_gen g =
       let tests = tests_from_generator (level_of o) op amount g.is in
       (g.allows.owner, (g.allows.zone, (tests.0, (tests.1, tt))))
@@ -124,12 +124,12 @@ module _ (b : Parts) (o : Owner) (at : Place) (op : ℕ) where
     pub was : ℕ
     pub set : amount_of b o at op ≡ Some was
 
-  pub gen_comes : NoneStands (causes b (steps.Setting o at (ClearGen op))) → GenComes
+  pub gen_comes : NoneApplies (causes b (steps.Setting o at (ClearGen op))) → GenComes
   gen_comes (owner, (zone, (own, (set, end)))) =
       let (was, e) = some_found (amount_of b o at op) set in
       record { allows = record { owner = owner; zone = zone; operator = own }; was = was; set = e }
 
-  pub tests_clear_gen : GenComes → NoneStands (causes b (steps.Setting o at (ClearGen op)))
+  pub tests_clear_gen : GenComes → NoneApplies (causes b (steps.Setting o at (ClearGen op)))
   tests_clear_gen g =
       (g.allows.owner, (g.allows.zone, (g.allows.operator, (found_some (amount_of b o at op) g.was g.set, tt))))
 
@@ -144,24 +144,24 @@ module _ (b : Parts) (o : Owner) (at : Place) (op : ℕ) where
       within_gen_cleared b o at op s e sound (rw set refl)
 
 -- applies f to the modulators
-abbrev pub mods_sent : (List Modulator → List Modulator) → Settings → Settings
-mods_sent f s = with_mods (f s.mods) s
+abbrev pub mods_changed : (List Modulator → List Modulator) → Settings → Settings
+mods_changed f s = with_mods (f s.mods) s
 
 -- a place has these settings, and none of its modulators is linked
 pub record HoldsNoLink (b : Parts) (o : Owner) (at : Place) (s : Settings) : Type 0 where
-  pub owner : (no_such_owner b o).stands ≡ false
-  pub zone : (no_such_zone_at b o at).stands ≡ false
+  pub owner : (no_such_owner b o).applies ≡ false
+  pub zone : (no_such_zone_at b o at).applies ≡ false
   pub there : settings_of b o at ≡ Some s
   pub free : list_any is_link s.mods ≡ false
 
 -- the place after a change that adds no link
 module _ (b : Parts) (o : Owner) (at : Place) (f : List Modulator → List Modulator) (s : Settings) where
   pub still_no_link : HoldsNoLink b o at s → list_any is_link (f s.mods) ≡ false
-      → HoldsNoLink (own_place_changed b o at (mods_sent f)) o at (mods_sent f s)
+      → HoldsNoLink (owner_place_changed b o at (mods_changed f)) o at (mods_changed f s)
   still_no_link h free = record {
-    owner = owner_stays_there b o at (mods_sent f) h.owner;
-    zone = place_stays_there b o at (mods_sent f) h.zone;
-    there = settings_after b o at (mods_sent f) s h.there;
+    owner = owner_stays_there b o at (mods_changed f) h.owner;
+    zone = place_stays_there b o at (mods_changed f) h.zone;
+    there = settings_after b o at (mods_changed f) s h.there;
     free = free;
   }
 
@@ -171,8 +171,8 @@ record FreePlace (b : Parts) (o : Owner) (at : Place) : Type 0 where
   holds : HoldsNoLink b o at settings
   are : mods_there b o at ≡ settings.mods
 
-free_place : (b : Parts) (o : Owner) (at : Place) → (no_such_owner b o).stands ≡ false
-    → (no_such_zone_at b o at).stands ≡ false → (linked_place b o at).stands ≡ false → FreePlace b o at
+free_place : (b : Parts) (o : Owner) (at : Place) → (no_such_owner b o).applies ≡ false
+    → (no_such_zone_at b o at).applies ≡ false → (linked_place b o at).applies ≡ false → FreePlace b o at
 free_place b o at owner zone free =
     let (s, e) = place_found b o at owner zone in
     let are = mods_there_are b o at s e in
@@ -180,10 +180,10 @@ free_place b o at owner zone free =
 
 -- neither the place nor the new modulator has a link
 module _ (b : Parts) (o : Owner) (at : Place) (m : Modulator) where
-  no_link_before : (linked_modulator b o at m).stands ≡ false → (linked_place b o at).stands ≡ false
+  no_link_before : (linked_modulator b o at m).applies ≡ false → (linked_place b o at).applies ≡ false
   no_link_before link = or_left (list_any is_link (mods_there b o at)) (is_link m) link
 
-  no_link_comes : (linked_modulator b o at m).stands ≡ false → is_link m ≡ false
+  no_link_comes : (linked_modulator b o at m).applies ≡ false → is_link m ≡ false
   no_link_comes link = or_right (list_any is_link (mods_there b o at)) (is_link m) link
 
 -- ---- links
@@ -221,7 +221,7 @@ module _ (b : Parts) (o : Owner) (at : Place) (j : ℕ) (m : Modulator) where
     pub place : j ≤ length settings.mods
     pub plain : is_link m ≡ false
 
-  pub mod_goes : NoneStands (causes b (steps.Setting o at (AddMod j m))) → ModGoes
+  pub mod_goes : NoneApplies (causes b (steps.Setting o at (AddMod j m))) → ModGoes
   mod_goes (owner, (zone, (place, (link, end)))) =
       let p = free_place b o at owner zone (no_link_before b o at m link) in
       record {
@@ -234,7 +234,7 @@ module _ (b : Parts) (o : Owner) (at : Place) (j : ℕ) (m : Modulator) where
         plain = no_link_comes b o at m link;
       }
 
-  pub tests_add_mod : ModGoes → NoneStands (causes b (steps.Setting o at (AddMod j m)))
+  pub tests_add_mod : ModGoes → NoneApplies (causes b (steps.Setting o at (AddMod j m)))
   tests_add_mod g =
       let s = g.settings in
       let are = mods_there_are b o at s g.holds.there in (
@@ -261,12 +261,12 @@ module _ (b : Parts) (o : Owner) (at : Place) (j : ℕ) where
     pub holds : HoldsNoLink b o at settings
     pub index : j < length settings.mods
 
-  pub mod_comes : NoneStands (causes b (steps.Setting o at (RemoveMod j))) → ModComes
+  pub mod_comes : NoneApplies (causes b (steps.Setting o at (RemoveMod j))) → ModComes
   mod_comes (owner, (zone, (index, (link, end)))) =
       let p = free_place b o at owner zone link in
       record { settings = p.settings; holds = p.holds; index = below (length p.settings.mods) j (rw p.are at index) }
 
-  pub tests_remove_mod : ModComes → NoneStands (causes b (steps.Setting o at (RemoveMod j)))
+  pub tests_remove_mod : ModComes → NoneApplies (causes b (steps.Setting o at (RemoveMod j)))
   tests_remove_mod c =
       let s = c.settings in
       let are = mods_there_are b o at s c.holds.there in
@@ -288,7 +288,7 @@ module _ (b : Parts) (o : Owner) (at : Place) (j : ℕ) (m : Modulator) where
     pub index : j < length settings.mods
     pub plain : is_link m ≡ false
 
-  pub mod_changes : NoneStands (causes b (steps.Setting o at (SetMod j m))) → ModChanges
+  pub mod_changes : NoneApplies (causes b (steps.Setting o at (SetMod j m))) → ModChanges
   mod_changes (owner, (zone, (index, (link, end)))) =
       let p = free_place b o at owner zone (no_link_before b o at m link) in
       record {
@@ -301,7 +301,7 @@ module _ (b : Parts) (o : Owner) (at : Place) (j : ℕ) (m : Modulator) where
         plain = no_link_comes b o at m link;
       }
 
-  pub tests_set_mod : ModChanges → NoneStands (causes b (steps.Setting o at (SetMod j m)))
+  pub tests_set_mod : ModChanges → NoneApplies (causes b (steps.Setting o at (SetMod j m)))
   tests_set_mod c =
       let s = c.settings in
       let are = mods_there_are b o at s c.holds.there in (

@@ -50,7 +50,7 @@ module _ (id : InfoId) (text : List ℕ) where
   over_zero : (n : ℕ) → 0 < n → (n == 0) ≡ false
   over_zero n h = grind (arith, nat_tests)
 
-  pub good_text : FitsText text → (bad_text id text).stands ≡ false → IsInfo id text
+  pub good_text : FitsText text → (bad_text id text).applies ≡ false → IsInfo id text
   unfolding too_long has_zero is_empty
   good_text f h =
       let rest = or_right too_long (has_zero || is_empty) h in
@@ -64,7 +64,7 @@ module _ (id : InfoId) (text : List ℕ) where
         there = zero_there (is_engine id) (or_right has_zero is_empty rest);
       }
 
-  pub not_bad : IsInfo id text → (bad_text id text).stands ≡ false
+  pub not_bad : IsInfo id text → (bad_text id text).applies ≡ false
   unfolding too_long has_zero is_empty
   not_bad h =
       or_none too_long (has_zero || is_empty)

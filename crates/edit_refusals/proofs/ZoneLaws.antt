@@ -6,9 +6,9 @@ use Rattle.sf_base.specs.Names.{IsName}
 use Rattle.base_numbered_lists.proofs.Lists.{slice_get-found, slice_get-within}
 use Rattle.generators.specs.declared.level.Level.{Level}
 use Rattle.bank_parts.specs.declared.parts.Zone.{Zone}
-use Rattle.bank_parts.specs.declared.parts.WithZones.{WithZones}
+use Rattle.bank_parts.specs.declared.parts.ZoneOwner.{ZoneOwner}
 use Rattle.bank_parts.specs.declared.parts.Parts.{Parts}
-use Rattle.bank_parts.specs.Contents.{sets_foreign, sets_bad_range}
+use Rattle.bank_parts.specs.Contents.{sets_bad_generator, sets_bad_range}
 use Rattle.bank_parts.specs.Settings.{settings_of_zone}
 use Rattle.bank_parts.specs.Valid.{IsZone, IsOwner, owner_total, zone_count, global_count}
 use Rattle.bank_parts.specs.Fits.{FitsZone}
@@ -21,7 +21,7 @@ use Rattle.bank_parts.proofs.SettingLaws.{source}
 use Rattle.bank_parts.proofs.UndoneLaws.{zones_there}
 use Rattle.bank_changes.specs.declared.members.Owner.{Owner}
 use Rattle.bank_changes.specs.declared.members.Owner.TheVariants as owner
-use Rattle.bank_changes.specs.Members.{own_zone_count, level_of, target_count, zones_of}
+use Rattle.bank_changes.specs.Members.{owner_zone_count, level_of, target_count, zones_of}
 use Rattle.bank_changes.specs.Zones.{zone_added, zone_removed, zone_moved, target_set, zone_split, zone_joined}
 use Rattle.bank_changes.specs.Zones.{can_split, can_join}
 use Rattle.bank_changes.proofs.ZoneChangeLaws.{sound_zone_added, sound_zone_removed, sound_zone_moved}
@@ -31,7 +31,7 @@ use Rattle.edit_forms.specs.declared.zones.ZoneStep.TheVariants.{JoinZone}
 use Rattle.edit_forms.specs.declared.step.Step.TheVariants as steps
 use Rattle.edit_forms.specs.Causes.{zone_total, no_such_owner}
 use Rattle.edit_forms.specs.Steps.{refusal, causes}
-use Rattle.edit_refusals.proofs.Accepted.{NoneStands, accepted, below, not_below, up_to, not_above}
+use Rattle.edit_refusals.proofs.Accepted.{NoneApplies, accepted, below, not_below, up_to, not_above}
 use Rattle.sf_base.specs.declared.limits.TheConstants.{ZONES}
 use Rattle.bank_parts.specs.declared.parts.Head.{Head}
 use Rattle.bank_zone_ranges.specs.declared.axes.Axis.{Axis}
@@ -45,8 +45,8 @@ use Rattle.edit_refusals.proofs.Rises.{rises}
 -- ---- owners and their zones
 
 -- the zone count of an existing owner
-pub total_there : (b : Parts) (o : Owner) (P : ℕ → Type 0) → (no_such_owner b o).stands ≡ false → P (zone_total b o)
-    → IsSomeAnd (own_zone_count b o) P
+pub total_there : (b : Parts) (o : Owner) (P : ℕ → Type 0) → (no_such_owner b o).applies ≡ false → P (zone_total b o)
+    → IsSomeAnd (owner_zone_count b o) P
 total_there b (owner.Preset p) P h k =
     let (x, e) = slice_get-found b.presets p (below (length b.presets) p h) in rw e (rw e at k)
 total_there b (owner.Inst i) P h k =
@@ -56,8 +56,8 @@ pub total_is : (o : Option ℕ) (P : ℕ → Type 0) → IsSomeAnd o P → P (un
 total_is None P h = absurd h
 total_is (Some n) P h = h
 
-pub owner_is_there : (b : Parts) (o : Owner) (P : ℕ → Type 0) → IsSomeAnd (own_zone_count b o) P
-    → (no_such_owner b o).stands ≡ false
+pub owner_is_there : (b : Parts) (o : Owner) (P : ℕ → Type 0) → IsSomeAnd (owner_zone_count b o) P
+    → (no_such_owner b o).applies ≡ false
 owner_is_there b (owner.Preset p) P h =
     let t = zones_there b.presets p P h in
     let x = source (λ x. x.zones) (slice_get b.presets p) t.member t.there in
@@ -73,17 +73,17 @@ no_name : IsName []
 no_name = (omega arith, tt)
 
 module _ (at : Level) (count : ℕ) (zone : Zone) where
-  abbrev alone : WithZones (List ℕ)
+  abbrev alone : ZoneOwner (List ℕ)
   alone = record { head = []; global = settings_of_zone zone; zones = zone ∷ [] }
 
-  pub zone_from_tests : nat_le count zone.target ≡ false → sets_foreign at zone.gens ≡ false
+  pub zone_from_tests : nat_le count zone.target ≡ false → sets_bad_generator at zone.gens ≡ false
       → sets_bad_range zone.gens ≡ false → IsZone at count zone
   zone_from_tests target operators ranges =
       let is : IsOwner (λ name. name) at count alone = owner_from_tests (λ name. name) at count alone no_name (record {
         targets = or_none (nat_le count zone.target) false target refl;
         operators =
-            or_none (sets_foreign at zone.gens) (sets_foreign at zone.gens || false) operators
-            (or_none (sets_foreign at zone.gens) false operators refl);
+            or_none (sets_bad_generator at zone.gens) (sets_bad_generator at zone.gens || false) operators
+            (or_none (sets_bad_generator at zone.gens) false operators refl);
         ranges =
             or_none (sets_bad_range zone.gens) (sets_bad_range zone.gens || false) ranges
             (or_none (sets_bad_range zone.gens) false ranges refl);
@@ -92,7 +92,7 @@ module _ (at : Level) (count : ℕ) (zone : Zone) where
 
   pub record ZonePasses : Type 0 where
     pub target : nat_le count zone.target ≡ false
-    pub operators : sets_foreign at zone.gens ≡ false
+    pub operators : sets_bad_generator at zone.gens ≡ false
     pub ranges : sets_bad_range zone.gens ≡ false
 
   pub tests_from_zone : IsZone at count zone → ZonePasses
@@ -102,7 +102,7 @@ module _ (at : Level) (count : ℕ) (zone : Zone) where
       (record { name = no_name; zones = record { global = is.gens; zones = (is, tt) } }) in
       record {
         target = or_left (nat_le count zone.target) false t.targets;
-        operators = or_left (sets_foreign at zone.gens) (sets_foreign at zone.gens || false) t.operators;
+        operators = or_left (sets_bad_generator at zone.gens) (sets_bad_generator at zone.gens || false) t.operators;
         ranges = or_left (sets_bad_range zone.gens) (sets_bad_range zone.gens || false) t.ranges;
       }
 
@@ -110,19 +110,19 @@ module _ (at : Level) (count : ℕ) (zone : Zone) where
 
 module _ (b : Parts) (o : Owner) (at : ℕ) (zone : Zone) where
   pub record ZoneGoes : Type 0 where
-    pub place : IsSomeAnd (own_zone_count b o) (λ count. at ≤ count)
+    pub place : IsSomeAnd (owner_zone_count b o) (λ count. at ≤ count)
     pub is : IsZone (level_of o) (target_count b o) zone
 
-  pub zone_goes : NoneStands (causes b (steps.Zone o (AddZone at zone))) → ZoneGoes
+  pub zone_goes : NoneApplies (causes b (steps.Zone o (AddZone at zone))) → ZoneGoes
   zone_goes (there, (target, (place, (operators, (ranges, end))))) = record {
     place = total_there b o (λ count. at ≤ count) there (up_to (zone_total b o) at place);
     is = zone_from_tests (level_of o) (target_count b o) zone target operators ranges;
   }
 
-  pub tests_add_zone : ZoneGoes → NoneStands (causes b (steps.Zone o (AddZone at zone)))
+  pub tests_add_zone : ZoneGoes → NoneApplies (causes b (steps.Zone o (AddZone at zone)))
   tests_add_zone g =
       let t = tests_from_zone (level_of o) (target_count b o) zone g.is in
-      let place = total_is (own_zone_count b o) (λ count. at ≤ count) g.place in (
+      let place = total_is (owner_zone_count b o) (λ count. at ≤ count) g.place in (
         owner_is_there b o (λ count. at ≤ count) g.place,
         (t.target, (not_above (zone_total b o) at place, (t.operators, (t.ranges, tt)))),
       )
@@ -137,25 +137,25 @@ module _ (b : Parts) (o : Owner) (at : ℕ) (zone : Zone) where
 -- ---- remove-zone
 
 module _ (b : Parts) (o : Owner) (k : ℕ) where
-  pub zone_comes : NoneStands (causes b (steps.Zone o (RemoveZone k)))
-      → IsSomeAnd (own_zone_count b o) (λ count. k < count)
+  pub zone_comes : NoneApplies (causes b (steps.Zone o (RemoveZone k)))
+      → IsSomeAnd (owner_zone_count b o) (λ count. k < count)
   zone_comes (there, (zone, end)) = total_there b o (λ count. k < count) there (below (zone_total b o) k zone)
 
-  pub tests_remove_zone : IsSomeAnd (own_zone_count b o) (λ count. k < count)
-      → NoneStands (causes b (steps.Zone o (RemoveZone k)))
+  pub tests_remove_zone : IsSomeAnd (owner_zone_count b o) (λ count. k < count)
+      → NoneApplies (causes b (steps.Zone o (RemoveZone k)))
   tests_remove_zone h = (
     owner_is_there b o (λ count. k < count) h,
-    (not_below (zone_total b o) k (total_is (own_zone_count b o) (λ count. k < count) h), tt),
+    (not_below (zone_total b o) k (total_is (owner_zone_count b o) (λ count. k < count) h), tt),
   )
 
   pub comes_of_remove_zone : refusal b (steps.Zone o (RemoveZone k)) ≡ None
-      → IsSomeAnd (own_zone_count b o) (λ count. k < count)
+      → IsSomeAnd (owner_zone_count b o) (λ count. k < count)
   comes_of_remove_zone h = zone_comes (accepted b (steps.Zone o (RemoveZone k)) h).tests
 
   pub sound_remove_zone : IsSound b → refusal b (steps.Zone o (RemoveZone k)) ≡ None → IsSound (zone_removed b o k)
   sound_remove_zone sound h = sound_zone_removed b o k (comes_of_remove_zone h) sound
 
-  pub within_remove_zone : IsSound b → NoneStands (causes b (steps.Zone o (RemoveZone k)))
+  pub within_remove_zone : IsSound b → NoneApplies (causes b (steps.Zone o (RemoveZone k)))
       → broken_limit (zone_removed b o k) ≡ None
   within_remove_zone sound h =
       no_limit_of (zone_removed b o k) (sound_zone_removed b o k (zone_comes h) sound).valid.limits
@@ -164,21 +164,21 @@ module _ (b : Parts) (o : Owner) (k : ℕ) where
 
 module _ (b : Parts) (o : Owner) (from to : ℕ) where
   pub record ZoneMoves : Type 0 where
-    pub there : IsSomeAnd (own_zone_count b o) (λ count. from < count)
-    pub place : IsSomeAnd (own_zone_count b o) (λ count. to < count)
+    pub there : IsSomeAnd (owner_zone_count b o) (λ count. from < count)
+    pub place : IsSomeAnd (owner_zone_count b o) (λ count. to < count)
 
-  pub zone_moves : NoneStands (causes b (steps.Zone o (MoveZone from to))) → ZoneMoves
+  pub zone_moves : NoneApplies (causes b (steps.Zone o (MoveZone from to))) → ZoneMoves
   zone_moves (there, (zone, (place, end))) = record {
     there = total_there b o (λ count. from < count) there (below (zone_total b o) from zone);
     place = total_there b o (λ count. to < count) there (below (zone_total b o) to place);
   }
 
-  pub tests_move_zone : ZoneMoves → NoneStands (causes b (steps.Zone o (MoveZone from to)))
+  pub tests_move_zone : ZoneMoves → NoneApplies (causes b (steps.Zone o (MoveZone from to)))
   tests_move_zone m = (
     owner_is_there b o (λ count. from < count) m.there,
     (
-      not_below (zone_total b o) from (total_is (own_zone_count b o) (λ count. from < count) m.there),
-      (not_below (zone_total b o) to (total_is (own_zone_count b o) (λ count. to < count) m.place), tt),
+      not_below (zone_total b o) from (total_is (owner_zone_count b o) (λ count. from < count) m.there),
+      (not_below (zone_total b o) to (total_is (owner_zone_count b o) (λ count. to < count) m.place), tt),
     ),
   )
 
@@ -189,7 +189,7 @@ module _ (b : Parts) (o : Owner) (from to : ℕ) where
       → IsSound (zone_moved b o from to)
   sound_move_zone sound h = sound_zone_moved b o from to (moves_of_move_zone h).there sound
 
-  pub within_move_zone : IsSound b → NoneStands (causes b (steps.Zone o (MoveZone from to)))
+  pub within_move_zone : IsSound b → NoneApplies (causes b (steps.Zone o (MoveZone from to)))
       → broken_limit (zone_moved b o from to) ≡ None
   within_move_zone sound h =
       ap broken (totals-zone_moved b o from to (zone_moves h).there) ∙ no_limit_of b sound.valid.limits
@@ -198,21 +198,21 @@ module _ (b : Parts) (o : Owner) (from to : ℕ) where
 
 module _ (b : Parts) (o : Owner) (k target : ℕ) where
   pub record TargetGoes : Type 0 where
-    pub there : IsSomeAnd (own_zone_count b o) (λ count. k < count)
+    pub there : IsSomeAnd (owner_zone_count b o) (λ count. k < count)
     pub target_is : target < target_count b o
 
-  pub target_goes : NoneStands (causes b (steps.Zone o (SetTarget k target))) → TargetGoes
+  pub target_goes : NoneApplies (causes b (steps.Zone o (SetTarget k target))) → TargetGoes
   target_goes (there, (names, (zone, end))) = record {
     there = total_there b o (λ count. k < count) there (below (zone_total b o) k zone);
     target_is = below (target_count b o) target names;
   }
 
-  pub tests_set_target : TargetGoes → NoneStands (causes b (steps.Zone o (SetTarget k target)))
+  pub tests_set_target : TargetGoes → NoneApplies (causes b (steps.Zone o (SetTarget k target)))
   tests_set_target g = (
     owner_is_there b o (λ count. k < count) g.there,
     (
       not_below (target_count b o) target g.target_is,
-      (not_below (zone_total b o) k (total_is (own_zone_count b o) (λ count. k < count) g.there), tt),
+      (not_below (zone_total b o) k (total_is (owner_zone_count b o) (λ count. k < count) g.there), tt),
     ),
   )
 
@@ -224,7 +224,7 @@ module _ (b : Parts) (o : Owner) (k target : ℕ) where
   sound_set_target sound fits h =
       let g = goes_of_set_target h in sound_target_set b o k target g.there sound g.target_is fits
 
-  pub within_set_target : IsSound b → NoneStands (causes b (steps.Zone o (SetTarget k target)))
+  pub within_set_target : IsSound b → NoneApplies (causes b (steps.Zone o (SetTarget k target)))
       → broken_limit (target_set b o k target) ≡ None
   within_set_target sound h =
       ap broken (totals-target_set b o k target (target_goes h).there) ∙ no_limit_of b sound.valid.limits
@@ -239,29 +239,29 @@ is_not : (t : Bool) → t ≡ true → not t ≡ false
 is_not true h = refl
 is_not false h = cc
 
-few_zones : {H : Type 0} (owners : List (WithZones H)) (i : ℕ) (x : WithZones H) → slice_get owners i ≡ Some x
+few_zones : {H : Type 0} (owners : List (ZoneOwner H)) (i : ℕ) (x : ZoneOwner H) → slice_get owners i ≡ Some x
     → owner_total zone_count owners ≤ ZONES → length x.zones < 2 ^ 32
 few_zones {H} owners i x e within =
-    let sum = sum-removed (λ (x : WithZones H). global_count x.global + length x.zones) owners i x e in
+    let sum = sum-removed (λ (x : ZoneOwner H). global_count x.global + length x.zones) owners i x e in
     omega (arith, sum, within)
 
 few_there : (b : Parts) (o : Owner) (zones : List Zone) → IsSound b → zones_of b o ≡ Some zones → length zones < 2 ^ 32
 few_there b (owner.Preset p) zones sound e =
-    let x = source (λ (x : WithZones Head). x.zones) (slice_get b.presets p) zones e in
+    let x = source (λ (x : ZoneOwner Head). x.zones) (slice_get b.presets p) zones e in
     subst (λ (zs : List Zone). length zs < 2 ^ 32) x.seen
     (few_zones b.presets p x.member x.there sound.valid.limits.preset_zones)
 few_there b (owner.Inst i) zones sound e =
-    let x = source (λ (x : WithZones (List ℕ)). x.zones) (slice_get b.instruments i) zones e in
+    let x = source (λ (x : ZoneOwner (List ℕ)). x.zones) (slice_get b.instruments i) zones e in
     subst (λ (zs : List Zone). length zs < 2 ^ 32) x.seen
     (few_zones b.instruments i x.member x.there sound.valid.limits.instrument_zones)
 
 -- ---- split-zone
 
 module _ (b : Parts) (o : Owner) (k : ℕ) (axis : Axis) (m : ℕ) where
-  pub can_of_split : NoneStands (causes b (steps.Zone o (SplitZone k axis m))) → can_split b o k axis m ≡ true
+  pub can_of_split : NoneApplies (causes b (steps.Zone o (SplitZone k axis m))) → can_split b o k axis m ≡ true
   can_of_split (there, (zone, (inside, end))) = is_true (can_split b o k axis m) inside
 
-  pub tests_split_zone : can_split b o k axis m ≡ true → NoneStands (causes b (steps.Zone o (SplitZone k axis m)))
+  pub tests_split_zone : can_split b o k axis m ≡ true → NoneApplies (causes b (steps.Zone o (SplitZone k axis m)))
   tests_split_zone can =
       let s = split b o k axis m can in
       let zone =
@@ -269,7 +269,7 @@ module _ (b : Parts) (o : Owner) (k : ℕ) (axis : Axis) (m : ℕ) where
       (slice_get-within s.own.zones k s.own.zone s.own.at) in (
         owner_is_there b o (λ count. k < count) zone,
         (
-          not_below (zone_total b o) k (total_is (own_zone_count b o) (λ count. k < count) zone),
+          not_below (zone_total b o) k (total_is (owner_zone_count b o) (λ count. k < count) zone),
           (is_not (can_split b o k axis m) can, tt),
         ),
       )
@@ -286,16 +286,16 @@ module _ (b : Parts) (o : Owner) (k : ℕ) (axis : Axis) (m : ℕ) where
 -- ---- join-zone
 
 module _ (b : Parts) (o : Owner) (k : ℕ) (axis : Axis) (keep : Keep) where
-  pub can_of_join : NoneStands (causes b (steps.Zone o (JoinZone k axis keep))) → can_join b o k axis keep ≡ true
+  pub can_of_join : NoneApplies (causes b (steps.Zone o (JoinZone k axis keep))) → can_join b o k axis keep ≡ true
   can_of_join (there, (zone, (joinable, end))) = is_true (can_join b o k axis keep) joinable
 
-  pub tests_join_zone : can_join b o k axis keep ≡ true → NoneStands (causes b (steps.Zone o (JoinZone k axis keep)))
+  pub tests_join_zone : can_join b o k axis keep ≡ true → NoneApplies (causes b (steps.Zone o (JoinZone k axis keep)))
   tests_join_zone can =
       let s = join b o k axis keep can in
       let next = next_is_there b o k axis keep can in (
         owner_is_there b o (λ count. k + 1 < count) next,
         (
-          not_below (zone_total b o) (k + 1) (total_is (own_zone_count b o) (λ count. k + 1 < count) next),
+          not_below (zone_total b o) (k + 1) (total_is (owner_zone_count b o) (λ count. k + 1 < count) next),
           (is_not (can_join b o k axis keep) can, tt),
         ),
       )
@@ -307,7 +307,7 @@ module _ (b : Parts) (o : Owner) (k : ℕ) (axis : Axis) (keep : Keep) where
       → IsSound (zone_joined b o k axis keep)
   sound_join_zone sound h = sound_zone_joined b o k axis keep (can_of_join_zone h) sound
 
-  pub within_join_zone : IsSound b → NoneStands (causes b (steps.Zone o (JoinZone k axis keep)))
+  pub within_join_zone : IsSound b → NoneApplies (causes b (steps.Zone o (JoinZone k axis keep)))
       → broken_limit (zone_joined b o k axis keep) ≡ None
   within_join_zone sound h =
       no_limit_of (zone_joined b o k axis keep)

@@ -17,17 +17,17 @@ abbrev pub NumbersNeverFall : Type 0
 NumbersNeverFall = (b : Parts) (s : Step) → IsNonDecreasingBy (λ (t : Test). number_of t.cause) (causes b s)
 
 -- the cause applies: by a test of the step, or as the first limit that the changed bank would break
-abbrev pub Stands : Parts → Step → Cause → Type 0
-Stands b s cause =
-    Any (λ (t : Test). (t.stands ≡ true) × (t.cause ≡ cause)) (causes b s)
+abbrev pub CauseApplies : Parts → Step → Cause → Type 0
+CauseApplies b s cause =
+    Any (λ (t : Test). (t.applies ≡ true) × (t.cause ≡ cause)) (causes b s)
     ⊎ (option_map Full (broken_limit (raw b s)) ≡ Some cause)
 
 -- the cause applies, and no other that applies has a lower number
 pub record IsLowest (b : Parts) (s : Step) (cause : Cause) : Type 0 where
-  pub stands : Stands b s cause
-  pub lowest : (other : Cause) → Stands b s other → number_of cause ≤ number_of other
+  pub applies : CauseApplies b s cause
+  pub lowest : (other : Cause) → CauseApplies b s other → number_of cause ≤ number_of other
 
 -- the reported cause is the lowest that applies; none is reported only if none applies
-abbrev pub LowestIsTold : Type 0
-LowestIsTold =
-    (b : Parts) (s : Step) → MatchOption (refusal b s) ((other : Cause) → Stands b s other → ⊥) (IsLowest b s)
+abbrev pub LowestIsReported : Type 0
+LowestIsReported =
+    (b : Parts) (s : Step) → MatchOption (refusal b s) ((other : Cause) → CauseApplies b s other → ⊥) (IsLowest b s)

@@ -3,24 +3,24 @@ ghost use Rattle.std.specs.Prelude.{◌≡◌, ◌<◌, ◌+◌, length};
 ghost use Rattle.std.specs.Option.{option_map};
 ghost use Rattle.bank_parts.specs.Texts as texts;
 ghost use Rattle.edit_forms.specs.declared.cause.Cause.TheVariants as cause;
-ghost use Rattle.edit_refusals.specs.Answers.{Passes, Judges};
+ghost use Rattle.edit_refusals.specs.Answers.{IsTestResult, IsRefuseResult};
 ghost use Rattle.edit_forms.specs.Causes as causes;
 
 use bank_core::{Bank, Owner, Place};
 use bank_parts::{
-    InfoId, Kind, Sample, WithZones, Zone, is_bad_range, sets_bad_range, sets_foreign,
+    InfoId, Kind, Sample, Zone, ZoneOwner, is_bad_range, sets_bad_generator, sets_bad_range,
 };
 use bank_validity::Limit;
 use bank_zone_ranges::{Axis, Keep};
 use edit_forms::Cause;
 use generators::{Level, allowed};
 use modulators::Modulator;
-use sf_base::Lent;
+use sf_base::BorrowedBytes;
 use sf_base::limits::{COMMENT_LENGTH, TEXT_LENGTH};
 
 /// The last test of every form: a limit that the changed bank would break.
 pub(crate) fn full(limit: Option<Limit>) -> Result<(), Cause>
-    ensures { Judges (option_map cause.Full limit) result }
+    ensures { IsRefuseResult (option_map cause.Full limit) result }
 {
     match limit {
         Some(limit) => Err(Cause::Full(limit)),
@@ -31,13 +31,13 @@ pub(crate) fn full(limit: Option<Limit>) -> Result<(), Cause>
 // ---- presets and instruments
 
 pub(crate) fn no_such_preset(bank: &Bank<'_>, preset: u32) -> Result<(), Cause>
-    ensures { Passes (causes.no_such_preset bank.now preset) result }
+    ensures { IsTestResult (causes.no_such_preset bank.now preset) result }
 {
     judge(bank.presets().len() <= preset as usize, Cause::NoSuchPreset)
 }
 
 pub(crate) fn no_such_instrument(bank: &Bank<'_>, instrument: u32) -> Result<(), Cause>
-    ensures { Passes (causes.no_such_instrument bank.now instrument) result }
+    ensures { IsTestResult (causes.no_such_instrument bank.now instrument) result }
 {
     judge(
         bank.instruments().len() <= instrument as usize,
@@ -46,13 +46,13 @@ pub(crate) fn no_such_instrument(bank: &Bank<'_>, instrument: u32) -> Result<(),
 }
 
 pub(crate) fn used_instrument(bank: &Bank<'_>, instrument: u32) -> Result<(), Cause>
-    ensures { Passes (causes.used_instrument bank.now instrument) result }
+    ensures { IsTestResult (causes.used_instrument bank.now instrument) result }
 {
     judge(bank.is_instrument_in_use(instrument), Cause::InUse)
 }
 
 pub(crate) fn no_such_owner(bank: &Bank<'_>, owner: Owner) -> Result<(), Cause>
-    ensures { Passes (causes.no_such_owner bank.now owner) result }
+    ensures { IsTestResult (causes.no_such_owner bank.now owner) result }
 {
     match owner {
         Owner::Preset(number) => no_such_preset(bank, number),
@@ -70,14 +70,14 @@ pub(crate) fn zone_total(bank: &Bank<'_>, owner: Owner) -> usize
 }
 
 pub(crate) fn no_such_zone(bank: &Bank<'_>, owner: Owner, zone: u32) -> Result<(), Cause>
-    ensures { Passes (causes.no_such_zone bank.now owner zone) result }
+    ensures { IsTestResult (causes.no_such_zone bank.now owner zone) result }
 {
     judge(zone_total(bank, owner) <= zone as usize, Cause::NoSuchZone)
 }
 
 /// Every owner has a global zone.
 pub(crate) fn no_such_zone_at(bank: &Bank<'_>, owner: Owner, place: Place) -> Result<(), Cause>
-    ensures { Passes (causes.no_such_zone_at bank.now owner place) result }
+    ensures { IsTestResult (causes.no_such_zone_at bank.now owner place) result }
 {
     match place {
         Place::Global => Ok(()),
@@ -88,22 +88,22 @@ pub(crate) fn no_such_zone_at(bank: &Bank<'_>, owner: Owner, place: Place) -> Re
 /// The target of a zone is not below `count`; `cause` names the kind of target.
 pub(crate) fn no_such_target<H>(
     count: usize,
-    owner: &WithZones<H>,
+    owner: &ZoneOwner<H>,
     cause: Cause,
 ) -> Result<(), Cause>
-    ensures { Passes (causes.no_such_target count owner.now cause) result }
+    ensures { IsTestResult (causes.no_such_target count owner.now cause) result }
 {
-    judge(owner.misses_target(count), cause)
+    judge(owner.has_missing_target(count), cause)
 }
 
-pub(crate) fn bad_generator<H>(at: Level, owner: &WithZones<H>) -> Result<(), Cause>
-    ensures { Passes (causes.bad_generator at owner.now) result }
+pub(crate) fn bad_generator<H>(at: Level, owner: &ZoneOwner<H>) -> Result<(), Cause>
+    ensures { IsTestResult (causes.bad_generator at owner.now) result }
 {
-    judge(owner.has_foreign(at), Cause::BadGenerator)
+    judge(owner.has_bad_generator(at), Cause::BadGenerator)
 }
 
-pub(crate) fn bad_range<H>(owner: &WithZones<H>) -> Result<(), Cause>
-    ensures { Passes (causes.bad_range owner.now) result }
+pub(crate) fn bad_range<H>(owner: &ZoneOwner<H>) -> Result<(), Cause>
+    ensures { IsTestResult (causes.bad_range owner.now) result }
 {
     judge(owner.has_bad_range(), Cause::BadRange)
 }
@@ -112,7 +112,7 @@ pub(crate) fn bad_range<H>(owner: &WithZones<H>) -> Result<(), Cause>
 
 /// There is no zone after this one.
 pub(crate) fn no_next_zone(bank: &Bank<'_>, owner: Owner, zone: u32) -> Result<(), Cause>
-    ensures { Passes (causes.no_such_zone bank.now owner (zone + 1)) result }
+    ensures { IsTestResult (causes.no_such_zone bank.now owner (zone + 1)) result }
 {
     let next = zone as usize + 1;
     judge(zone_total(bank, owner) <= next, Cause::NoSuchZone)
@@ -120,7 +120,7 @@ pub(crate) fn no_next_zone(bank: &Bank<'_>, owner: Owner, zone: u32) -> Result<(
 
 /// The target does not exist: an instrument for a preset, a sample for an instrument.
 pub(crate) fn no_such_target_of(bank: &Bank<'_>, owner: Owner, target: u16) -> Result<(), Cause>
-    ensures { Passes (causes.no_such_target_of bank.now owner target) result }
+    ensures { IsTestResult (causes.no_such_target_of bank.now owner target) result }
 {
     match owner {
         Owner::Preset(_) => judge(
@@ -131,14 +131,14 @@ pub(crate) fn no_such_target_of(bank: &Bank<'_>, owner: Owner, target: u16) -> R
     }
 }
 
-pub(crate) fn bad_generators(at: Level, zone: &Zone) -> Result<(), Cause>
-    ensures { Passes (causes.bad_generators at zone.now) result }
+pub(crate) fn bad_zone_generator(at: Level, zone: &Zone) -> Result<(), Cause>
+    ensures { IsTestResult (causes.bad_zone_generator at zone.now) result }
 {
-    judge(sets_foreign(at, &zone.gens), Cause::BadGenerator)
+    judge(sets_bad_generator(at, &zone.gens), Cause::BadGenerator)
 }
 
-pub(crate) fn bad_ranges(zone: &Zone) -> Result<(), Cause>
-    ensures { Passes (causes.bad_ranges zone.now) result }
+pub(crate) fn bad_zone_range(zone: &Zone) -> Result<(), Cause>
+    ensures { IsTestResult (causes.bad_zone_range zone.now) result }
 {
     judge(sets_bad_range(&zone.gens), Cause::BadRange)
 }
@@ -150,7 +150,7 @@ pub(crate) fn split_outside(
     axis: Axis,
     at: u8,
 ) -> Result<(), Cause>
-    ensures { Passes (causes.split_outside bank.now owner zone axis at) result }
+    ensures { IsTestResult (causes.split_outside bank.now owner zone axis at) result }
 {
     judge(!bank.can_split(owner, zone, axis, at), Cause::SplitOutside)
 }
@@ -162,7 +162,7 @@ pub(crate) fn not_joinable(
     axis: Axis,
     keep: Keep,
 ) -> Result<(), Cause>
-    ensures { Passes (causes.not_joinable bank.now owner zone axis keep) result }
+    ensures { IsTestResult (causes.not_joinable bank.now owner zone axis keep) result }
 {
     judge(!bank.can_join(owner, zone, axis, keep), Cause::NotJoinable)
 }
@@ -182,7 +182,7 @@ pub(crate) fn no_such_modulator(
     place: Place,
     index: u32,
 ) -> Result<(), Cause>
-    ensures { Passes (causes.no_such_modulator bank.now owner place index) result }
+    ensures { IsTestResult (causes.no_such_modulator bank.now owner place index) result }
 {
     judge(
         mods_there(bank, owner, place) <= index as usize,
@@ -191,7 +191,7 @@ pub(crate) fn no_such_modulator(
 }
 
 pub(crate) fn linked_place(bank: &Bank<'_>, owner: Owner, place: Place) -> Result<(), Cause>
-    ensures { Passes (causes.linked_place bank.now owner place) result }
+    ensures { IsTestResult (causes.linked_place bank.now owner place) result }
 {
     judge(bank.has_link(owner, place), Cause::LinkedModulator)
 }
@@ -202,7 +202,7 @@ pub(crate) fn linked_modulator(
     place: Place,
     modulator: Modulator,
 ) -> Result<(), Cause>
-    ensures { Passes (causes.linked_modulator bank.now owner place modulator) result }
+    ensures { IsTestResult (causes.linked_modulator bank.now owner place modulator) result }
 {
     judge(
         bank.has_link(owner, place) || modulator.is_link(),
@@ -213,13 +213,13 @@ pub(crate) fn linked_modulator(
 // ---- generators of a place
 
 pub(crate) fn foreign_operator(at: Level, operator: u16) -> Result<(), Cause>
-    ensures { Passes (causes.foreign_operator at operator) result }
+    ensures { IsTestResult (causes.foreign_operator at operator) result }
 {
     judge(!allowed(operator, at), Cause::BadGenerator)
 }
 
 pub(crate) fn bad_amount(operator: u16, amount: u16) -> Result<(), Cause>
-    ensures { Passes (causes.bad_amount operator amount) result }
+    ensures { IsTestResult (causes.bad_amount operator amount) result }
 {
     judge(is_bad_range((operator, amount)), Cause::BadRange)
 }
@@ -230,7 +230,7 @@ pub(crate) fn not_set(
     place: Place,
     operator: u16,
 ) -> Result<(), Cause>
-    ensures { Passes (causes.not_set bank.now owner place operator) result }
+    ensures { IsTestResult (causes.not_set bank.now owner place operator) result }
 {
     judge(bank.gen_of(owner, place, operator).is_none(), Cause::NotSet)
 }
@@ -238,13 +238,13 @@ pub(crate) fn not_set(
 // ---- samples
 
 pub(crate) fn no_such_sample(bank: &Bank<'_>, sample: u32) -> Result<(), Cause>
-    ensures { Passes (causes.no_such_sample bank.now sample) result }
+    ensures { IsTestResult (causes.no_such_sample bank.now sample) result }
 {
     judge(bank.samples().len() <= sample as usize, Cause::NoSuchSample)
 }
 
 pub(crate) fn no_such_link(bank: &Bank<'_>, kind: Kind) -> Result<(), Cause>
-    ensures { Passes (causes.no_such_link bank.now kind) result }
+    ensures { IsTestResult (causes.no_such_link bank.now kind) result }
 {
     judge(
         link_misses(bank.samples().len() + 1, kind),
@@ -254,7 +254,7 @@ pub(crate) fn no_such_link(bank: &Bank<'_>, kind: Kind) -> Result<(), Cause>
 
 /// The link of an existing sample may be itself or any other sample.
 pub(crate) fn no_such_link_among(bank: &Bank<'_>, kind: Kind) -> Result<(), Cause>
-    ensures { Passes (causes.no_such_link_among bank.now kind) result }
+    ensures { IsTestResult (causes.no_such_link_among bank.now kind) result }
 {
     judge(link_misses(bank.samples().len(), kind), Cause::NoSuchSample)
 }
@@ -265,7 +265,7 @@ pub(crate) fn bad_loop_of(
     sample: u32,
     looped: Option<(u32, u32)>,
 ) -> Result<(), Cause>
-    ensures { Passes (causes.bad_loop_of bank.now sample looped) result }
+    ensures { IsTestResult (causes.bad_loop_of bank.now sample looped) result }
 {
     judge(
         loop_misses(bank.point_count(sample), looped),
@@ -274,21 +274,21 @@ pub(crate) fn bad_loop_of(
 }
 
 pub(crate) fn too_short(bank: &Bank<'_>, sample: u32, front: u32, back: u32) -> Result<(), Cause>
-    ensures { Passes (causes.too_short bank.now sample front back) result }
+    ensures { IsTestResult (causes.too_short bank.now sample front back) result }
 {
     let off = front as usize + back as usize;
     judge(bank.point_count(sample) < off, Cause::TooShort)
 }
 
 pub(crate) fn loop_cut(bank: &Bank<'_>, sample: u32, front: u32, back: u32) -> Result<(), Cause>
-    ensures { Passes (causes.loop_cut bank.now sample front back) result }
+    ensures { IsTestResult (causes.loop_cut bank.now sample front back) result }
 {
-    let stands = cuts_loop(bank.point_count(sample), front, back, bank.loop_of(sample));
-    judge(stands, Cause::LoopCut)
+    let applies = cuts_loop(bank.point_count(sample), front, back, bank.loop_of(sample));
+    judge(applies, Cause::LoopCut)
 }
 
 pub(crate) fn bad_loop(sample: &Sample<'_>) -> Result<(), Cause>
-    ensures { Passes (causes.bad_loop sample.now) result }
+    ensures { IsTestResult (causes.bad_loop sample.now) result }
 {
     judge(
         loop_misses(sample.points.len(), sample.looped),
@@ -298,29 +298,29 @@ pub(crate) fn bad_loop(sample: &Sample<'_>) -> Result<(), Cause>
 
 pub(crate) fn used_sample(bank: &Bank<'_>, sample: u32) -> Result<(), Cause>
     requires { sample < length bank.now.samples }
-    ensures { Passes (causes.used_sample bank.now sample) result }
+    ensures { IsTestResult (causes.used_sample bank.now sample) result }
 {
     judge(bank.is_sample_in_use(sample), Cause::InUse)
 }
 
 // ---- indexes
 
-pub(crate) fn bad_place(count: usize, at: u32) -> Result<(), Cause>
-    ensures { Passes (causes.bad_place count at) result }
+pub(crate) fn bad_insert_index(count: usize, at: u32) -> Result<(), Cause>
+    ensures { IsTestResult (causes.bad_insert_index count at) result }
 {
     judge(count < at as usize, Cause::BadPlace)
 }
 
-pub(crate) fn no_such_place(count: usize, at: u32) -> Result<(), Cause>
-    ensures { Passes (causes.no_such_place count at) result }
+pub(crate) fn bad_member_index(count: usize, at: u32) -> Result<(), Cause>
+    ensures { IsTestResult (causes.bad_member_index count at) result }
 {
     judge(count <= at as usize, Cause::BadPlace)
 }
 
 // ---- texts
 
-pub(crate) fn bad_text(id: InfoId, text: &Lent<'_>) -> Result<(), Cause>
-    ensures { Passes (causes.bad_text id text.now) result }
+pub(crate) fn bad_text(id: InfoId, text: &BorrowedBytes<'_>) -> Result<(), Cause>
+    ensures { IsTestResult (causes.bad_text id text.now) result }
 {
     let bytes = text.bytes();
     judge(
@@ -331,10 +331,10 @@ pub(crate) fn bad_text(id: InfoId, text: &Lent<'_>) -> Result<(), Cause>
 
 // ---- parts of tests
 
-fn judge(stands: bool, cause: Cause) -> Result<(), Cause>
-    ensures { Passes (causes.test stands cause) result }
+fn judge(applies: bool, cause: Cause) -> Result<(), Cause>
+    ensures { IsTestResult (causes.test applies cause) result }
 {
-    if stands {
+    if applies {
         return Err(cause);
     }
     Ok(())

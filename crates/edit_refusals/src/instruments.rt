@@ -4,11 +4,11 @@ ghost use Rattle.bank_parts.specs.Sound.{IsSound};
 ghost use Rattle.edit_forms.specs.declared.instruments.InstrumentStep.TheVariants as form;
 ghost use Rattle.edit_forms.specs.declared.step.Step.TheVariants as steps;
 ghost use Rattle.edit_forms.specs.Steps.{refusal};
-ghost use Rattle.edit_refusals.specs.Answers.{Judges};
+ghost use Rattle.edit_refusals.specs.Answers.{IsRefuseResult};
 
 use crate::causes::{
-    bad_generator, bad_place, bad_range, full, no_such_instrument, no_such_place, no_such_target,
-    used_instrument,
+    bad_generator, bad_insert_index, bad_member_index, bad_range, full, no_such_instrument,
+    no_such_target, used_instrument,
 };
 use bank_core::{Bank, List as Members};
 use bank_parts::Instrument;
@@ -17,7 +17,7 @@ use generators::Level;
 
 pub(crate) fn refuse_instrument_step(bank: &Bank<'_>, step: &InstrumentStep) -> Result<(), Cause>
     requires { IsSound bank.now }
-    ensures { Judges (refusal bank.now (steps.Instrument step.now)) result }
+    ensures { IsRefuseResult (refusal bank.now (steps.Instrument step.now)) result }
 {
     match step {
         InstrumentStep::AddInstrument { at, instrument } => {
@@ -37,14 +37,14 @@ pub(crate) fn refuse_instrument_step(bank: &Bank<'_>, step: &InstrumentStep) -> 
 
 fn refuse_add_instrument(bank: &Bank<'_>, at: u32, instrument: &Instrument) -> Result<(), Cause>
     requires { IsSound bank.now }
-    ensures { Judges (refusal bank.now (steps.Instrument (form.AddInstrument at instrument.now))) result }
+    ensures { IsRefuseResult (refusal bank.now (steps.Instrument (form.AddInstrument at instrument.now))) result }
 {
     no_such_target(
         bank.count(Members::Samples),
         instrument,
         Cause::NoSuchSample,
     )?;
-    bad_place(bank.count(Members::Instruments), at)?;
+    bad_insert_index(bank.count(Members::Instruments), at)?;
     bad_generator(Level::Inst, instrument)?;
     bad_range(instrument)?;
     full(
@@ -57,7 +57,7 @@ fn refuse_add_instrument(bank: &Bank<'_>, at: u32, instrument: &Instrument) -> R
 
 fn refuse_remove_instrument(bank: &Bank<'_>, instrument: u32) -> Result<(), Cause>
     requires { IsSound bank.now }
-    ensures { Judges (refusal bank.now (steps.Instrument (form.RemoveInstrument instrument))) result }
+    ensures { IsRefuseResult (refusal bank.now (steps.Instrument (form.RemoveInstrument instrument))) result }
 {
     no_such_instrument(bank, instrument)?;
     used_instrument(bank, instrument)
@@ -67,7 +67,7 @@ fn refuse_remove_instrument(bank: &Bank<'_>, instrument: u32) -> Result<(), Caus
 
 fn refuse_rename_instrument(bank: &Bank<'_>, instrument: u32) -> Result<(), Cause>
     requires { IsSound bank.now }
-    ensures { (name : List ℕ) → Judges (refusal bank.now (steps.Instrument (form.RenameInstrument instrument name))) result }
+    ensures { (name : List ℕ) → IsRefuseResult (refusal bank.now (steps.Instrument (form.RenameInstrument instrument name))) result }
 {
     no_such_instrument(bank, instrument)
 }
@@ -76,8 +76,8 @@ fn refuse_rename_instrument(bank: &Bank<'_>, instrument: u32) -> Result<(), Caus
 
 fn refuse_move_instrument(bank: &Bank<'_>, from: u32, to: u32) -> Result<(), Cause>
     requires { IsSound bank.now }
-    ensures { Judges (refusal bank.now (steps.Instrument (form.MoveInstrument from to))) result }
+    ensures { IsRefuseResult (refusal bank.now (steps.Instrument (form.MoveInstrument from to))) result }
 {
     no_such_instrument(bank, from)?;
-    no_such_place(bank.count(Members::Instruments), to)
+    bad_member_index(bank.count(Members::Instruments), to)
 }

@@ -7,13 +7,13 @@ mod laws;
 mod points;
 mod presets;
 mod refusal;
-mod refusing;
+mod refuse_edit;
 mod samples;
 mod settings;
 mod texts;
 mod zones;
 
 pub use edit_forms::Cause;
-pub use laws::{lowest_is_told, numbers_never_fall};
+pub use laws::{lowest_is_reported, numbers_never_fall};
 pub use refusal::Refusal;
-pub use refusing::refuse;
+pub use refuse_edit::refuse;

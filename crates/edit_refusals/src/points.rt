@@ -5,7 +5,7 @@ ghost use Rattle.edit_forms.specs.declared.points.PointStep.TheVariants as form;
 ghost use Rattle.edit_forms.specs.declared.step.Step.TheVariants as steps;
 ghost use Rattle.edit_forms.specs.Causes as tests;
 ghost use Rattle.edit_forms.specs.Steps.{refusal};
-ghost use Rattle.edit_refusals.specs.Answers.{Judges};
+ghost use Rattle.edit_refusals.specs.Answers.{IsRefuseResult};
 
 use crate::causes::{bad_loop_of, full, loop_cut, no_such_link_among, no_such_sample, too_short};
 use bank_core::Bank;
@@ -19,7 +19,7 @@ pub(crate) fn refuse_point_step(
     step: &PointStep<'_>,
 ) -> Result<(), Cause>
     requires { IsSound bank.now }
-    ensures { Judges (refusal bank.now (steps.Points sample step.now)) result }
+    ensures { IsRefuseResult (refusal bank.now (steps.Points sample step.now)) result }
 {
     no_such_sample(bank, sample)?;
     match step {
@@ -33,8 +33,8 @@ pub(crate) fn refuse_point_step(
 
 fn refuse_trim(bank: &Bank<'_>, sample: u32, front: u32, back: u32) -> Result<(), Cause>
     requires sound { IsSound bank.now }
-    requires there { (tests.no_such_sample bank.now sample).stands ≡ false }
-    ensures { Judges (refusal bank.now (steps.Points sample (form.Trim front back))) result }
+    requires there { (tests.no_such_sample bank.now sample).applies ≡ false }
+    ensures { IsRefuseResult (refusal bank.now (steps.Points sample (form.Trim front back))) result }
 {
     too_short(bank, sample, front, back)?;
     loop_cut(bank, sample, front, back)
@@ -48,8 +48,8 @@ fn refuse_extend(
     back: &Points<'_>,
 ) -> Result<(), Cause>
     requires sound { IsSound bank.now }
-    requires there { (tests.no_such_sample bank.now sample).stands ≡ false }
-    ensures { Judges (refusal bank.now (steps.Points sample (form.Extend front.now back.now))) result }
+    requires there { (tests.no_such_sample bank.now sample).applies ≡ false }
+    ensures { IsRefuseResult (refusal bank.now (steps.Points sample (form.Extend front.now back.now))) result }
 {
     let more = front.len().saturating_add(back.len());
     full(bank.broken_with_points(more))
@@ -57,16 +57,16 @@ fn refuse_extend(
 
 fn refuse_set_loop(bank: &Bank<'_>, sample: u32, looped: Option<(u32, u32)>) -> Result<(), Cause>
     requires sound { IsSound bank.now }
-    requires there { (tests.no_such_sample bank.now sample).stands ≡ false }
-    ensures { Judges (refusal bank.now (steps.Points sample (form.SetLoop looped))) result }
+    requires there { (tests.no_such_sample bank.now sample).applies ≡ false }
+    ensures { IsRefuseResult (refusal bank.now (steps.Points sample (form.SetLoop looped))) result }
 {
     bad_loop_of(bank, sample, looped)
 }
 
 fn refuse_set_kind(bank: &Bank<'_>, sample: u32, kind: Kind) -> Result<(), Cause>
     requires sound { IsSound bank.now }
-    requires there { (tests.no_such_sample bank.now sample).stands ≡ false }
-    ensures { Judges (refusal bank.now (steps.Points sample (form.SetKind kind))) result }
+    requires there { (tests.no_such_sample bank.now sample).applies ≡ false }
+    ensures { IsRefuseResult (refusal bank.now (steps.Points sample (form.SetKind kind))) result }
 {
     no_such_link_among(bank, kind)
 }

@@ -4,10 +4,11 @@ ghost use Rattle.bank_parts.specs.Sound.{IsSound};
 ghost use Rattle.edit_forms.specs.declared.presets.PresetStep.TheVariants as form;
 ghost use Rattle.edit_forms.specs.declared.step.Step.TheVariants as steps;
 ghost use Rattle.edit_forms.specs.Steps.{refusal};
-ghost use Rattle.edit_refusals.specs.Answers.{Judges};
+ghost use Rattle.edit_refusals.specs.Answers.{IsRefuseResult};
 
 use crate::causes::{
-    bad_generator, bad_place, bad_range, full, no_such_place, no_such_preset, no_such_target,
+    bad_generator, bad_insert_index, bad_member_index, bad_range, full, no_such_preset,
+    no_such_target,
 };
 use bank_core::{Bank, List as Members};
 use bank_parts::Preset;
@@ -16,7 +17,7 @@ use generators::Level;
 
 pub(crate) fn refuse_preset_step(bank: &Bank<'_>, step: &PresetStep) -> Result<(), Cause>
     requires { IsSound bank.now }
-    ensures { Judges (refusal bank.now (steps.Preset step.now)) result }
+    ensures { IsRefuseResult (refusal bank.now (steps.Preset step.now)) result }
 {
     match step {
         PresetStep::AddPreset { at, preset } => refuse_add_preset(bank, *at, preset),
@@ -30,14 +31,14 @@ pub(crate) fn refuse_preset_step(bank: &Bank<'_>, step: &PresetStep) -> Result<(
 
 fn refuse_add_preset(bank: &Bank<'_>, at: u32, preset: &Preset) -> Result<(), Cause>
     requires { IsSound bank.now }
-    ensures { Judges (refusal bank.now (steps.Preset (form.AddPreset at preset.now))) result }
+    ensures { IsRefuseResult (refusal bank.now (steps.Preset (form.AddPreset at preset.now))) result }
 {
     no_such_target(
         bank.count(Members::Instruments),
         preset,
         Cause::NoSuchInstrument,
     )?;
-    bad_place(bank.count(Members::Presets), at)?;
+    bad_insert_index(bank.count(Members::Presets), at)?;
     bad_generator(Level::Preset, preset)?;
     bad_range(preset)?;
     full(
@@ -50,7 +51,7 @@ fn refuse_add_preset(bank: &Bank<'_>, at: u32, preset: &Preset) -> Result<(), Ca
 
 fn refuse_remove_preset(bank: &Bank<'_>, preset: u32) -> Result<(), Cause>
     requires { IsSound bank.now }
-    ensures { Judges (refusal bank.now (steps.Preset (form.RemovePreset preset))) result }
+    ensures { IsRefuseResult (refusal bank.now (steps.Preset (form.RemovePreset preset))) result }
 {
     no_such_preset(bank, preset)
 }
@@ -59,17 +60,17 @@ fn refuse_remove_preset(bank: &Bank<'_>, preset: u32) -> Result<(), Cause>
 
 fn refuse_move_preset(bank: &Bank<'_>, from: u32, to: u32) -> Result<(), Cause>
     requires { IsSound bank.now }
-    ensures { Judges (refusal bank.now (steps.Preset (form.MovePreset from to))) result }
+    ensures { IsRefuseResult (refusal bank.now (steps.Preset (form.MovePreset from to))) result }
 {
     no_such_preset(bank, from)?;
-    no_such_place(bank.count(Members::Presets), to)
+    bad_member_index(bank.count(Members::Presets), to)
 }
 
 // ---- set-head
 
 fn refuse_set_head(bank: &Bank<'_>, preset: u32) -> Result<(), Cause>
     requires { IsSound bank.now }
-    ensures { (name : List ℕ) → (number bank_number : ℕ) → Judges (refusal bank.now (steps.Preset (form.SetHead preset name number bank_number))) result }
+    ensures { (name : List ℕ) → (number bank_number : ℕ) → IsRefuseResult (refusal bank.now (steps.Preset (form.SetHead preset name number bank_number))) result }
 {
     no_such_preset(bank, preset)
 }

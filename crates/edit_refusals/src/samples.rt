@@ -4,10 +4,10 @@ ghost use Rattle.bank_parts.specs.Sound.{IsSound};
 ghost use Rattle.edit_forms.specs.declared.samples.SampleStep.TheVariants as form;
 ghost use Rattle.edit_forms.specs.declared.step.Step.TheVariants as steps;
 ghost use Rattle.edit_forms.specs.Steps.{refusal};
-ghost use Rattle.edit_refusals.specs.Answers.{Judges};
+ghost use Rattle.edit_refusals.specs.Answers.{IsRefuseResult};
 
 use crate::causes::{
-    bad_loop, bad_place, full, no_such_link, no_such_place, no_such_sample, used_sample,
+    bad_insert_index, bad_loop, bad_member_index, full, no_such_link, no_such_sample, used_sample,
 };
 use bank_core::{Bank, List as Members};
 use bank_parts::Sample;
@@ -15,7 +15,7 @@ use edit_forms::{Cause, SampleStep};
 
 pub(crate) fn refuse_sample_step(bank: &Bank<'_>, step: &SampleStep<'_>) -> Result<(), Cause>
     requires { IsSound bank.now }
-    ensures { Judges (refusal bank.now (steps.Sample step.now)) result }
+    ensures { IsRefuseResult (refusal bank.now (steps.Sample step.now)) result }
 {
     match step {
         SampleStep::RenameSample { sample, .. } => refuse_rename_sample(bank, *sample),
@@ -29,7 +29,7 @@ pub(crate) fn refuse_sample_step(bank: &Bank<'_>, step: &SampleStep<'_>) -> Resu
 
 fn refuse_rename_sample(bank: &Bank<'_>, sample: u32) -> Result<(), Cause>
     requires { IsSound bank.now }
-    ensures { (name : List ℕ) → Judges (refusal bank.now (steps.Sample (form.RenameSample sample name))) result }
+    ensures { (name : List ℕ) → IsRefuseResult (refusal bank.now (steps.Sample (form.RenameSample sample name))) result }
 {
     no_such_sample(bank, sample)
 }
@@ -38,10 +38,10 @@ fn refuse_rename_sample(bank: &Bank<'_>, sample: u32) -> Result<(), Cause>
 
 fn refuse_add_sample(bank: &Bank<'_>, at: u32, sample: &Sample<'_>) -> Result<(), Cause>
     requires { IsSound bank.now }
-    ensures { Judges (refusal bank.now (steps.Sample (form.AddSample at sample.now))) result }
+    ensures { IsRefuseResult (refusal bank.now (steps.Sample (form.AddSample at sample.now))) result }
 {
     no_such_link(bank, sample.kind)?;
-    bad_place(bank.samples().len(), at)?;
+    bad_insert_index(bank.samples().len(), at)?;
     bad_loop(sample)?;
     full(bank.totals().broken_with_sample(sample.points.len()))
 }
@@ -50,7 +50,7 @@ fn refuse_add_sample(bank: &Bank<'_>, at: u32, sample: &Sample<'_>) -> Result<()
 
 fn refuse_remove_sample(bank: &Bank<'_>, sample: u32) -> Result<(), Cause>
     requires { IsSound bank.now }
-    ensures { Judges (refusal bank.now (steps.Sample (form.RemoveSample sample))) result }
+    ensures { IsRefuseResult (refusal bank.now (steps.Sample (form.RemoveSample sample))) result }
 {
     no_such_sample(bank, sample)?;
     used_sample(bank, sample)
@@ -60,8 +60,8 @@ fn refuse_remove_sample(bank: &Bank<'_>, sample: u32) -> Result<(), Cause>
 
 fn refuse_move_sample(bank: &Bank<'_>, from: u32, to: u32) -> Result<(), Cause>
     requires { IsSound bank.now }
-    ensures { Judges (refusal bank.now (steps.Sample (form.MoveSample from to))) result }
+    ensures { IsRefuseResult (refusal bank.now (steps.Sample (form.MoveSample from to))) result }
 {
     no_such_sample(bank, from)?;
-    no_such_place(bank.count(Members::Samples), to)
+    bad_member_index(bank.count(Members::Samples), to)
 }

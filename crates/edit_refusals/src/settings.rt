@@ -5,11 +5,11 @@ ghost use Rattle.edit_forms.specs.declared.settings.SettingStep.TheVariants as f
 ghost use Rattle.edit_forms.specs.declared.step.Step.TheVariants as steps;
 ghost use Rattle.edit_forms.specs.Causes as tests;
 ghost use Rattle.edit_forms.specs.Steps.{refusal};
-ghost use Rattle.edit_refusals.specs.Answers.{Judges};
+ghost use Rattle.edit_refusals.specs.Answers.{IsRefuseResult};
 
 use crate::causes::{
-    bad_amount, bad_place, foreign_operator, full, linked_modulator, linked_place, mods_there,
-    no_such_modulator, no_such_owner, no_such_zone_at, not_set,
+    bad_amount, bad_insert_index, foreign_operator, full, linked_modulator, linked_place,
+    mods_there, no_such_modulator, no_such_owner, no_such_zone_at, not_set,
 };
 use bank_core::{Bank, Owner, Place};
 use edit_forms::{Cause, SettingStep};
@@ -22,7 +22,7 @@ pub(crate) fn refuse_setting_step(
     step: SettingStep,
 ) -> Result<(), Cause>
     requires { IsSound bank.now }
-    ensures { Judges (refusal bank.now (steps.Setting owner place step)) result }
+    ensures { IsRefuseResult (refusal bank.now (steps.Setting owner place step)) result }
 {
     no_such_owner(bank, owner)?;
     no_such_zone_at(bank, owner, place)?;
@@ -51,9 +51,9 @@ fn refuse_set_gen(
     amount: u16,
 ) -> Result<(), Cause>
     requires sound { IsSound bank.now }
-    requires owner { (tests.no_such_owner bank.now owner).stands ≡ false }
-    requires zone { (tests.no_such_zone_at bank.now owner place).stands ≡ false }
-    ensures { Judges (refusal bank.now (steps.Setting owner place (form.SetGen operator amount))) result }
+    requires owner { (tests.no_such_owner bank.now owner).applies ≡ false }
+    requires zone { (tests.no_such_zone_at bank.now owner place).applies ≡ false }
+    ensures { IsRefuseResult (refusal bank.now (steps.Setting owner place (form.SetGen operator amount))) result }
 {
     foreign_operator(owner.level(), operator)?;
     bad_amount(operator, amount)?;
@@ -64,9 +64,9 @@ fn refuse_set_gen(
 
 fn refuse_clear_gen(bank: &Bank<'_>, owner: Owner, place: Place, operator: u16) -> Result<(), Cause>
     requires sound { IsSound bank.now }
-    requires owner { (tests.no_such_owner bank.now owner).stands ≡ false }
-    requires zone { (tests.no_such_zone_at bank.now owner place).stands ≡ false }
-    ensures { Judges (refusal bank.now (steps.Setting owner place (form.ClearGen operator))) result }
+    requires owner { (tests.no_such_owner bank.now owner).applies ≡ false }
+    requires zone { (tests.no_such_zone_at bank.now owner place).applies ≡ false }
+    ensures { IsRefuseResult (refusal bank.now (steps.Setting owner place (form.ClearGen operator))) result }
 {
     foreign_operator(owner.level(), operator)?;
     not_set(bank, owner, place, operator)
@@ -82,11 +82,11 @@ fn refuse_add_mod(
     modulator: Modulator,
 ) -> Result<(), Cause>
     requires sound { IsSound bank.now }
-    requires owner { (tests.no_such_owner bank.now owner).stands ≡ false }
-    requires zone { (tests.no_such_zone_at bank.now owner place).stands ≡ false }
-    ensures { Judges (refusal bank.now (steps.Setting owner place (form.AddMod index modulator))) result }
+    requires owner { (tests.no_such_owner bank.now owner).applies ≡ false }
+    requires zone { (tests.no_such_zone_at bank.now owner place).applies ≡ false }
+    ensures { IsRefuseResult (refusal bank.now (steps.Setting owner place (form.AddMod index modulator))) result }
 {
-    bad_place(mods_there(bank, owner, place), index)?;
+    bad_insert_index(mods_there(bank, owner, place), index)?;
     linked_modulator(bank, owner, place, modulator)?;
     full(bank.broken_with_mod(owner, place))
 }
@@ -95,9 +95,9 @@ fn refuse_add_mod(
 
 fn refuse_remove_mod(bank: &Bank<'_>, owner: Owner, place: Place, index: u32) -> Result<(), Cause>
     requires sound { IsSound bank.now }
-    requires owner { (tests.no_such_owner bank.now owner).stands ≡ false }
-    requires zone { (tests.no_such_zone_at bank.now owner place).stands ≡ false }
-    ensures { Judges (refusal bank.now (steps.Setting owner place (form.RemoveMod index))) result }
+    requires owner { (tests.no_such_owner bank.now owner).applies ≡ false }
+    requires zone { (tests.no_such_zone_at bank.now owner place).applies ≡ false }
+    ensures { IsRefuseResult (refusal bank.now (steps.Setting owner place (form.RemoveMod index))) result }
 {
     no_such_modulator(bank, owner, place, index)?;
     linked_place(bank, owner, place)
@@ -113,9 +113,9 @@ fn refuse_set_mod(
     modulator: Modulator,
 ) -> Result<(), Cause>
     requires sound { IsSound bank.now }
-    requires owner { (tests.no_such_owner bank.now owner).stands ≡ false }
-    requires zone { (tests.no_such_zone_at bank.now owner place).stands ≡ false }
-    ensures { Judges (refusal bank.now (steps.Setting owner place (form.SetMod index modulator))) result }
+    requires owner { (tests.no_such_owner bank.now owner).applies ≡ false }
+    requires zone { (tests.no_such_zone_at bank.now owner place).applies ≡ false }
+    ensures { IsRefuseResult (refusal bank.now (steps.Setting owner place (form.SetMod index modulator))) result }
 {
     no_such_modulator(bank, owner, place, index)?;
     linked_modulator(bank, owner, place, modulator)

@@ -5,11 +5,11 @@ ghost use Rattle.edit_forms.specs.declared.zones.ZoneStep.TheVariants as form;
 ghost use Rattle.edit_forms.specs.declared.step.Step.TheVariants as steps;
 ghost use Rattle.edit_forms.specs.Causes as tests;
 ghost use Rattle.edit_forms.specs.Steps.{refusal};
-ghost use Rattle.edit_refusals.specs.Answers.{Judges};
+ghost use Rattle.edit_refusals.specs.Answers.{IsRefuseResult};
 
 use crate::causes::{
-    bad_generators, bad_place, bad_ranges, full, no_next_zone, no_such_owner, no_such_place,
-    no_such_target_of, no_such_zone, not_joinable, split_outside, zone_total,
+    bad_insert_index, bad_member_index, bad_zone_generator, bad_zone_range, full, no_next_zone,
+    no_such_owner, no_such_target_of, no_such_zone, not_joinable, split_outside, zone_total,
 };
 use bank_core::{Bank, Owner};
 use bank_parts::Zone;
@@ -18,7 +18,7 @@ use edit_forms::{Cause, ZoneStep};
 
 pub(crate) fn refuse_zone_step(bank: &Bank<'_>, owner: Owner, step: &ZoneStep) -> Result<(), Cause>
     requires { IsSound bank.now }
-    ensures { Judges (refusal bank.now (steps.Zone owner step.now)) result }
+    ensures { IsRefuseResult (refusal bank.now (steps.Zone owner step.now)) result }
 {
     no_such_owner(bank, owner)?;
     match step {
@@ -37,13 +37,13 @@ pub(crate) fn refuse_zone_step(bank: &Bank<'_>, owner: Owner, step: &ZoneStep) -
 
 fn refuse_add_zone(bank: &Bank<'_>, owner: Owner, at: u32, zone: &Zone) -> Result<(), Cause>
     requires sound { IsSound bank.now }
-    requires owner { (tests.no_such_owner bank.now owner).stands ≡ false }
-    ensures { Judges (refusal bank.now (steps.Zone owner (form.AddZone at zone.now))) result }
+    requires owner { (tests.no_such_owner bank.now owner).applies ≡ false }
+    ensures { IsRefuseResult (refusal bank.now (steps.Zone owner (form.AddZone at zone.now))) result }
 {
     no_such_target_of(bank, owner, zone.target)?;
-    bad_place(zone_total(bank, owner), at)?;
-    bad_generators(owner.level(), zone)?;
-    bad_ranges(zone)?;
+    bad_insert_index(zone_total(bank, owner), at)?;
+    bad_zone_generator(owner.level(), zone)?;
+    bad_zone_range(zone)?;
     full(bank.broken_with_zone(owner, zone))
 }
 
@@ -51,8 +51,8 @@ fn refuse_add_zone(bank: &Bank<'_>, owner: Owner, at: u32, zone: &Zone) -> Resul
 
 fn refuse_remove_zone(bank: &Bank<'_>, owner: Owner, zone: u32) -> Result<(), Cause>
     requires sound { IsSound bank.now }
-    requires owner { (tests.no_such_owner bank.now owner).stands ≡ false }
-    ensures { Judges (refusal bank.now (steps.Zone owner (form.RemoveZone zone))) result }
+    requires owner { (tests.no_such_owner bank.now owner).applies ≡ false }
+    ensures { IsRefuseResult (refusal bank.now (steps.Zone owner (form.RemoveZone zone))) result }
 {
     no_such_zone(bank, owner, zone)
 }
@@ -61,19 +61,19 @@ fn refuse_remove_zone(bank: &Bank<'_>, owner: Owner, zone: u32) -> Result<(), Ca
 
 fn refuse_move_zone(bank: &Bank<'_>, owner: Owner, from: u32, to: u32) -> Result<(), Cause>
     requires sound { IsSound bank.now }
-    requires owner { (tests.no_such_owner bank.now owner).stands ≡ false }
-    ensures { Judges (refusal bank.now (steps.Zone owner (form.MoveZone from to))) result }
+    requires owner { (tests.no_such_owner bank.now owner).applies ≡ false }
+    ensures { IsRefuseResult (refusal bank.now (steps.Zone owner (form.MoveZone from to))) result }
 {
     no_such_zone(bank, owner, from)?;
-    no_such_place(zone_total(bank, owner), to)
+    bad_member_index(zone_total(bank, owner), to)
 }
 
 // ---- set-target
 
 fn refuse_set_target(bank: &Bank<'_>, owner: Owner, zone: u32, target: u16) -> Result<(), Cause>
     requires sound { IsSound bank.now }
-    requires owner { (tests.no_such_owner bank.now owner).stands ≡ false }
-    ensures { Judges (refusal bank.now (steps.Zone owner (form.SetTarget zone target))) result }
+    requires owner { (tests.no_such_owner bank.now owner).applies ≡ false }
+    ensures { IsRefuseResult (refusal bank.now (steps.Zone owner (form.SetTarget zone target))) result }
 {
     no_such_target_of(bank, owner, target)?;
     no_such_zone(bank, owner, zone)
@@ -89,8 +89,8 @@ fn refuse_split_zone(
     at: u8,
 ) -> Result<(), Cause>
     requires sound { IsSound bank.now }
-    requires owner { (tests.no_such_owner bank.now owner).stands ≡ false }
-    ensures { Judges (refusal bank.now (steps.Zone owner (form.SplitZone zone axis at))) result }
+    requires owner { (tests.no_such_owner bank.now owner).applies ≡ false }
+    ensures { IsRefuseResult (refusal bank.now (steps.Zone owner (form.SplitZone zone axis at))) result }
 {
     no_such_zone(bank, owner, zone)?;
     split_outside(bank, owner, zone, axis, at)?;
@@ -107,8 +107,8 @@ fn refuse_join_zone(
     keep: Keep,
 ) -> Result<(), Cause>
     requires sound { IsSound bank.now }
-    requires owner { (tests.no_such_owner bank.now owner).stands ≡ false }
-    ensures { Judges (refusal bank.now (steps.Zone owner (form.JoinZone zone axis keep))) result }
+    requires owner { (tests.no_such_owner bank.now owner).applies ≡ false }
+    ensures { IsRefuseResult (refusal bank.now (steps.Zone owner (form.JoinZone zone axis keep))) result }
 {
     no_next_zone(bank, owner, zone)?;
     not_joinable(bank, owner, zone, axis, keep)

@@ -7,39 +7,39 @@ use Rattle.edit_forms.specs.declared.step.Step.{Step}
 use Rattle.edit_forms.specs.declared.edit.Edit.{Edit}
 use Rattle.edit_forms.specs.declared.edit.Edit.TheVariants.{One, Group}
 use Rattle.edit_forms.specs.Fits.{FitsStep, FitsEdit}
-use Rattle.script_tokens.specs.declared.cursor.Said.{Said}
+use Rattle.script_tokens.specs.declared.cursor.TokenValue.{TokenValue}
 use Rattle.script_tokens.specs.declared.fault.ScriptFault.{ScriptFault}
 use Rattle.script_tokens.specs.Lines.{lines_of}
 use Rattle.script_tokens.specs.Pool.{Answers}
 use Rattle.script_grammar.specs.Operands.{Operand, Fixed}
-use Rattle.script_grammar.proofs.FitLaws.{AllRanged, all_ranged, behind}
-use Rattle.script_steps.specs.Spelling.{SaysWhole}
+use Rattle.script_grammar.proofs.FitLaws.{AllRanged, all_ranged, following}
+use Rattle.script_steps.specs.TextForm.{EncodesWholeStep}
 use Rattle.script_steps.proofs.StepLaws.{step_fits}
 use Rattle.edit_script.specs.declared.parsing.Line.{Line}
-use Rattle.edit_script.specs.Grammar.{in_braces, SaysSteps, SaysAll}
+use Rattle.edit_script.specs.Grammar.{in_braces, EncodesSteps, HasOperands}
 use Rattle.edit_script.specs.Script.{script_of}
 use Rattle.edit_script.specs.Printing.{LinesFit}
-use Rattle.edit_script.specs.Spelling.{SaysEdit, LinesSay, Spells}
+use Rattle.edit_script.specs.TextForm.{EncodesEdit, LinesEncode, Spells}
 use Rattle.edit_script.proofs.ReadLaws.{read_spelled}
 
-whole_fits : (s : Step) (os : List Operand) → SaysWhole s os → AllRanged os → FitsStep s
+whole_fits : (s : Step) (os : List Operand) → EncodesWholeStep s os → AllRanged os → FitsStep s
 whole_fits s os h r = let k = subst AllRanged h.parts r in step_fits s h.operands h.says k.1
 
-steps_fit : (ss : List Step) (os : List Operand) → SaysSteps ss os → AllRanged os → AllByRecursion FitsStep ss
+steps_fit : (ss : List Step) (os : List Operand) → EncodesSteps ss os → AllRanged os → AllByRecursion FitsStep ss
 steps_fit [] os h r = tt
 steps_fit (s ∷ ss) os h r =
-    let k = behind (in_braces h.operands) h.more (subst AllRanged h.parts r) in
-    let b = behind h.operands (Fixed (codes "}") ∷ []) k.0.1 in
+    let k = following (in_braces h.operands) h.more (subst AllRanged h.parts r) in
+    let b = following h.operands (Fixed (codes "}") ∷ []) k.0.1 in
     (whole_fits s h.operands h.says b.0, steps_fit ss h.more h.follow k.1)
 
-all_fit : (e : Edit) (os : List Operand) → SaysAll e os → AllRanged os → FitsEdit e
+all_fit : (e : Edit) (os : List Operand) → HasOperands e os → AllRanged os → FitsEdit e
 all_fit (One s) os h r = whole_fits s os h r
 all_fit (Group ss) os h r = let k = subst AllRanged h.parts r in steps_fit ss h.braces h.says k.1
 
-edit_fits : (said : List Said) (e : Edit) → SaysEdit said e → FitsEdit e
+edit_fits : (said : List TokenValue) (e : Edit) → EncodesEdit said e → FitsEdit e
 edit_fits said e h = all_fit e h.operands h.says (all_ranged said h.operands h.tokens)
 
-lines_fit : (n : ℕ) (ls : List (List ℕ)) (edits : List Line) → LinesSay n ls edits → LinesFit edits
+lines_fit : (n : ℕ) (ls : List (List ℕ)) (edits : List Line) → LinesEncode n ls edits → LinesFit edits
 lines_fit n [] edits h = subst LinesFit (sym h) tt
 lines_fit n (l ∷ ls) edits (inl h) = lines_fit (suc n) ls edits h.1
 lines_fit n (l ∷ ls) edits (inr h) =

@@ -5,44 +5,44 @@ use Rattle.std.proofs.lemmas.List.{append-nil}
 use Rattle.edit_forms.specs.declared.step.Step.{Step}
 use Rattle.edit_forms.specs.declared.edit.Edit.{Edit}
 use Rattle.edit_forms.specs.declared.edit.Edit.TheVariants.{One, Group}
-use Rattle.script_tokens.specs.declared.cursor.Said.{Said}
-use Rattle.script_tokens.specs.Parts.{Took, pure, is_next}
+use Rattle.script_tokens.specs.declared.cursor.TokenValue.{TokenValue}
+use Rattle.script_tokens.specs.Parsers.{Parsed, pure, is_next}
 use Rattle.script_tokens.proofs.ReadLaws.{AllHoldBytes}
 use Rattle.script_grammar.specs.Names.{fixed}
 use Rattle.script_grammar.specs.Operands.{Operand, Fixed}
 use Rattle.script_grammar.proofs.ReadLaws.{Fronts, then, made, fixed_front}
 use Rattle.script_grammar.proofs.RepeatedLaws.{repeated_reads}
 use Rattle.script_steps.specs.Grammar.{step}
-use Rattle.script_steps.specs.Spelling.{SaysWhole}
-use Rattle.script_steps.proofs.SaidLaws.{SaidFront, IsSaid, behind, behind_said, none}
+use Rattle.script_steps.specs.TextForm.{EncodesWholeStep}
+use Rattle.script_steps.proofs.FrontLaws.{SaidFront, IsSaid, following, behind_said, none}
 use Rattle.script_steps.proofs.StepLaws.{step_said}
-use Rattle.edit_script.specs.Grammar.{in_braces, SaysSteps, SaysAll, braced_step, is_over, with_step, steps_left}
+use Rattle.edit_script.specs.Grammar.{in_braces, EncodesSteps, HasOperands, braced_step, is_over, with_step, remaining_steps}
 use Rattle.edit_script.specs.Grammar.{group, one, one_or_group}
 use Rattle.edit_script.proofs.StepsLaws.{group_first, one_first}
 
 -- `{ STEP }`
 abbrev IsBraced : Step → List Operand → Type 0
-IsBraced s os = (w : List Operand) × (os ≡ in_braces w) × SaysWhole s w
+IsBraced s os = (w : List Operand) × (os ≡ in_braces w) × EncodesWholeStep s w
 
 braced_said : IsSaid Step braced_step IsBraced
 unfolding braced_step
 braced_said =
-    behind (fixed (codes "{")) _ IsBraced (λ o. Fixed (codes "{") ∷ []) (fixed_front (codes "{")) (λ o.
-    behind_said step _ (λ s os. IsBraced s (Fixed (codes "{") ∷ os)) {S = SaysWhole} step_said (λ s w h.
-    behind (fixed (codes "}")) _ (λ x os. IsBraced x (Fixed (codes "{") ∷ (w ++ os))) (λ c. Fixed (codes "}")
+    following (fixed (codes "{")) _ IsBraced (λ o. Fixed (codes "{") ∷ []) (fixed_front (codes "{")) (λ o.
+    behind_said step _ (λ s os. IsBraced s (Fixed (codes "{") ∷ os)) {S = EncodesWholeStep} step_said (λ s w h.
+    following (fixed (codes "}")) _ (λ x os. IsBraced x (Fixed (codes "{") ∷ (w ++ os))) (λ c. Fixed (codes "}")
     ∷ []) (fixed_front (codes "}")) (λ c.
     none s (λ x more. IsBraced x (Fixed (codes "{") ∷ (w ++ (Fixed (codes "}") ∷ more)))) (w, refl, h))))
 
 -- ---- the remaining steps
 
-record SaidSteps (ss : List Step) (line : List Said) (t : Took (List Step)) : Type 0 where
+record SaidSteps (ss : List Step) (line : List TokenValue) (t : Parsed (List Step)) : Type 0 where
   pub steps : List Step
   pub operands : List Operand
-  pub says : SaysSteps steps operands
+  pub says : EncodesSteps steps operands
   pub fronts : Fronts line t.rest operands
   pub stands : ss ++ steps ≡ t.value
 
-no_more : (ss : List Step) (line : List Said) (t : Took (List Step)) → AllHoldBytes line → pure ss line ≡ Ok t
+no_more : (ss : List Step) (line : List TokenValue) (t : Parsed (List Step)) → AllHoldBytes line → pure ss line ≡ Ok t
     → SaidSteps ss line t
 no_more ss line t h e =
     let same : record { value = ss; rest = line } ≡ t = made ss line t e in
@@ -57,7 +57,7 @@ no_more ss line t h e =
       stands = append-nil ss;
     })
 
-more_steps : (ss : List Step) (line : List Said) (x : Took Step) (t : Took (List Step)) → SaidFront IsBraced line x
+more_steps : (ss : List Step) (line : List TokenValue) (x : Parsed Step) (t : Parsed (List Step)) → SaidFront IsBraced line x
     → SaidSteps (with_step ss x.value) x.rest t → SaidSteps ss line t
 more_steps ss line x t b s = record {
   steps = x.value ∷ s.steps;
@@ -77,43 +77,43 @@ more_steps ss line x t b s = record {
   stands = sym (append_assoc ss (x.value ∷ []) s.steps) ∙ s.stands;
 }
 
-left_front : (ss : List Step) (line : List Said) (t : Took (List Step)) → AllHoldBytes line
-    → steps_left ss line ≡ Ok t → SaidSteps ss line t
-unfolding steps_left
+left_front : (ss : List Step) (line : List TokenValue) (t : Parsed (List Step)) → AllHoldBytes line
+    → remaining_steps ss line ≡ Ok t → SaidSteps ss line t
+unfolding remaining_steps
 left_front ss line t h e =
     repeated_reads is_over pure braced_step with_step SaidSteps (λ ss line t h over e. no_more ss line t h e)
     (λ ss line x t h e on. let f = braced_said line x h e in more_steps ss line x t f (on f.fronts.holds)) ss line t h e
 
-steps_said : IsSaid (List Step) (steps_left []) SaysSteps
+steps_said : IsSaid (List Step) (remaining_steps []) EncodesSteps
 steps_said line t h e =
     let s = left_front [] line t h e in
     record {
       operands =
           s.operands;
-      says = subst (λ (ss : List Step). SaysSteps ss s.operands) s.stands s.says;
+      says = subst (λ (ss : List Step). EncodesSteps ss s.operands) s.stands s.says;
       fronts = s.fronts;
     }
 
 -- ---- an edit
 
-group_said : IsSaid Edit group SaysAll
+group_said : IsSaid Edit group HasOperands
 unfolding group
 group_said =
-    behind (fixed (codes "group")) _ SaysAll (λ w. Fixed (codes "group") ∷ []) (fixed_front (codes "group")) (λ w.
-    behind_said (steps_left []) _ (λ e os. SaysAll e (Fixed (codes "group") ∷ os)) {S = SaysSteps} steps_said
+    following (fixed (codes "group")) _ HasOperands (λ w. Fixed (codes "group") ∷ []) (fixed_front (codes "group")) (λ w.
+    behind_said (remaining_steps []) _ (λ e os. HasOperands e (Fixed (codes "group") ∷ os)) {S = EncodesSteps} steps_said
     (λ ss os h.
-    none (Group ss) (λ e more. SaysAll e (Fixed (codes "group") ∷ (os ++ more)))
-    (record { braces = os ++ []; parts = refl; says = subst (SaysSteps ss) (sym (append-nil os)) h })))
+    none (Group ss) (λ e more. HasOperands e (Fixed (codes "group") ∷ (os ++ more)))
+    (record { braces = os ++ []; parts = refl; says = subst (EncodesSteps ss) (sym (append-nil os)) h })))
 
-one_said : IsSaid Edit one SaysAll
+one_said : IsSaid Edit one HasOperands
 unfolding one
 one_said =
-    behind_said step _ SaysAll {S = SaysWhole} step_said
-    (λ s os h. none (One s) (λ e more. SaysAll e (os ++ more)) (subst (SaysWhole s) (sym (append-nil os)) h))
+    behind_said step _ HasOperands {S = EncodesWholeStep} step_said
+    (λ s os h. none (One s) (λ e more. HasOperands e (os ++ more)) (subst (EncodesWholeStep s) (sym (append-nil os)) h))
 
-pub edit_said : IsSaid Edit one_or_group SaysAll
+pub edit_said : IsSaid Edit one_or_group HasOperands
 edit_said line t h e = from (is_next (codes "group") line) refl
   where
-    from : (b : Bool) → is_next (codes "group") line ≡ b → SaidFront SaysAll line t
+    from : (b : Bool) → is_next (codes "group") line ≡ b → SaidFront HasOperands line t
     from true k = group_said line t h (sym (group_first line k) ∙ e)
     from false k = one_said line t h (sym (one_first line k) ∙ e)

@@ -1,8 +1,8 @@
 pub mod ScriptLaws
 pub mod StepsLaws
 pub mod PutLaws
-pub mod GroupSpellLaws
-pub mod SpellLaws
+pub mod GroupCompletenessLaws
+pub mod CompletenessLaws
 pub mod GroupReadLaws
 pub mod ReadLaws
 pub mod LineLaws

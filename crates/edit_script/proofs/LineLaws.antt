@@ -6,7 +6,7 @@ use Rattle.edit_forms.specs.declared.step.Step.{Step}
 use Rattle.edit_forms.specs.declared.edit.Edit.{Edit}
 use Rattle.edit_forms.specs.declared.edit.Edit.TheVariants.{One, Group}
 use Rattle.edit_forms.specs.Fits.{FitsStep, FitsEdit}
-use Rattle.script_tokens.specs.declared.cursor.Said.TheVariants as says
+use Rattle.script_tokens.specs.declared.cursor.TokenValue.TheVariants as says
 use Rattle.script_tokens.specs.Lines.{lines_of}
 use Rattle.script_tokens.specs.Printing.{line_text}
 use Rattle.script_tokens.proofs.LexLaws.{lines_none}
@@ -17,14 +17,14 @@ use Rattle.script_grammar.specs.Operands.{Operand, Fixed, pieces_of}
 use Rattle.script_grammar.proofs.OperandLaws as operand
 use Rattle.script_grammar.proofs.OperandLaws.{IsFixed, all_spoken, all_say, both_fit}
 use Rattle.script_steps.specs.Grammar.{word_of, operands, step_operands}
-use Rattle.script_steps.specs.Spelling.{SaysWhole}
+use Rattle.script_steps.specs.TextForm.{EncodesWholeStep}
 use Rattle.script_steps.proofs.StepLaws.{form_fixed, operands_fit, step_printed}
-use Rattle.edit_script.specs.Grammar.{braced, SaysSteps, SaysAll}
+use Rattle.edit_script.specs.Grammar.{braced, EncodesSteps, HasOperands}
 use Rattle.edit_script.specs.declared.parsing.Line.{Line}
 use Rattle.edit_script.specs.Script.{script_of}
 use Rattle.edit_script.specs.Printing.{text_of, texts_of, numbered, AllFit}
-use Rattle.edit_script.specs.Spelling.{LinesSay, Spells}
-use Rattle.edit_script.proofs.SpellLaws.{spelled_read}
+use Rattle.edit_script.specs.TextForm.{LinesEncode, Spells}
+use Rattle.edit_script.proofs.CompletenessLaws.{spelled_read}
 
 -- ---- the word of a line, and its operands
 
@@ -32,11 +32,11 @@ abbrev word : Edit → List ℕ
 word (One s) = word_of s
 word (Group ss) = codes "group"
 
-abbrev behind : Edit → List Operand
-behind (One s) = operands s
-behind (Group ss) = flat_map braced ss
+abbrev following : Edit → List Operand
+following (One s) = operands s
+following (Group ss) = flat_map braced ss
 
-text_is : (e : Edit) → text_of e ≡ line_text (word e) (pieces_of (behind e))
+text_is : (e : Edit) → text_of e ≡ line_text (word e) (pieces_of (following e))
 unfolding text_of
 text_is (One s) = refl
 text_is (Group ss) = refl
@@ -57,16 +57,16 @@ all_braced_fit : (ss : List Step) → AllByRecursion FitsStep ss → operand.All
 all_braced_fit [] h = tt
 all_braced_fit (s ∷ ss) h = both_fit (braced s) (flat_map braced ss) (braced_fit s h.0) (all_braced_fit ss h.1)
 
-behind_fit : (e : Edit) → FitsEdit e → operand.AllFit (behind e)
+behind_fit : (e : Edit) → FitsEdit e → operand.AllFit (following e)
 behind_fit (One s) h = operands_fit s h
 behind_fit (Group ss) h = all_braced_fit ss h
 
 -- ---- the printed line encodes the edit
 
-whole_printed : (s : Step) → SaysWhole s (step_operands s)
+whole_printed : (s : Step) → EncodesWholeStep s (step_operands s)
 whole_printed s = record { operands = operands s; parts = refl; says = step_printed s }
 
-steps_printed : (ss : List Step) → SaysSteps ss (flat_map braced ss)
+steps_printed : (ss : List Step) → EncodesSteps ss (flat_map braced ss)
 steps_printed [] = refl
 steps_printed (s ∷ ss) =
     record {
@@ -79,32 +79,32 @@ steps_printed (s ∷ ss) =
       follow = steps_printed ss;
     }
 
-edit_printed : (e : Edit) → SaysAll e (Fixed (word e) ∷ behind e)
+edit_printed : (e : Edit) → HasOperands e (Fixed (word e) ∷ following e)
 edit_printed (One s) = whole_printed s
 edit_printed (Group ss) = record { braces = flat_map braced ss; parts = refl; says = steps_printed ss }
 
 -- ---- lines
 
 edit_lines : (e : Edit) (rest : List ℕ) → FitsEdit e
-    → lines_of (text_of e ++ rest) ≡ line (word e) (pieces_of (behind e)) ∷ lines_of rest
+    → lines_of (text_of e ++ rest) ≡ line (word e) (pieces_of (following e)) ∷ lines_of rest
 edit_lines e rest h =
     ap (λ (t : List ℕ). lines_of (t ++ rest)) (text_is e)
-    ∙ line_first (word e) (pieces_of (behind e)) rest (word_fixed e).1 (all_spoken (behind e) (behind_fit e h))
+    ∙ line_first (word e) (pieces_of (following e)) rest (word_fixed e).1 (all_spoken (following e) (behind_fit e h))
 
-texts_say : (n : ℕ) (es : List Edit) → AllFit es → LinesSay n (lines_of (texts_of es)) (numbered n es)
-texts_say n [] h = subst (λ (ls : List (List ℕ)). LinesSay n ls []) (sym lines_none) refl
+texts_say : (n : ℕ) (es : List Edit) → AllFit es → LinesEncode n (lines_of (texts_of es)) (numbered n es)
+texts_say n [] h = subst (λ (ls : List (List ℕ)). LinesEncode n ls []) (sym lines_none) refl
 texts_say n (e ∷ es) h =
     let fit = behind_fit e h.0 in
-    subst (λ (ls : List (List ℕ)). LinesSay n ls (numbered n (e ∷ es))) (sym (edit_lines e (texts_of es) h.0))
+    subst (λ (ls : List (List ℕ)). LinesEncode n ls (numbered n (e ∷ es))) (sym (edit_lines e (texts_of es) h.0))
     (inr (record {
-      said = says.Word (word e) ∷ map meant (pieces_of (behind e));
+      said = says.Word (word e) ∷ map meant (pieces_of (following e));
       edit = e;
       more = numbered (suc n) es;
       parts = refl;
-      tokens = line_says (word e) (pieces_of (behind e)) (word_fixed e).0 (all_spoken (behind e) fit);
+      tokens = line_says (word e) (pieces_of (following e)) (word_fixed e).0 (all_spoken (following e) fit);
       form =
           record
-          { operands = Fixed (word e) ∷ behind e; says = edit_printed e; tokens = (refl, all_say (behind e) fit) };
+          { operands = Fixed (word e) ∷ following e; says = edit_printed e; tokens = (refl, all_say (following e) fit) };
       follow = texts_say (suc n) es h.1;
     }))
 
@@ -123,7 +123,7 @@ pub printed_behind : (comment : List ℕ) (ps : List Piece) (es : List Edit) →
 printed_behind comment ps es f s h =
     let first = line (35 ∷ comment) ps in
     spelled_read (line_text (35 ∷ comment) ps ++ texts_of es) (numbered 2 es)
-    (subst (λ (ls : List (List ℕ)). LinesSay 1 ls (numbered 2 es))
+    (subst (λ (ls : List (List ℕ)). LinesEncode 1 ls (numbered 2 es))
     (sym (line_first (35 ∷ comment) ps (texts_of es) f s))
     (inl (record { blanks = []; rest = first; parts = refl; blank = refl; silent = refl }, texts_say 2 es h)))
 

@@ -3,41 +3,41 @@ use Rattle.std.proofs.Common.{◌≡◌, ℕ, Bool, true, false, List, [], ◌�
 use Rattle.std.specs.Result.{result_and}
 use Rattle.sf_base.specs.declared.memory.Failure.{Failure}
 use Rattle.sf_base.specs.declared.memory.Failure.TheVariants.{Fault}
-use Rattle.script_tokens.specs.declared.cursor.Said.{Said}
+use Rattle.script_tokens.specs.declared.cursor.TokenValue.{TokenValue}
 use Rattle.script_tokens.specs.declared.fault.LineFault.{LineFault}
 use Rattle.script_tokens.specs.Lines.{lines_of}
-use Rattle.script_tokens.specs.Said.{Left, said_lines, lines_said_over}
-use Rattle.script_tokens.specs.Parts.{Part}
-use Rattle.script_tokens.specs.Pool.{Grown, pool_bytes}
+use Rattle.script_tokens.specs.TokenValue.{Left, values_of_lines, line_values_over}
+use Rattle.script_tokens.specs.Parsers.{Parser}
+use Rattle.script_tokens.specs.Pool.{ListOrFault, pool_bytes}
 use Rattle.script_tokens.proofs.PoolLaws.{over_pool}
-use Rattle.script_grammar.specs.Memory.{ReadsOrWants}
+use Rattle.script_grammar.specs.Memory.{ReadsOrOutOfMemory}
 use Rattle.edit_script.specs.declared.parsing.Line.{Line}
 use Rattle.edit_script.specs.Grammar.{edit}
 use Rattle.edit_script.specs.Script.{edit_of, with_edit, edits_in, script_of}
 
-pub says_nothing : (n : ℕ) (said : List Said) (lines : List Line) → said ≡ [] → edit_of n said lines ≡ Ok lines
+pub says_nothing : (n : ℕ) (said : List TokenValue) (lines : List Line) → said ≡ [] → edit_of n said lines ≡ Ok lines
 unfolding edit_of
 says_nothing n [] lines e = refl
 says_nothing n (s ∷ said) lines e = cc
 
-pub one_more : (n : ℕ) (said : List Said) (lines : List Line) → (said ≡ [] → ⊥)
+pub one_more : (n : ℕ) (said : List TokenValue) (lines : List Line) → (said ≡ [] → ⊥)
     → edit_of n said lines ≡ with_edit n lines (edit said)
 unfolding edit_of
 one_more n [] lines some = absurd (some refl)
 one_more n (s ∷ said) lines some = refl
 
 -- the fault of a line that is not read
-pub not_read : {X Y : Type 0} (part : Part Y) (view : X → Y) (old new : Left) (failure : Failure LineFault)
+pub not_read : {X Y : Type 0} (part : Parser Y) (view : X → Y) (old new : Left) (failure : Failure LineFault)
     (fault : LineFault)
-    → failure ≡ Fault fault → ReadsOrWants view part old new (Err failure) → part old.said ≡ Err fault
+    → failure ≡ Fault fault → ReadsOrOutOfMemory view part old new (Err failure) → part old.said ≡ Err fault
 not_read part view old new failure fault e h =
-    subst (λ (f : Failure LineFault). ReadsOrWants view part old new (Err f)) e h
+    subst (λ (f : Failure LineFault). ReadsOrOutOfMemory view part old new (Err f)) e h
 
 pub not_both : {b : Bool} → b ≡ true → b ≡ false → ⊥
 not_both p q = cc
 
 pub script_over_pool : (text pool : List ℕ) → pool_bytes text ≡ Ok pool
-    → edits_in (lines_said_over pool (lines_of text)) ≡ script_of text
+    → edits_in (line_values_over pool (lines_of text)) ≡ script_of text
 unfolding script_of
 script_over_pool text pool e =
-    ap edits_in (over_pool text pool e) ∙ ap (λ (r : Grown ℕ). result_and r (edits_in (said_lines text))) (sym e)
+    ap edits_in (over_pool text pool e) ∙ ap (λ (r : ListOrFault ℕ). result_and r (edits_in (values_of_lines text))) (sym e)

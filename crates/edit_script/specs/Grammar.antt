@@ -3,13 +3,13 @@ use Rattle.std.specs.Prelude.{◌≡◌, List, [], ◌∷◌, ◌++◌, codes, B
 use Rattle.edit_forms.specs.declared.step.Step.{Step}
 use Rattle.edit_forms.specs.declared.edit.Edit.{Edit}
 use Rattle.edit_forms.specs.declared.edit.Edit.TheVariants.{One, Group}
-use Rattle.script_tokens.specs.declared.cursor.Said.{Said}
-use Rattle.script_tokens.specs.Parts.{Part, ◌>>=◌, pure, is_next, ended}
+use Rattle.script_tokens.specs.declared.cursor.TokenValue.{TokenValue}
+use Rattle.script_tokens.specs.Parsers.{Parser, ◌>>=◌, pure, is_next, ended}
 use Rattle.script_grammar.specs.Names.{fixed}
 use Rattle.script_grammar.specs.Operands.{Operand, Fixed}
 use Rattle.script_grammar.specs.Repeated.{repeated}
 use Rattle.script_steps.specs.Grammar.{step_operands, step}
-use Rattle.script_steps.specs.Spelling.{SaysWhole}
+use Rattle.script_steps.specs.TextForm.{EncodesWholeStep}
 
 -- ---- the operands on a line
 
@@ -22,33 +22,33 @@ abbrev pub braced : Step → List Operand
 braced s = in_braces (step_operands s)
 
 -- the first step in braces, and operands after it that encode the other steps
-pub record SaysBraced (s : Step) (os : List Operand) (Follow : List Operand → Type 0) : Type 0 where
+pub record EncodesBraced (s : Step) (os : List Operand) (Follow : List Operand → Type 0) : Type 0 where
   pub operands : List Operand
   pub more : List Operand
   pub parts : os ≡ in_braces operands ++ more
-  pub says : SaysWhole s operands
+  pub says : EncodesWholeStep s operands
   pub follow : Follow more
 
 -- steps, each in braces
-abbrev pub SaysSteps : List Step → List Operand → Type 0
-SaysSteps [] os = os ≡ []
-SaysSteps (s ∷ ss) os = SaysBraced s os (λ more. SaysSteps ss more)
+abbrev pub EncodesSteps : List Step → List Operand → Type 0
+EncodesSteps [] os = os ≡ []
+EncodesSteps (s ∷ ss) os = EncodesBraced s os (λ more. EncodesSteps ss more)
 
 -- `group`, and its steps
-pub record SaysGroup (steps : List Step) (os : List Operand) : Type 0 where
+pub record EncodesGroup (steps : List Step) (os : List Operand) : Type 0 where
   pub braces : List Operand
   pub parts : os ≡ Fixed (codes "group") ∷ braces
-  pub says : SaysSteps steps braces
+  pub says : EncodesSteps steps braces
 
 -- the operands that encode an edit
-abbrev pub SaysAll : Edit → List Operand → Type 0
-SaysAll (One s) os = SaysWhole s os
-SaysAll (Group ss) os = SaysGroup ss os
+abbrev pub HasOperands : Edit → List Operand → Type 0
+HasOperands (One s) os = EncodesWholeStep s os
+HasOperands (Group ss) os = EncodesGroup ss os
 
 -- ---- parsers
 
 -- `{ STEP }`
-unfoldable pub braced_step : Part Step
+unfoldable pub braced_step : Parser Step
 braced_step = do
   o ← fixed (codes "{")
   s ← step
@@ -56,7 +56,7 @@ braced_step = do
   pure s
 
 -- whether no token remains
-abbrev pub is_over : List Said → Bool
+abbrev pub is_over : List TokenValue → Bool
 is_over [] = true
 is_over (s ∷ line) = false
 
@@ -65,28 +65,28 @@ abbrev pub with_step : List Step → Step → List Step
 with_step ss s = ss ++ s ∷ []
 
 -- steps in braces up to the line's end, each appended
-unfoldable pub steps_left : List Step → Part (List Step)
-steps_left ss line = repeated is_over pure braced_step with_step ss line
+unfoldable pub remaining_steps : List Step → Parser (List Step)
+remaining_steps ss line = repeated is_over pure braced_step with_step ss line
 
 -- `group`, and its steps
-unfoldable pub group : Part Edit
+unfoldable pub group : Parser Edit
 group = do
   w ← fixed (codes "group")
-  ss ← steps_left []
+  ss ← remaining_steps []
   pure (Group ss)
 
 -- a step
-unfoldable pub one : Part Edit
+unfoldable pub one : Parser Edit
 one = do
   s ← step
   pure (One s)
 
 -- a step, or a group of steps
-unfoldable pub one_or_group : Part Edit
+unfoldable pub one_or_group : Parser Edit
 one_or_group line = if is_next (codes "group") line then group line else one line
 
 -- a step or a group, to the line's end
-unfoldable pub edit : Part Edit
+unfoldable pub edit : Parser Edit
 edit = do
   e ← one_or_group
   ended e

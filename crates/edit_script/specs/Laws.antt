@@ -3,7 +3,7 @@ use Rattle.std.specs.Prelude.{◌≡◌, ◌↔◌, ℕ, List, Ok}
 use Rattle.edit_forms.specs.declared.edit.Edit.{Edit}
 use Rattle.edit_script.specs.declared.parsing.Line.{Line}
 use Rattle.edit_script.specs.Script.{script_of}
-use Rattle.edit_script.specs.Spelling.{Spells}
+use Rattle.edit_script.specs.TextForm.{Spells}
 use Rattle.edit_script.specs.Printing.{texts_of, numbered, AllFit, LinesFit}
 
 -- A text encodes exactly the edits that are read from it.

@@ -1,5 +1,5 @@
 pub mod Grammar
 pub mod Script
 pub mod Printing
-pub mod Spelling
+pub mod TextForm
 pub mod Laws

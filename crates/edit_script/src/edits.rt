@@ -6,8 +6,8 @@ ghost use Rattle.base_outputs.specs.Output.{Puts};
 ghost use Rattle.edit_forms.specs.declared.step.Step.{Step};
 ghost use Rattle.script_tokens.specs.Printing.{spaced};
 ghost use Rattle.script_grammar.specs.Operands.{pieces_of};
-ghost use Rattle.script_grammar.specs.Memory.{ReadsOrWants};
-ghost use Rattle.edit_script.specs.Grammar.{braced, braced_step, steps_left, group, one, one_or_group, edit};
+ghost use Rattle.script_grammar.specs.Memory.{ReadsOrOutOfMemory};
+ghost use Rattle.edit_script.specs.Grammar.{braced, braced_step, remaining_steps, group, one, one_or_group, edit};
 ghost use Rattle.edit_script.specs.Printing.{text_of};
 ghost use Rattle.edit_forms.specs.declared.edit.Edit.TheVariants.{One, Group};
 
@@ -17,7 +17,7 @@ use edit_forms::{Edit, Step};
 use script_grammar::fixed;
 use script_steps::{put_operands, step, word_of};
 use script_tokens::{Cursor, LineFault, Piece, put_pieces};
-use sf_base::{Failure, Lent};
+use sf_base::{BorrowedBytes, Failure};
 use std::alloc::Global;
 use std::io::Write;
 
@@ -25,9 +25,9 @@ use std::io::Write;
 
 /// Reads an edit from the remaining tokens of a line, to its end. The error is the first fault from left to
 /// right, or `OutOfMemory`.
-#[tactic(auto, unfolding(crate::specs::Grammar::edit, script_tokens::specs::Parts::ended))]
+#[tactic(auto, unfolding(crate::specs::Grammar::edit, script_tokens::specs::Parsers::ended))]
 pub fn edit<'p>(alloc: Global, line: &mut Cursor<'_, 'p>) -> Result<Edit<'p>, Failure<LineFault>>
-    ensures reads { ReadsOrWants (λ e. e) edit line.old line.new result }
+    ensures reads { ReadsOrOutOfMemory (λ e. e) edit line.old line.new result }
     ensures done { OnOk result (line.new.said ≡ []) }
 {
     let edit = one_or_group(alloc, line)?;
@@ -40,7 +40,7 @@ fn one_or_group<'p>(
     alloc: Global,
     line: &mut Cursor<'_, 'p>,
 ) -> Result<Edit<'p>, Failure<LineFault>>
-    ensures { ReadsOrWants (λ e. e) one_or_group line.old line.new result }
+    ensures { ReadsOrOutOfMemory (λ e. e) one_or_group line.old line.new result }
 {
     if line.is_next(b"group") {
         group(alloc, line)
@@ -51,7 +51,7 @@ fn one_or_group<'p>(
 
 #[tactic(auto, unfolding(crate::specs::Grammar::one))]
 fn one<'p>(alloc: Global, line: &mut Cursor<'_, 'p>) -> Result<Edit<'p>, Failure<LineFault>>
-    ensures { ReadsOrWants (λ e. e) one line.old line.new result }
+    ensures { ReadsOrOutOfMemory (λ e. e) one line.old line.new result }
 {
     let step = step(alloc, line)?;
     Ok(Edit::One(step))
@@ -60,19 +60,19 @@ fn one<'p>(alloc: Global, line: &mut Cursor<'_, 'p>) -> Result<Edit<'p>, Failure
 // `group`, and its steps
 #[tactic(auto, unfolding(crate::specs::Grammar::group))]
 fn group<'p>(alloc: Global, line: &mut Cursor<'_, 'p>) -> Result<Edit<'p>, Failure<LineFault>>
-    ensures { ReadsOrWants (λ e. e) group line.old line.new result }
+    ensures { ReadsOrOutOfMemory (λ e. e) group line.old line.new result }
 {
     fixed(line, b"group")?;
-    let steps = steps_left(alloc, line)?;
+    let steps = remaining_steps(alloc, line)?;
     Ok(Edit::Group(steps))
 }
 
 // Reads the steps up to the line's end, each in braces.
-fn steps_left<'p>(
+fn remaining_steps<'p>(
     alloc: Global,
     line: &mut Cursor<'_, 'p>,
 ) -> Result<NumberedList<Step<'p>>, Failure<LineFault>>
-    ensures { ReadsOrWants (λ steps. steps) (steps_left []) line.old line.new result }
+    ensures { ReadsOrOutOfMemory (λ steps. steps) (remaining_steps []) line.old line.new result }
 {
     let mut steps = NumberedList::new(alloc);
     while !line.is_empty() {
@@ -87,7 +87,7 @@ fn steps_left<'p>(
 // `{ STEP }`
 #[tactic(auto, unfolding(crate::specs::Grammar::braced_step))]
 fn braced_step<'p>(alloc: Global, line: &mut Cursor<'_, 'p>) -> Result<Step<'p>, Failure<LineFault>>
-    ensures { ReadsOrWants (λ s. s) braced_step line.old line.new result }
+    ensures { ReadsOrOutOfMemory (λ s. s) braced_step line.old line.new result }
 {
     fixed(line, b"{")?;
     let step = step(alloc, line)?;
@@ -145,8 +145,8 @@ fn put_all_braced<W: Write>(steps: &[Step<'_>], output: &mut Output<'_, W>)
 fn put_braced<W: Write>(step: &Step<'_>, output: &mut Output<'_, W>)
     ensures { Puts W.contents output.old output.new (flat_map spaced (pieces_of (braced step.now))) }
 {
-    let word = Piece::Word(Lent::new(word_of(step)));
-    put_pieces(&[Piece::Word(Lent::new(b"{")), word], output);
+    let word = Piece::Word(BorrowedBytes::new(word_of(step)));
+    put_pieces(&[Piece::Word(BorrowedBytes::new(b"{")), word], output);
     put_operands(step, output);
-    put_pieces(&[Piece::Word(Lent::new(b"}"))], output);
+    put_pieces(&[Piece::Word(BorrowedBytes::new(b"}"))], output);
 }

@@ -2,7 +2,7 @@
 ghost use Rattle.std.specs.Prelude.{◌≡◌, Ok, IfOk};
 ghost use Rattle.script_tokens.specs.Tokens.{tokens_of};
 ghost use Rattle.script_tokens.specs.Lines.{lines_of};
-ghost use Rattle.script_tokens.specs.Said.{all_said_over, pool_after, lines_said_over};
+ghost use Rattle.script_tokens.specs.TokenValue.{values_over, pool_after, line_values_over};
 ghost use Rattle.edit_script.specs.Printing.{LinesFit};
 ghost use Rattle.script_tokens.specs.Pool.{Answers, pool_bytes};
 ghost use Rattle.edit_script.specs.Script.{edit_of, edits_in, script_of};
@@ -55,7 +55,7 @@ fn parse_lines<'a>(
     text: &[u8],
     pool: &'a [u8],
 ) -> Result<Vec<Line<'a>>, Failure<ScriptFault>>
-    ensures { Answers (λ lines. lines.items) result (edits_in (lines_said_over pool.now (lines_of text.now))) }
+    ensures { Answers (λ lines. lines.items) result (edits_in (line_values_over pool.now (lines_of text.now))) }
 {
     let mut edits = Vec::new(alloc);
     let mut number: u64 = 0;
@@ -75,8 +75,8 @@ fn add_edit<'a>(
     line: &[u8],
     pool: &'a [u8],
 ) -> Result<&'a [u8], Failure<ScriptFault>>
-    ensures added { Answers (λ _. edits.new.items) result (edit_of number (all_said_over pool.now (tokens_of line.now)) edits.old.items) }
-    ensures behind { IfOk result (λ rest. rest.now ≡ pool_after pool.now (tokens_of line.now)) }
+    ensures added { Answers (λ _. edits.new.items) result (edit_of number (values_over pool.now (tokens_of line.now)) edits.old.items) }
+    ensures following { IfOk result (λ rest. rest.now ≡ pool_after pool.now (tokens_of line.now)) }
 {
     let mut cursor = Cursor::of(line, pool);
     if cursor.is_empty() {

@@ -2,9 +2,9 @@ pub mod Starts
 pub mod Exchanges
 pub mod FourRuns
 pub mod TableLaws
-pub mod Spots
-pub mod Wholes
-pub mod Turns
+pub mod BagPositions
+pub mod WholeBags
+pub mod BagRotations
 pub mod Ends
 pub mod Converse
 pub mod RenumberLaws

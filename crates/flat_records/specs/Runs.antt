@@ -27,7 +27,7 @@ abbrev pub changed_exchanged : {X : Type 0} → ℕ → ℕ → ℕ → (X → X
 changed_exchanged a b c f g xs = take a xs ++ (map f (drop b (take c xs)) ++ (map g (drop a (take b xs)) ++ drop c xs))
 
 -- Two neighbouring ranges of a list of length n.
-pub record AreWindows (a b c n : ℕ) : Type 0 where
+pub record AreAdjacentRanges (a b c n : ℕ) : Type 0 where
   pub first : a ≤ b
   pub second : b ≤ c
   pub within : c ≤ n

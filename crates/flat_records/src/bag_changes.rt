@@ -7,13 +7,20 @@ ghost use Rattle.flat_records.specs.Bags.{Bag, no_bag, gens_in, mods_in, with_ge
 ghost use Rattle.flat_records.specs.Stored.{Uses, Frees, counts_of, no_records};
 
 use crate::bags::Bags;
+use crate::index_shift::{exchange_indexes, index, lower_from, raise_from};
 use crate::pieces::{cut_within, exchange_within, put_within};
-use crate::raising::{exchange_indexes, index, lower_from, raise_from};
 use modulators::Modulator;
 
 impl Bags {
     // Inserts generators and modulators into bag k, at an index each.
-    fn grow(&mut self, k: usize, j: usize, gens: &[(u16, u16)], i: usize, mods: &[Modulator])
+    fn insert_records(
+        &mut self,
+        k: usize,
+        j: usize,
+        gens: &[(u16, u16)],
+        i: usize,
+        mods: &[Modulator],
+    )
         requires place { IsSomeAnd (slice_get self.old.bags k) (λ (b : Bag). (j ≤ length b.gens) × (i ≤ length b.mods)) }
         requires gens { length gens.now ≤ self.old.spare.gens }
         requires mods { length mods.now ≤ self.old.spare.mods }
@@ -29,7 +36,7 @@ impl Bags {
     }
 
     // Removes n generators and m modulators of bag k, from an index each.
-    fn shrink(&mut self, k: usize, j: usize, n: usize, i: usize, m: usize)
+    fn remove_records(&mut self, k: usize, j: usize, n: usize, i: usize, m: usize)
         requires place { IsSomeAnd (slice_get self.old.bags k) (λ (b : Bag). (j + n ≤ length b.gens) × (i + m ≤ length b.mods)) }
         ensures bags { self.new.bags ≡ changed self.old.bags k (λ (b : Bag). record { gens = cut b.gens j n; mods = cut b.mods i m }) }
         ensures spare { Frees self.old.spare self.new.spare (record { bags = 0; gens = n; mods = m }) }
@@ -41,7 +48,7 @@ impl Bags {
     }
 
     // Inserts an empty bag as number k.
-    fn open_bag(&mut self, k: usize)
+    fn insert_empty_bag(&mut self, k: usize)
         requires place { k ≤ length self.old.bags }
         requires room { 0 < self.old.spare.bags }
         ensures bags { self.new.bags ≡ insert self.old.bags k no_bag }
@@ -52,7 +59,7 @@ impl Bags {
     }
 
     // Removes an empty bag.
-    fn close_bag(&mut self, k: usize)
+    fn remove_empty_bag(&mut self, k: usize)
         requires { slice_get self.old.bags k ≡ Some no_bag }
         ensures bags { self.new.bags ≡ remove self.old.bags k }
         ensures spare { Frees self.old.spare self.new.spare (record { bags = 1; gens = 0; mods = 0 }) }
@@ -71,8 +78,8 @@ impl Bags {
         ensures bags { self.new.bags ≡ insert self.old.bags k (record { gens = gens.now; mods = mods.now }) }
         ensures spare { Uses self.old.spare self.new.spare (record { bags = 1; gens = length gens.now; mods = length mods.now }) }
     {
-        self.open_bag(k);
-        self.grow(k, 0, gens, 0, mods);
+        self.insert_empty_bag(k);
+        self.insert_records(k, 0, gens, 0, mods);
     }
 
     /// Removes bag k. Allocates nothing.
@@ -81,19 +88,19 @@ impl Bags {
         ensures bags { self.new.bags ≡ remove self.old.bags k }
         ensures spare { IfSome (slice_get self.old.bags k) (λ (b : Bag). Frees self.old.spare self.new.spare (counts_of b)) }
     {
-        self.empty_bag(k);
-        self.close_bag(k);
+        self.clear_bag(k);
+        self.remove_empty_bag(k);
     }
 
     // Removes all generators and modulators of a bag.
-    fn empty_bag(&mut self, k: usize)
+    fn clear_bag(&mut self, k: usize)
         requires { k < length self.old.bags }
         ensures bags { self.new.bags ≡ slice_set self.old.bags k no_bag }
         ensures spare { IfSome (slice_get self.old.bags k) (λ (b : Bag). Frees self.old.spare self.new.spare (record { bags = 0; gens = length b.gens; mods = length b.mods })) }
     {
         let gens = self.gens(k).len();
         let mods = self.mods(k).len();
-        self.shrink(k, 0, gens, 0, mods);
+        self.remove_records(k, 0, gens, 0, mods);
     }
 
     /// Replaces the generators and modulators of bag k by these, of which there may be no more than it has. Allocates
@@ -105,14 +112,14 @@ impl Bags {
         ensures bags { self.new.bags ≡ slice_set self.old.bags k (record { gens = gens.now; mods = mods.now }) }
         ensures spare { Uses self.old.spare self.new.spare no_records }
     {
-        self.few_records();
-        self.empty_bag(k);
-        self.grow(k, 0, gens, 0, mods);
+        self.records_fit();
+        self.clear_bag(k);
+        self.insert_records(k, 0, gens, 0, mods);
     }
 
     // The law that the numbers of generators and modulators fit into 16 bits, since the terminal bag has them. It does
     // nothing.
-    fn few_records(&self)
+    fn records_fit(&self)
         ensures gens { length (gens_in self.now.bags) < 2 ^ 16 }
         ensures mods { length (mods_in self.now.bags) < 2 ^ 16 }
     {
@@ -127,7 +134,7 @@ impl Bags {
         ensures bags { self.new.bags ≡ changed self.old.bags k (λ (b : Bag). with_gens (put b.gens j gens.now) b) }
         ensures spare { Uses self.old.spare self.new.spare (record { bags = 0; gens = length gens.now; mods = 0 }) }
     {
-        self.grow(k, j, gens, 0, &[]);
+        self.insert_records(k, j, gens, 0, &[]);
     }
 
     /// Removes n generators of bag k from index j. Allocates nothing.
@@ -136,7 +143,7 @@ impl Bags {
         ensures bags { self.new.bags ≡ changed self.old.bags k (λ (b : Bag). with_gens (cut b.gens j n) b) }
         ensures spare { Frees self.old.spare self.new.spare (record { bags = 0; gens = n; mods = 0 }) }
     {
-        self.shrink(k, j, n, 0, 0);
+        self.remove_records(k, j, n, 0, 0);
     }
 
     /// Sets generator j of bag k to an operator and its amount. Allocates nothing.
@@ -157,7 +164,7 @@ impl Bags {
         ensures bags { self.new.bags ≡ changed self.old.bags k (λ (b : Bag). with_mods (put b.mods j mods.now) b) }
         ensures spare { Uses self.old.spare self.new.spare (record { bags = 0; gens = 0; mods = length mods.now }) }
     {
-        self.grow(k, 0, &[], j, mods);
+        self.insert_records(k, 0, &[], j, mods);
     }
 
     /// Removes n modulators of bag k from index j. Allocates nothing.
@@ -166,7 +173,7 @@ impl Bags {
         ensures bags { self.new.bags ≡ changed self.old.bags k (λ (b : Bag). with_mods (cut b.mods j n) b) }
         ensures spare { Frees self.old.spare self.new.spare (record { bags = 0; gens = 0; mods = n }) }
     {
-        self.shrink(k, 0, 0, j, n);
+        self.remove_records(k, 0, 0, j, n);
     }
 
     /// Replaces modulator j of bag k. Allocates nothing.

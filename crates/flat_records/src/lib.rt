@@ -3,8 +3,8 @@
 
 mod bag_changes;
 mod bags;
+mod index_shift;
 mod pieces;
-mod raising;
 mod reading;
 mod renumbering;
 

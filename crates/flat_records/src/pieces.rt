@@ -1,6 +1,6 @@
 //! Insertion and removal of several members of a list.
 ghost use Rattle.std.specs.Prelude.{◌≡◌, ◌+◌, ◌-◌, ◌≤◌, ◌<◌, length, insert, remove, take, drop, vec_len, vec_capacity};
-ghost use Rattle.flat_records.specs.Runs.{put, cut, exchanged, AreWindows};
+ghost use Rattle.flat_records.specs.Runs.{put, cut, exchanged, AreAdjacentRanges};
 
 // A single insertion is a plain shift of the later members, which is faster than a rotation.
 fn put_one_within<T>(list: &mut Vec<T>, i: usize, item: T)
@@ -59,7 +59,7 @@ pub(crate) fn cut_within<T: Copy>(list: &mut Vec<T>, i: usize, n: usize)
 
 /// Exchanges the members `a..b` with the members `b..c`.
 pub(crate) fn exchange<T: Copy>(list: &mut [T], a: usize, b: usize, c: usize)
-    requires { AreWindows a b c (length list.old) }
+    requires { AreAdjacentRanges a b c (length list.old) }
     ensures { list.new ≡ exchanged list.old a b c }
 {
     list[a..c].rotate_left(b - a);
@@ -67,7 +67,7 @@ pub(crate) fn exchange<T: Copy>(list: &mut [T], a: usize, b: usize, c: usize)
 
 /// Exchanges the members `a..b` with the members `b..c`.
 pub(crate) fn exchange_within<T: Copy>(list: &mut Vec<T>, a: usize, b: usize, c: usize)
-    requires { AreWindows a b c (length list.old.items) }
+    requires { AreAdjacentRanges a b c (length list.old.items) }
     ensures list { list.new.items ≡ exchanged list.old.items a b c }
     ensures len { vec_len list.new ≡ vec_len list.old }
     ensures capacity { vec_capacity list.new ≡ vec_capacity list.old }

@@ -14,7 +14,7 @@ use Rattle.std.specs.FinMap.Entries.{where_key, is_sorted-put, is_sorted-where_k
 use Rattle.std.proofs.lemmas.List.{get_or_default}
 use lib.Dec.{T}
 use Rattle.generators.specs.Gens.{operator_cmp, Gens, no_gens, FitsEntry, FitEntries, FitGens, AreGens}
-use Rattle.generators.specs.Places.{IsAt, IsGapFor}
+use Rattle.generators.specs.Indexes.{IsAt, IsInsertionIndex}
 use Rattle.generators.proofs.Order.{operator_cmp-IsTotalOrder, tied}
 use Rattle.generators.proofs.Entries.{Entries, find_at, put_at, remove_at, find_gap, put_gap}
 use Rattle.generators.proofs.MapLaws.{same_gens, get-remove_any, remove-absent}
@@ -154,9 +154,9 @@ module _ {es : Entries} {m : Gens} (h : AreGens es) (e : from_sorted es ≡ m) {
 
 -- ---- the operator would be inserted at index i
 module _ {es : Entries} {m : Gens} (h : AreGens es) (e : from_sorted es ≡ m) {op i : ℕ}
-    (gap : IsGapFor (entries m) op i) where
-  same_gap : IsGapFor es op i
-  same_gap = subst (λ xs. IsGapFor xs op i) (entries_held h e) gap
+    (gap : IsInsertionIndex (entries m) op i) where
+  same_gap : IsInsertionIndex es op i
+  same_gap = subst (λ xs. IsInsertionIndex xs op i) (entries_held h e) gap
 
   pub gap_within : i ≤ length es
   gap_within = same_gap.within

@@ -6,7 +6,7 @@ use Rattle.std.specs.declared.cmp.Ordering.TheVariants.{Less}
 use Rattle.std.specs.FinMap.Entries.{below_all}
 use Rattle.std.proofs.lemmas.Bool.Decides.{nat_tests}
 use Rattle.generators.specs.Gens.{rank, operator_cmp, AreInOrder}
-use Rattle.generators.specs.Places.{operator_at}
+use Rattle.generators.specs.Indexes.{operator_at}
 use Rattle.generators.proofs.Entries.{Entries, keys_rise}
 
 -- Each entry's rank is below the next one's.

@@ -9,7 +9,7 @@ use Rattle.std.proofs.lemmas.List.Sorted.{IsNonDecreasingBy-from_default}
 use Rattle.std.proofs.lemmas.Bool.{cases_lt}
 use Rattle.std.proofs.lemmas.Bool.Decides.{nat_tests}
 use Rattle.generators.specs.Gens.{rank, operator_cmp}
-use Rattle.generators.specs.Places.{IsAt, IsGapFor, operator_at}
+use Rattle.generators.specs.Indexes.{IsAt, IsInsertionIndex, operator_at}
 use Rattle.generators.proofs.Order.{operator_cmp-IsAntisymmetric}
 use Rattle.generators.proofs.Entries.{Entries, keys_rise}
 
@@ -35,7 +35,7 @@ module _ (es : Entries) (rises : IsTrue (is_sorted operator_cmp es)) (op : ℕ) 
 
   pub searched : (r : Result ℕ ℕ) → IsSearchInRange r (length es)
       → IsBinarySearchResult (λ entry. nat_cmp (rank entry.0) (rank op)) es r
-      → record { found : IfOk r (IsAt es op); absent : IfErr r (IsGapFor es op) }
+      → record { found : IfOk r (IsAt es op); absent : IfErr r (IsInsertionIndex es op) }
   searched (Ok at) within equal =
       record {
         found =

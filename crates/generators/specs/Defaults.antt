@@ -11,13 +11,13 @@ abbrev pub is_instant_by_default : ℕ → Bool
 is_instant_by_default op = is_within 33 36 op || op == 38
 
 -- The key, the velocity and the root key: -1 for those of the note or the sample.
-abbrev pub is_none_by_default : ℕ → Bool
-is_none_by_default op = is_one_of (46 ∷ 47 ∷ 58 ∷ []) op
+abbrev pub is_minus_one_by_default : ℕ → Bool
+is_minus_one_by_default op = is_one_of (46 ∷ 47 ∷ 58 ∷ []) op
 
 unfoldable pub default_of : ℕ → Option ℤ
 default_of op =
     if is_zero_by_default op then Some (pos 0)
     else if is_instant_by_default op then Some (negsuc 11999)
-    else if is_none_by_default op then Some (negsuc 0)
+    else if is_minus_one_by_default op then Some (negsuc 0)
     else if op == 56 then Some (pos 100)
     else None

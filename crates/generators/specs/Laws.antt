@@ -11,7 +11,7 @@ use Rattle.generators.specs.Levels.{is_allowed, target_operator}
 use Rattle.generators.specs.Ranges.{is_range_operator}
 use Rattle.generators.specs.Defaults.{default_of}
 use Rattle.generators.specs.Gens.{rank, operator_cmp, Gens, no_gens, set_in_order, last_of_each, FitGens}
-use Rattle.generators.specs.Places.{operator_at}
+use Rattle.generators.specs.Indexes.{operator_at}
 
 -- ---- the order
 

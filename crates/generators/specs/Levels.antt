@@ -22,10 +22,10 @@ is_common op =
     || is_one_of (43 ∷ 44 ∷ 48 ∷ 51 ∷ 52 ∷ 56 ∷ []) op
 
 -- Allowed only in instruments.
-abbrev pub is_special : ℕ → Bool
-is_special op = is_within 0 4 op || is_one_of (12 ∷ 45 ∷ 46 ∷ 47 ∷ 50 ∷ 54 ∷ 57 ∷ 58 ∷ []) op
+abbrev pub is_instrument_only : ℕ → Bool
+is_instrument_only op = is_within 0 4 op || is_one_of (12 ∷ 45 ∷ 46 ∷ 47 ∷ 50 ∷ 54 ∷ 57 ∷ 58 ∷ []) op
 
 -- The operators that a level's maps may have.
 unfoldable pub is_allowed : Level → ℕ → Bool
 is_allowed Preset op = is_common op
-is_allowed Inst op = is_common op || is_special op
+is_allowed Inst op = is_common op || is_instrument_only op

@@ -2,5 +2,5 @@ pub mod Levels
 pub mod Defaults
 pub mod Ranges
 pub mod Gens
-pub mod Places
+pub mod Indexes
 pub mod Laws

@@ -2,7 +2,7 @@
 ghost use Rattle.std.specs.Prelude.{◌≡◌, ◌↔◌, ◌≤◌, ◌<◌, ◌+◌, ℕ, length, IsTrue, IsSome, IsOk, IfOk, IfErr, OnOk, OnErr, slice_get};
 ghost use Rattle.std.specs.FinMap as map;
 ghost use Rattle.generators.specs.Gens.{rank, FitGens, AreInOrder, AreGens};
-ghost use Rattle.generators.specs.Places.{IsAt, IsGapFor, operator_at};
+ghost use Rattle.generators.specs.Indexes.{IsAt, IsInsertionIndex, operator_at};
 
 use crate::operators;
 use sf_base::OutOfMemory;
@@ -145,7 +145,7 @@ impl GenMap {
     // The index of the operator, or else the index at which it would be inserted.
     fn search(&self, operator: u16) -> Result<usize, usize>
         ensures found { IfOk result (λ at. IsAt (map.entries self.now) operator at) }
-        ensures absent { IfErr result (λ at. IsGapFor (map.entries self.now) operator at) }
+        ensures absent { IfErr result (λ at. IsInsertionIndex (map.entries self.now) operator at) }
     {
         search_entries(&self.entries, operator)
     }
@@ -156,7 +156,7 @@ impl GenMap {
 pub fn search_entries(entries: &[(u16, u16)], operator: u16) -> Result<usize, usize>
     requires { AreInOrder entries.now }
     ensures found { IfOk result (λ at. IsAt entries.now operator at) }
-    ensures absent { IfErr result (λ at. IsGapFor entries.now operator at) }
+    ensures absent { IfErr result (λ at. IsInsertionIndex entries.now operator at) }
 {
     entries.binary_search_by_key(&rank(operator), |&(other, _)| rank(other))
 }

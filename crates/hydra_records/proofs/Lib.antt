@@ -1,4 +1,4 @@
 pub mod Fields
-pub mod KindLaws
+pub mod RecordTypeLaws
 pub mod RecordLaws
 pub mod TableLaws

@@ -1,3 +1,3 @@
 pub mod Fits
 pub mod Records
-pub mod Spelling
+pub mod Encoding

@@ -1,11 +1,11 @@
 //! The header records of presets, instruments and samples.
 ghost use Rattle.std.specs.Prelude.{◌≡◌, ◌+◌, ◌≤◌, length, take};
 ghost use Rattle.sf_base.specs.Fields.{field_at};
-ghost use Rattle.hydra_records.specs.Spelling.{instrument_head_bytes, instrument_head_of, preset_head_bytes, preset_head_of, sample_head_bytes, sample_head_of};
+ghost use Rattle.hydra_records.specs.Encoding.{instrument_head_bytes, instrument_head_of, preset_head_bytes, preset_head_of, sample_head_bytes, sample_head_of};
 ghost use Rattle.std.proofs.Common.{lit<};
 
-use crate::spelling::Spelling;
-use crate::table::{Record, Spelled};
+use crate::encoding::Encoding;
+use crate::table::{Encoded, Record};
 use sf_base::{u16_at, u32_at};
 
 /// A preset: a record of `phdr` (SoundFont 2.04, section 7.2, `sfPresetHeader`).
@@ -86,7 +86,7 @@ impl Record for PresetHead {
 
     const SIZE: usize = 38;
 
-    #[tactic(auto, unfolding(crate::specs::Spelling::preset_head_of))]
+    #[tactic(auto, unfolding(crate::specs::Encoding::preset_head_of))]
     fn read(bytes: &[u8]) -> PresetHead {
         PresetHead {
             name: name_of(bytes),
@@ -100,12 +100,12 @@ impl Record for PresetHead {
     }
 }
 
-impl Spelled<38> for PresetHead {
+impl Encoded<38> for PresetHead {
     ghost bytes_of = { preset_head_bytes };
 
-    #[tactic(auto, unfolding(crate::specs::Spelling::preset_head_bytes))]
+    #[tactic(auto, unfolding(crate::specs::Encoding::preset_head_bytes))]
     fn put(&self) -> [u8; 38] {
-        Spelling::new()
+        Encoding::new()
             .with_bytes(&self.name)
             .with_u16(self.number)
             .with_u16(self.bank)
@@ -126,7 +126,7 @@ impl Record for InstrumentHead {
 
     const SIZE: usize = 22;
 
-    #[tactic(auto, unfolding(crate::specs::Spelling::instrument_head_of))]
+    #[tactic(auto, unfolding(crate::specs::Encoding::instrument_head_of))]
     fn read(bytes: &[u8]) -> InstrumentHead {
         InstrumentHead {
             name: name_of(bytes),
@@ -135,12 +135,12 @@ impl Record for InstrumentHead {
     }
 }
 
-impl Spelled<22> for InstrumentHead {
+impl Encoded<22> for InstrumentHead {
     ghost bytes_of = { instrument_head_bytes };
 
-    #[tactic(auto, unfolding(crate::specs::Spelling::instrument_head_bytes))]
+    #[tactic(auto, unfolding(crate::specs::Encoding::instrument_head_bytes))]
     fn put(&self) -> [u8; 22] {
-        Spelling::new()
+        Encoding::new()
             .with_bytes(&self.name)
             .with_u16(self.bag)
             .whole()
@@ -156,7 +156,7 @@ impl Record for SampleHead {
 
     const SIZE: usize = 46;
 
-    #[tactic(auto, unfolding(crate::specs::Spelling::sample_head_of))]
+    #[tactic(auto, unfolding(crate::specs::Encoding::sample_head_of))]
     fn read(bytes: &[u8]) -> SampleHead {
         SampleHead {
             name: name_of(bytes),
@@ -173,12 +173,12 @@ impl Record for SampleHead {
     }
 }
 
-impl Spelled<46> for SampleHead {
+impl Encoded<46> for SampleHead {
     ghost bytes_of = { sample_head_bytes };
 
-    #[tactic(auto, unfolding(crate::specs::Spelling::sample_head_bytes))]
+    #[tactic(auto, unfolding(crate::specs::Encoding::sample_head_bytes))]
     fn put(&self) -> [u8; 46] {
-        Spelling::new()
+        Encoding::new()
             .with_bytes(&self.name)
             .with_u32(self.start)
             .with_u32(self.end)

@@ -2,13 +2,13 @@
 //! bytes (SoundFont 2.04, section 7).
 #![tactic(auto)]
 
+mod encoding;
 mod head;
 mod laws;
-mod spelling;
 mod table;
 mod zone;
 
 pub use head::{InstrumentHead, PresetHead, SampleHead};
 pub use laws::records_law;
-pub use table::{Record, Records, Spelled, Table};
+pub use table::{Encoded, Record, Records, Table};
 pub use zone::{Bag, Generator};

@@ -27,7 +27,7 @@ pub trait Record: Sized {
 }
 
 /// A record that can be encoded in `N` bytes.
-pub trait Spelled<const N: usize> {
+pub trait Encoded<const N: usize> {
     /// The bytes of the record.
     ghost bytes_of: { Self → List ℕ };
 
@@ -130,15 +130,15 @@ impl<'a, R: Record> Model for Records<'a, R> {
 
     ghost Value = { List R };
 
-    ghost view = { λ left. records R.SIZE R.of_bytes left.rest.now };
+    ghost view = { λ unread. records R.SIZE R.of_bytes unread.rest.now };
 }
 
 impl<'a, R: Record> Iterator for Records<'a, R> {
     type Item = R;
 
-    ghost next_gives = { YieldsFirst (λ left. left) };
+    ghost next_gives = { YieldsFirst (λ unread. unread) };
 
-    ghost remaining = { item_count (λ left. left) };
+    ghost remaining = { item_count (λ unread. unread) };
 
     fn next(&mut self) -> Option<R> {
         let rest = self.rest;

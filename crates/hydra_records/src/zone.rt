@@ -1,10 +1,10 @@
 //! The records of zones: bags, generators and modulators.
 ghost use Rattle.std.specs.Prelude.{◌≡◌};
-ghost use Rattle.hydra_records.specs.Spelling.{bag_bytes, bag_of, generator_bytes, generator_of, modulator_bytes, modulator_of};
+ghost use Rattle.hydra_records.specs.Encoding.{bag_bytes, bag_of, generator_bytes, generator_of, modulator_bytes, modulator_of};
 ghost use Rattle.std.proofs.Common.{lit<};
 
-use crate::spelling::Spelling;
-use crate::table::{Record, Spelled};
+use crate::encoding::Encoding;
+use crate::table::{Encoded, Record};
 use modulators::Modulator;
 use sf_base::{i16_at, u16_at};
 
@@ -28,7 +28,7 @@ impl Record for Bag {
 
     const SIZE: usize = 4;
 
-    #[tactic(auto, unfolding(crate::specs::Spelling::bag_of))]
+    #[tactic(auto, unfolding(crate::specs::Encoding::bag_of))]
     fn read(bytes: &[u8]) -> Bag {
         Bag {
             gens: u16_at(bytes, 0),
@@ -37,12 +37,12 @@ impl Record for Bag {
     }
 }
 
-impl Spelled<4> for Bag {
+impl Encoded<4> for Bag {
     ghost bytes_of = { bag_bytes };
 
-    #[tactic(auto, unfolding(crate::specs::Spelling::bag_bytes))]
+    #[tactic(auto, unfolding(crate::specs::Encoding::bag_bytes))]
     fn put(&self) -> [u8; 4] {
-        Spelling::new()
+        Encoding::new()
             .with_u16(self.gens)
             .with_u16(self.mods)
             .whole()
@@ -70,7 +70,7 @@ impl Record for Generator {
 
     const SIZE: usize = 4;
 
-    #[tactic(auto, unfolding(crate::specs::Spelling::generator_of))]
+    #[tactic(auto, unfolding(crate::specs::Encoding::generator_of))]
     fn read(bytes: &[u8]) -> Generator {
         Generator {
             operator: u16_at(bytes, 0),
@@ -79,12 +79,12 @@ impl Record for Generator {
     }
 }
 
-impl Spelled<4> for Generator {
+impl Encoded<4> for Generator {
     ghost bytes_of = { generator_bytes };
 
-    #[tactic(auto, unfolding(crate::specs::Spelling::generator_bytes))]
+    #[tactic(auto, unfolding(crate::specs::Encoding::generator_bytes))]
     fn put(&self) -> [u8; 4] {
-        Spelling::new()
+        Encoding::new()
             .with_u16(self.operator)
             .with_u16(self.amount)
             .whole()
@@ -102,7 +102,7 @@ impl Record for Modulator {
 
     const SIZE: usize = 10;
 
-    #[tactic(auto, unfolding(crate::specs::Spelling::modulator_of))]
+    #[tactic(auto, unfolding(crate::specs::Encoding::modulator_of))]
     fn read(bytes: &[u8]) -> Modulator {
         Modulator {
             source: u16_at(bytes, 0),
@@ -114,12 +114,12 @@ impl Record for Modulator {
     }
 }
 
-impl Spelled<10> for Modulator {
+impl Encoded<10> for Modulator {
     ghost bytes_of = { modulator_bytes };
 
-    #[tactic(auto, unfolding(crate::specs::Spelling::modulator_bytes))]
+    #[tactic(auto, unfolding(crate::specs::Encoding::modulator_bytes))]
     fn put(&self) -> [u8; 10] {
-        Spelling::new()
+        Encoding::new()
             .with_u16(self.source)
             .with_u16(self.dest)
             .with_u16(self.amount.cast_unsigned())

@@ -9,9 +9,9 @@ use Rattle.bank_parts.specs.Sound.{IsSound}
 use Rattle.edit_forms.specs.declared.edit.Edit.{Edit}
 use Rattle.edit_refusals.specs.Edits.{raw}
 use Rattle.bank_edits.specs.EditChanges.{inverse}
-use Rattle.bank_edits.specs.Runs.{AllTaken, undo_list}
+use Rattle.bank_edits.specs.Runs.{AllAccepted, undo_list}
 use Rattle.bank_edits.proofs.Law.{undone}
-use Rattle.inverse_edits.specs.Histories.{IsHistory, AreLinked, Follow, IsForth, bank_now, edited, way_back}
+use Rattle.inverse_edits.specs.Histories.{IsHistory, AreLinked, Follow, MovesForward, bank_now, edited, undo_edits}
 use Rattle.inverse_edits.specs.Histories.{banks_before, banks_after, history_of}
 use Rattle.inverse_edits.proofs.ListLaws.{get_seam, take_past_seam, take_zip, map_zip_push, reverse_cons}
 
@@ -35,32 +35,32 @@ bank_total b undos next = grind (arith, common_steps, length_before b undos, len
 
 -- ---- the banks and edits are a history
 
-follow_after : (b : Parts) (next : List Edit) → AllTaken b next → Follow b (banks_after b next) next
+follow_after : (b : Parts) (next : List Edit) → AllAccepted b next → Follow b (banks_after b next) next
 follow_after b [] t = tt
 follow_after b (e ∷ next) t = (t.0, refl, follow_after (raw b e) next t.1)
 
 linked_before : (b : Parts) (undos : List Edit) (banks : List Parts) (edits : List Edit) → IsSound b
-    → AllTaken b undos → Follow b banks edits
+    → AllAccepted b undos → Follow b banks edits
     → AreLinked (banks_before b undos ++ b ∷ banks) (undo_list b undos ++ edits)
 linked_before b [] banks edits s t f = f
 linked_before b (e ∷ undos) banks edits s t f =
     let u = undone b e s t.0 in
     let c : Parts = raw b e in
-    let there = linked_before c undos (b ∷ banks) (inverse b e ∷ edits) u.sound t.1 (u.taken, sym u.restored, f) in
+    let there = linked_before c undos (b ∷ banks) (inverse b e ∷ edits) u.sound t.1 (u.is_accepted, sym u.restored, f) in
     subst (λ (l : List Parts). AreLinked l ((undo_list c undos ++ inverse b e ∷ []) ++ edits))
     (sym (append_assoc (banks_before c undos) (c ∷ []) (b ∷ banks)))
     (subst (λ (l : List Edit). AreLinked (banks_before c undos ++ c ∷ b ∷ banks) l)
     (sym (append_assoc (undo_list c undos) (inverse b e ∷ []) edits)) there)
 
-pub is_history : (b : Parts) (undos next : List Edit) → IsSound b → AllTaken b undos → AllTaken b next
+pub is_history : (b : Parts) (undos next : List Edit) → IsSound b → AllAccepted b undos → AllAccepted b next
     → IsHistory (history_of b undos next)
 is_history b undos next s t n = record {
   linked = linked_before b undos (banks_after b next) next s t (follow_after b next n);
   within = omega (arith, bank_total b undos next);
 }
 
-pub stands : (b : Parts) (undos next : List Edit) → bank_now (history_of b undos next) ≡ Some b
-stands b undos next = rw (← length_before b undos) (get_seam (banks_before b undos) (banks_after b next) b)
+pub bank_now_is : (b : Parts) (undos next : List Edit) → bank_now (history_of b undos next) ≡ Some b
+bank_now_is b undos next = rw (← length_before b undos) (get_seam (banks_before b undos) (banks_after b next) b)
 
 -- ---- undo, redo and edit in a history
 
@@ -79,16 +79,16 @@ module _ (b c : Parts) (e i : Edit) (undos next : List Edit) (back : raw c i ≡
       (ap (λ (x : Parts). undo_list x undos ++ inverse c i ∷ more) back
       ∙ ap (λ (x : Edit). undo_list b undos ++ x ∷ more) redone)
 
-  pub forth : raw b e ≡ c → IsForth (history_of b undos (e ∷ next)) (history_of c (i ∷ undos) next)
+  pub forth : raw b e ≡ c → MovesForward (history_of b undos (e ∷ next)) (history_of c (i ∷ undos) next)
   forth there =
       let banks : (banks_before (raw c i) undos ++ raw c i ∷ []) ++ c ∷ banks_after c next
       ≡ banks_before b undos ++ b ∷ raw b e ∷ banks_after (raw b e) next
       = banks_grow (c ∷ banks_after c next)
       ∙ ap (λ (x : Parts). banks_before b undos ++ b ∷ x ∷ banks_after x next) (sym there) in
-      let place : length (i ∷ undos) ≡ length undos + 1 = omega arith in
+      let index : length (i ∷ undos) ≡ length undos + 1 = omega arith in
       record {
         next = omega (arith, bank_total b undos (e ∷ next));
-        moved = λ k. record { banks = banks k; edits = edits_grow next k; place = place k };
+        moved = λ k. record { banks = banks k; edits = edits_grow next k; index = index k };
       }
 
   pub edit_done : (was : List Edit) → history_of c (i ∷ undos) [] ≡ edited (history_of b undos was) e c
@@ -108,12 +108,12 @@ module _ (b c : Parts) (e i : Edit) (undos next : List Edit) (back : raw c i ≡
       let edits : (undo_list (raw c i) undos ++ inverse c i ∷ []) ++ []
       ≡ take (length undos) (undo_list b undos ++ was) ++ e ∷ []
       = edits_grow [] ∙ ap (λ (l : List Edit). l ++ e ∷ []) (sym kept_edits) in
-      let place : length (i ∷ undos) ≡ length undos + 1 = omega arith in
-      λ k. record { banks = banks k; edits = edits k; place = place k }
+      let index : length (i ∷ undos) ≡ length undos + 1 = omega arith in
+      λ k. record { banks = banks k; edits = edits k; index = index k }
 
 -- ---- the undo list
 
-inverses : (b : Parts) (undos : List Edit) → IsSound b → AllTaken b undos
+inverses : (b : Parts) (undos : List Edit) → IsSound b → AllAccepted b undos
     → map (λ (step : Parts × Edit). inverse step.0 step.1) (zip (banks_before b undos) (undo_list b undos))
     ≡ reverse undos
 inverses b [] s t = refl
@@ -126,8 +126,8 @@ inverses b (e ∷ undos) s t =
     ∙ (ap (λ (l : List Edit). l ++ inverse c (inverse b e) ∷ []) (inverses c undos u.sound t.1)
     ∙ (ap (λ (x : Edit). reverse undos ++ x ∷ []) u.redone ∙ sym (reverse_cons undos e)))
 
-pub way_back_is : (b : Parts) (undos next : List Edit) → IsSound b → AllTaken b undos
-    → way_back (history_of b undos next) ≡ reverse undos
+pub way_back_is : (b : Parts) (undos next : List Edit) → IsSound b → AllAccepted b undos
+    → undo_edits (history_of b undos next) ≡ reverse undos
 way_back_is b undos next s t =
     let f = λ (step : Parts × Edit). inverse step.0 step.1 in
     let cut : take (length undos) (zip (banks_before b undos ++ b ∷ banks_after b next) (undo_list b undos ++ next))

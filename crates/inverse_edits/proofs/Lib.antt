@@ -1,3 +1,3 @@
 pub mod ListLaws
 pub mod HistoryLaws
-pub mod StepLaws
+pub mod UndoRedoLaws

@@ -3,4 +3,4 @@ pub use Rattle.edit_refusals.specs.Edits
 pub use Rattle.bank_edits.specs.Undone
 pub use Rattle.bank_edits.specs.Runs
 pub mod Histories
-pub mod Steps
+pub mod UndoRedo

@@ -2,7 +2,7 @@
 #![tactic(auto)]
 
 mod session;
-mod step;
+mod undo_redo;
 
 pub use bank_edits::{undo_restores, undo_restores_all};
 pub use session::Session;

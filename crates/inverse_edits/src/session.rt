@@ -1,8 +1,8 @@
 //! A bank with its undo and redo lists.
 ghost use Rattle.std.specs.Prelude.{◌≡◌, Some, IfErr, OnOk, OnErr};
-ghost use Rattle.inverse_edits.specs.Histories.{IsHistory, bank_now, begun, IsEdited, IsRefusalNow, IsForth, IsUndoFailure, IsRedoFailure, way_back};
+ghost use Rattle.inverse_edits.specs.Histories.{IsHistory, bank_now, new_history, IsEdited, IsRefusalNow, MovesForward, IsUndoFailure, IsRedoFailure, undo_edits};
 
-use crate::step::{do_edit, do_last};
+use crate::undo_redo::{apply_edit, apply_last};
 use bank_core::Bank;
 use edit_forms::Edit;
 use edit_refusals::Refusal;
@@ -33,7 +33,7 @@ impl Drop for Session<'_> {
 impl<'a> Model for Session<'a> {
     ghost use Rattle.std.specs.Prelude.{reverse};
     ghost use Rattle.bank_parts.specs.Sound.{IsSound};
-    ghost use Rattle.bank_edits.specs.Runs.{AllTaken};
+    ghost use Rattle.bank_edits.specs.Runs.{AllAccepted};
     ghost use Rattle.inverse_edits.specs.Histories.{History, history_of};
     ghost use Rattle.generators.specs.contracts.gen_map.GenMap as gens;
     ghost use Rattle.std.specs.Coded.{codes};
@@ -44,13 +44,13 @@ impl<'a> Model for Session<'a> {
 
     ghost view = { λ s. history_of s.bank (reverse s.undo.items) (reverse s.redo.items) };
 
-    ghost invariant = { λ s. IsSound s.bank × AllTaken s.bank (reverse s.undo.items) × AllTaken s.bank (reverse s.redo.items) };
+    ghost invariant = { λ s. IsSound s.bank × AllAccepted s.bank (reverse s.undo.items) × AllAccepted s.bank (reverse s.redo.items) };
 }
 
 impl<'a> Session<'a> {
     /// Starts a session with this bank. It allocates nothing.
     pub fn new(alloc: Global, bank: Bank<'a>) -> Session<'a>
-        ensures { result ≡ begun bank.entry }
+        ensures { result ≡ new_history bank.entry }
     {
         bank.soundness();
         Session {
@@ -76,9 +76,9 @@ impl<'a> Session<'a> {
         ensures done { OnOk result (IsEdited self.old self.new edit.entry) }
         ensures unchanged { OnErr result (self.new ≡ self.old) }
         ensures refused { IfErr result (λ refused. IsRefusalNow self.old edit.entry refused.0) }
-        ensures handed_back { IfErr result (λ refused. refused.1 ≡ edit.entry) }
+        ensures edit_returned { IfErr result (λ refused. refused.1 ≡ edit.entry) }
     {
-        match do_edit(alloc, &mut self.bank, &mut self.undo, edit) {
+        match apply_edit(alloc, &mut self.bank, &mut self.undo, edit) {
             Ok(()) => {
                 self.redo = Vec::new(alloc);
                 Ok(())
@@ -90,11 +90,11 @@ impl<'a> Session<'a> {
     /// Undoes the last edit. Returns `NothingToUndo` at the first bank, and otherwise fails only with `OutOfMemory`;
     /// nothing changes then.
     pub fn undo(&mut self, alloc: Global) -> Result<(), Refusal>
-        ensures done { OnOk result (IsForth self.new self.old) }
+        ensures done { OnOk result (MovesForward self.new self.old) }
         ensures unchanged { OnErr result (self.new ≡ self.old) }
         ensures failure { IfErr result (IsUndoFailure self.old) }
     {
-        do_last(
+        apply_last(
             alloc,
             &mut self.bank,
             &mut self.undo,
@@ -106,11 +106,11 @@ impl<'a> Session<'a> {
     /// Redoes the next edit. Returns `NothingToRedo` at the last bank, and otherwise fails only with `OutOfMemory`;
     /// nothing changes then.
     pub fn redo(&mut self, alloc: Global) -> Result<(), Refusal>
-        ensures done { OnOk result (IsForth self.old self.new) }
+        ensures done { OnOk result (MovesForward self.old self.new) }
         ensures unchanged { OnErr result (self.new ≡ self.old) }
         ensures failure { IfErr result (IsRedoFailure self.old) }
     {
-        do_last(
+        apply_last(
             alloc,
             &mut self.bank,
             &mut self.redo,
@@ -122,7 +122,7 @@ impl<'a> Session<'a> {
     /// Returns the inverses of all edits up to the current bank, the oldest edit's first. Applied from the last to
     /// the first, they restore the first bank.
     pub fn undo_list(&self) -> &[Edit<'a>]
-        ensures { result.now ≡ way_back self.now }
+        ensures { result.now ≡ undo_edits self.now }
     {
         self.undo.as_slice()
     }

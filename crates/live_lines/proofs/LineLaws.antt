@@ -4,13 +4,13 @@ use Rattle.std.specs.List.{list_all, list_any}
 use Rattle.std.specs.Result.{is_err}
 use Rattle.std.proofs.lemmas.Bool.{and_parts}
 use Rattle.std.proofs.lemmas.List.{append-nil}
-use Rattle.script_tokens.specs.declared.cursor.Said.{Said}
-use Rattle.script_tokens.specs.declared.cursor.Said.TheVariants.{Word, Literal, Bad}
+use Rattle.script_tokens.specs.declared.cursor.TokenValue.{TokenValue}
+use Rattle.script_tokens.specs.declared.cursor.TokenValue.TheVariants.{Word, Literal, Malformed}
 use Rattle.script_tokens.specs.declared.fault.ScriptFault.{ScriptFault}
 use Rattle.script_tokens.specs.Lines.{lines_of, is_feed}
 use Rattle.script_tokens.specs.Tokens.{tokens_of, tokens_for}
-use Rattle.script_tokens.specs.Said.{said, said_in, all_said_over}
-use Rattle.script_tokens.specs.Pool.{Grown, and_then, gather, literal_of, literals_of, pool_bytes}
+use Rattle.script_tokens.specs.TokenValue.{said, values_in, values_over}
+use Rattle.script_tokens.specs.Pool.{ListOrFault, and_then, gather, literal_of, literals_of, pool_bytes}
 use Rattle.script_tokens.proofs.PoolLaws.{serves}
 use Rattle.live_lines.specs.Requests.{HasNoFeed, is_bad}
 
@@ -32,15 +32,15 @@ one_line b l true e h = absurd (never (is_feed b) (first_fits b l h) e)
 one_line b [] false e h = rw e refl
 one_line b (c ∷ l) false e h = rw (e, one_line c l (is_feed c) refl (others_fit b (c ∷ l) h)) refl
 
-whole : (r : Grown ℕ) → and_then r (λ ys. Ok ys) ≡ r
+whole : (r : ListOrFault ℕ) → and_then r (λ ys. Ok ys) ≡ r
 whole (Ok ys) = refl
 whole (Err f) = refl
 
-no_tokens : said_in [] ≡ []
+no_tokens : values_in [] ≡ []
 unfolding tokens_of tokens_for
 no_tokens = refl
 
-none_gathered : gather literals_of 1 (map said_in (lines_of [])) [] ≡ Ok []
+none_gathered : gather literals_of 1 (map values_in (lines_of [])) [] ≡ Ok []
 unfolding gather lines_of
 none_gathered = refl
 
@@ -48,37 +48,37 @@ none_taken : literals_of 1 [] [] ≡ Ok []
 unfolding literals_of
 none_taken = refl
 
-one_gathered : (said : List Said) → gather literals_of 1 (said ∷ []) [] ≡ literals_of 1 said []
+one_gathered : (said : List TokenValue) → gather literals_of 1 (said ∷ []) [] ≡ literals_of 1 said []
 unfolding gather
 one_gathered said = whole (literals_of 1 said [])
 
-pub pool_of_one : (l : List ℕ) → HasNoFeed l → pool_bytes l ≡ literals_of 1 (said_in l) []
+pub pool_of_one : (l : List ℕ) → HasNoFeed l → pool_bytes l ≡ literals_of 1 (values_in l) []
 unfolding pool_bytes
-pool_of_one [] h = none_gathered ∙ sym none_taken ∙ ap (λ (s : List Said). literals_of 1 s []) (sym no_tokens)
+pool_of_one [] h = none_gathered ∙ sym none_taken ∙ ap (λ (s : List TokenValue). literals_of 1 s []) (sym no_tokens)
 pool_of_one (b ∷ l) h =
-    ap (λ (ls : List (List ℕ)). gather literals_of 1 (map said_in ls) []) (one_line b l (is_feed b) refl h)
-    ∙ one_gathered (said_in (b ∷ l))
+    ap (λ (ls : List (List ℕ)). gather literals_of 1 (map values_in ls) []) (one_line b l (is_feed b) refl h)
+    ∙ one_gathered (values_in (b ∷ l))
 
 -- ---- its pool
 
-pub says_same : (l pool : List ℕ) → HasNoFeed l → pool_bytes l ≡ Ok pool → all_said_over pool (tokens_of l) ≡ said_in l
+pub says_same : (l pool : List ℕ) → HasNoFeed l → pool_bytes l ≡ Ok pool → values_over pool (tokens_of l) ≡ values_in l
 says_same l pool h e =
     let s = serves 1 (tokens_of l) [] pool (sym (pool_of_one l h) ∙ e) in
-    ap (λ (p : List ℕ). all_said_over p (tokens_of l)) (s.parts ∙ sym (append-nil s.bytes)) ∙ s.same []
+    ap (λ (p : List ℕ). values_over p (tokens_of l)) (s.parts ∙ sym (append-nil s.bytes)) ∙ s.same []
 
 -- ---- malformed literals
 
-spelled : (n : ℕ) (said : List Said) (pool : List ℕ) (r : Grown ℕ) → literals_of n said pool ≡ r
+spelled : (n : ℕ) (said : List TokenValue) (pool : List ℕ) (r : ListOrFault ℕ) → literals_of n said pool ≡ r
     → list_any is_bad said ≡ is_err r
 unfolding literals_of literal_of
 spelled n [] pool r e = ap is_err e
 spelled n (Word w ∷ said) pool r e = spelled n said pool r e
 spelled n (Literal bytes ∷ said) pool r e = spelled n said (pool ++ bytes) r e
-spelled n (Bad ∷ said) pool r e = ap is_err e
+spelled n (Malformed ∷ said) pool r e = ap is_err e
 
-pub well_spelled : (l pool : List ℕ) → HasNoFeed l → pool_bytes l ≡ Ok pool → list_any is_bad (said_in l) ≡ false
-well_spelled l pool h e = spelled 1 (said_in l) [] (Ok pool) (sym (pool_of_one l h) ∙ e)
+pub well_spelled : (l pool : List ℕ) → HasNoFeed l → pool_bytes l ≡ Ok pool → list_any is_bad (values_in l) ≡ false
+well_spelled l pool h e = spelled 1 (values_in l) [] (Ok pool) (sym (pool_of_one l h) ∙ e)
 
 pub badly_spelled : (l : List ℕ) (f : ScriptFault) → HasNoFeed l → pool_bytes l ≡ Err f
-    → list_any is_bad (said_in l) ≡ true
-badly_spelled l f h e = spelled 1 (said_in l) [] (Err f) (sym (pool_of_one l h) ∙ e)
+    → list_any is_bad (values_in l) ≡ true
+badly_spelled l f h e = spelled 1 (values_in l) [] (Err f) (sym (pool_of_one l h) ∙ e)

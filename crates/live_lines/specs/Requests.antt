@@ -4,11 +4,11 @@ use Rattle.std.specs.Prelude.{IsTrue, if◌then◌else◌}
 use Rattle.std.specs.List.{list_all, list_any}
 use Rattle.sf_base.specs.declared.memory.Failure.{Failure}
 use Rattle.sf_base.specs.declared.memory.Failure.TheVariants as failures
-use Rattle.script_tokens.specs.declared.cursor.Said.{Said}
-use Rattle.script_tokens.specs.declared.cursor.Said.TheVariants.{Word, Literal, Bad}
+use Rattle.script_tokens.specs.declared.cursor.TokenValue.{TokenValue}
+use Rattle.script_tokens.specs.declared.cursor.TokenValue.TheVariants.{Word, Literal, Malformed}
 use Rattle.script_tokens.specs.declared.fault.LineFault.{LineFault}
 use Rattle.script_tokens.specs.Lines.{is_feed}
-use Rattle.script_tokens.specs.Parts.{Took, Part, ◌>>=◌, pure, most_word, most_double_word, number, ended}
+use Rattle.script_tokens.specs.Parsers.{Parsed, Parser, ◌>>=◌, pure, most_word, most_double_word, number, ended}
 use Rattle.script_grammar.specs.Names.{next_named}
 use Rattle.edit_script.specs.Grammar.{edit}
 use Rattle.script_notes.specs.declared.limits.TheConstants.{HIGHEST_KEY, HIGHEST_VELOCITY}
@@ -45,8 +45,8 @@ commands =
 -- ---- what follows the word
 
 -- the request or the fault of a line
-abbrev pub Asked : Type 0
-Asked = Result Request RequestFault
+abbrev pub RequestResult : Type 0
+RequestResult = Result Request RequestFault
 
 -- a request or a fault, and not out of memory
 abbrev pub IsNotOutOfMemory : Result Request (Failure RequestFault) → Type 0
@@ -55,12 +55,12 @@ IsNotOutOfMemory (Err (failures.Fault fault)) = Unit {0}
 IsNotOutOfMemory (Err failures.OutOfMemory) = ⊥
 
 -- a request made of the value of a part, or the part's fault
-abbrev pub told : {X : Type 0} → (X → Request) → Result (Took X) LineFault → Asked
-told f (Ok t) = Ok (f t.value)
-told f (Err e) = Err (of_line e)
+abbrev pub made_request : {X : Type 0} → (X → Request) → Result (Parsed X) LineFault → RequestResult
+made_request f (Ok t) = Ok (f t.value)
+made_request f (Err e) = Err (of_line e)
 
 -- the numbers of a note that starts now, to the line's end: a note, or `None` if it is too long
-unfoldable pub note_now : Part (Option Numbers)
+unfoldable pub note_now : Parser (Option Numbers)
 note_now = do
   l ← number most_double_word
   b ← number most_word
@@ -71,63 +71,63 @@ note_now = do
   pure (note_of (record { start = 0; length = l; bank = b; number = n; key = k; velocity = v }))
 
 -- the note, unless it is too long
-abbrev pub in_time : Option Numbers → Asked
+abbrev pub in_time : Option Numbers → RequestResult
 in_time (Some note) = Ok (asks.Note note)
 in_time None = Err faults.TooLong
 
 -- the note, or `BadNote` for any fault of its numbers
-abbrev pub noted : Result (Took (Option Numbers)) LineFault → Asked
+abbrev pub noted : Result (Parsed (Option Numbers)) LineFault → RequestResult
 noted (Ok t) = in_time t.value
 noted (Err e) = Err faults.BadNote
 
 -- a number of frames, to the line's end
-unfoldable pub frames : Part ℕ
+unfoldable pub frames : Parser ℕ
 frames = do
   n ← number MOST_FRAMES
   ended n
 
 -- the request of a command, by the rest of its line
-abbrev pub asked_by : Command → List Said → Asked
-asked_by command.Neutral line = told asks.Neutral (edit line)
-asked_by command.Undo line = told (λ r. r) (ended asks.Undo line)
-asked_by command.Redo line = told (λ r. r) (ended asks.Redo line)
-asked_by command.Note line = noted (note_now line)
-asked_by command.Frames line = told asks.Frames (frames line)
-asked_by command.Save line = told asks.Save (paths line)
-asked_by command.Show line = told (λ r. r) (ended asks.Show line)
-asked_by command.Help line = told (λ r. r) (ended asks.Help line)
-asked_by command.Quit line = told (λ r. r) (ended asks.Quit line)
+abbrev pub request_by : Command → List TokenValue → RequestResult
+request_by command.Neutral line = made_request asks.Neutral (edit line)
+request_by command.Undo line = made_request (λ r. r) (ended asks.Undo line)
+request_by command.Redo line = made_request (λ r. r) (ended asks.Redo line)
+request_by command.Note line = noted (note_now line)
+request_by command.Frames line = made_request asks.Frames (frames line)
+request_by command.Save line = made_request asks.Save (paths line)
+request_by command.Show line = made_request (λ r. r) (ended asks.Show line)
+request_by command.Help line = made_request (λ r. r) (ended asks.Help line)
+request_by command.Quit line = made_request (λ r. r) (ended asks.Quit line)
 
 -- ---- a whole line
 
 -- the request of a command, if the line begins with one; else an edit
-abbrev pub by_command : List Said → Result (Took Command) LineFault → Asked
-by_command line (Ok t) = asked_by t.value t.rest
-by_command line (Err e) = told asks.Edit (edit line)
+abbrev pub by_command : List TokenValue → Result (Parsed Command) LineFault → RequestResult
+by_command line (Ok t) = request_by t.value t.rest
+by_command line (Err e) = made_request asks.Edit (edit line)
 
-unfoldable pub request : List Said → Asked
+unfoldable pub request : List TokenValue → RequestResult
 request line = by_command line (next_named command_word commands line)
 
 -- a request, if there is one
-abbrev pub some_request : Asked → Result (Option Request) RequestFault
+abbrev pub some_request : RequestResult → Result (Option Request) RequestFault
 some_request (Ok r) = Ok (Some r)
 some_request (Err e) = Err e
 
 -- a line without tokens has no request
-abbrev pub if_any : List Said → Result (Option Request) RequestFault
+abbrev pub if_any : List TokenValue → Result (Option Request) RequestFault
 if_any [] = Ok None
 if_any (s ∷ line) = some_request (request (s ∷ line))
 
 -- a malformed literal
-abbrev pub is_bad : Said → Bool
+abbrev pub is_bad : TokenValue → Bool
 is_bad (Word w) = false
 is_bad (Literal bytes) = false
-is_bad Bad = true
+is_bad Malformed = true
 
 -- a line without line feed
 abbrev pub HasNoFeed : List ℕ → Type 0
 HasNoFeed line = IsTrue (list_all (λ b. not (is_feed b)) line)
 
 -- The request of a line, or its fault: a malformed literal anywhere in it, else the first fault from left to right.
-unfoldable pub request_of : List Said → Result (Option Request) RequestFault
+unfoldable pub request_of : List TokenValue → Result (Option Request) RequestFault
 request_of said = if list_any is_bad said then Err faults.Literal else if_any said

@@ -11,7 +11,7 @@ use bank_validity::Limit;
 use base_outputs::{Output, OutputFault};
 use edit_refusals::{Cause, Refusal};
 use script_tokens::{Piece, put_line, put_pieces};
-use sf_base::Lent;
+use sf_base::BorrowedBytes;
 use std::io::Write;
 
 /// The answer to a line of a live session.
@@ -168,5 +168,5 @@ fn put_rejected<W: Write>(path: &str, fault: OutputFault, output: &mut Output<'_
 fn word(text: &str) -> Piece<'_>
     ensures { result ≡ Piece.Word text.now }
 {
-    Piece::Word(Lent::new(text.as_bytes()))
+    Piece::Word(BorrowedBytes::new(text.as_bytes()))
 }

@@ -56,7 +56,7 @@ impl RequestFault {
 }
 
 impl From<LineFault> for RequestFault {
-    ghost from_gives = { λ fault told. told ≡ of_line fault };
+    ghost from_gives = { λ fault made_request. made_request ≡ of_line fault };
 
     fn from(fault: LineFault) -> RequestFault {
         match fault {

@@ -2,8 +2,8 @@
 ghost use Rattle.std.specs.Prelude.{◌≡◌, [], drop, nat_le, MatchResult, IsOk, if◌then◌else◌};
 ghost use Rattle.std.specs.List.{list_all};
 ghost use Rattle.script_tokens.specs.Tokens.{tokens_of};
-ghost use Rattle.script_tokens.specs.Said.{all_said_over};
-ghost use Rattle.script_tokens.specs.Parts.{Reads, word};
+ghost use Rattle.script_tokens.specs.TokenValue.{values_over};
+ghost use Rattle.script_tokens.specs.Parsers.{Reads, word};
 ghost use Rattle.live_lines.specs.Paths.{path_of, path, paths};
 
 use script_tokens::{Cursor, LineFault};
@@ -69,10 +69,10 @@ fn has_no_controls(bytes: &[u8]) -> bool
 }
 
 // The paths after the first word of a line, to its end.
-#[tactic(auto, unfolding(crate::specs::Paths::paths, script_tokens::specs::Parts::ended))]
+#[tactic(auto, unfolding(crate::specs::Paths::paths, script_tokens::specs::Parsers::ended))]
 pub(crate) fn both_paths<'t, 'p: 't>(line: &'t [u8], pool: &'p [u8]) -> Result<Paths<'t>, LineFault>
-    requires { IsOk (word (all_said_over pool.now (tokens_of line.now))) }
-    ensures { MatchResult result (λ p. paths (drop 1 (all_said_over pool.now (tokens_of line.now))) ≡ Ok (record { value = p; rest = [] })) (λ e. paths (drop 1 (all_said_over pool.now (tokens_of line.now))) ≡ Err e) }
+    requires { IsOk (word (values_over pool.now (tokens_of line.now))) }
+    ensures { MatchResult result (λ p. paths (drop 1 (values_over pool.now (tokens_of line.now))) ≡ Ok (record { value = p; rest = [] })) (λ e. paths (drop 1 (values_over pool.now (tokens_of line.now))) ≡ Err e) }
 {
     let (out, mut rest) = first_path(line, pool)?;
     let (_, twin) = first_path(line, pool)?;
@@ -86,20 +86,20 @@ fn first_path<'t, 'p: 't>(
     line: &'t [u8],
     pool: &'p [u8],
 ) -> Result<(FilePath<'t>, Cursor<'t, 'p>), LineFault>
-    requires { IsOk (word (all_said_over pool.now (tokens_of line.now))) }
-    ensures { MatchResult result (λ r. path (drop 1 (all_said_over pool.now (tokens_of line.now))) ≡ Ok (record { value = r.0; rest = r.1.said })) (λ e. path (drop 1 (all_said_over pool.now (tokens_of line.now))) ≡ Err e) }
+    requires { IsOk (word (values_over pool.now (tokens_of line.now))) }
+    ensures { MatchResult result (λ r. path (drop 1 (values_over pool.now (tokens_of line.now))) ≡ Ok (record { value = r.0; rest = r.1.said })) (λ e. path (drop 1 (values_over pool.now (tokens_of line.now))) ≡ Err e) }
 {
-    let mut rest = behind_word(line, pool);
-    let twin = behind_word(line, pool);
+    let mut rest = after_first_word(line, pool);
+    let twin = after_first_word(line, pool);
     let out = path(&mut rest, twin)?;
     Ok((out, rest))
 }
 
 // The rest of a line after its first word.
 #[tactic(auto, using(crate::proofs::RequestLaws::word_taken))]
-fn behind_word<'t, 'p>(line: &'t [u8], pool: &'p [u8]) -> Cursor<'t, 'p>
-    requires { IsOk (word (all_said_over pool.now (tokens_of line.now))) }
-    ensures { result.said ≡ drop 1 (all_said_over pool.now (tokens_of line.now)) }
+fn after_first_word<'t, 'p>(line: &'t [u8], pool: &'p [u8]) -> Cursor<'t, 'p>
+    requires { IsOk (word (values_over pool.now (tokens_of line.now))) }
+    ensures { result.said ≡ drop 1 (values_over pool.now (tokens_of line.now)) }
 {
     let mut rest = Cursor::of(line, pool);
     rest.word().unwrap();
@@ -107,7 +107,7 @@ fn behind_word<'t, 'p>(line: &'t [u8], pool: &'p [u8]) -> Cursor<'t, 'p>
 }
 
 // Reads the next path. A cursor can't be asked whether a word or a literal is next, so a twin tries it first.
-#[tactic(auto, unfolding(crate::specs::Paths::path, script_tokens::specs::Parts::word, script_tokens::specs::Parts::literal))]
+#[tactic(auto, unfolding(crate::specs::Paths::path, script_tokens::specs::Parsers::word, script_tokens::specs::Parsers::literal))]
 fn path<'t, 'p: 't>(
     line: &mut Cursor<'t, 'p>,
     mut twin: Cursor<'t, 'p>,

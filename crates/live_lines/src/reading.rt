@@ -1,8 +1,8 @@
 //! Reads the request of a line.
 ghost use Rattle.std.specs.Prelude.{◌≡◌, drop, Ok, IfOk, IfErr, IsOk};
 ghost use Rattle.script_tokens.specs.Tokens.{tokens_of};
-ghost use Rattle.script_tokens.specs.Said.{said_in, left_over, all_said_over};
-ghost use Rattle.script_tokens.specs.Parts.{Reads, word, ended};
+ghost use Rattle.script_tokens.specs.TokenValue.{values_in, cursor_over, values_over};
+ghost use Rattle.script_tokens.specs.Parsers.{Reads, word, ended};
 ghost use Rattle.script_tokens.specs.Pool.{Answers, Fails, pool_bytes};
 ghost use Rattle.script_grammar.specs.Names.{next_named};
 ghost use Rattle.sf_base.specs.declared.memory.Failure.TheVariants.{Fault};
@@ -12,7 +12,7 @@ ghost use Rattle.live_lines.specs.declared.request.Request.{Request};
 ghost use Rattle.live_lines.specs.declared.request.Request.TheVariants as asks;
 ghost use Rattle.live_lines.specs.Faults.{of_line};
 ghost use Rattle.live_lines.specs.Paths.{paths};
-ghost use Rattle.live_lines.specs.Requests.{command_word, commands, told, note_now, noted, frames, asked_by, request, request_of, HasNoFeed, IsNotOutOfMemory};
+ghost use Rattle.live_lines.specs.Requests.{command_word, commands, made_request, note_now, noted, frames, request_by, request, request_of, HasNoFeed, IsNotOutOfMemory};
 
 use crate::command::Command;
 use crate::fault::RequestFault;
@@ -31,7 +31,7 @@ use std::alloc::Global;
 pub fn pool_of_line(alloc: Global, line: &[u8]) -> Result<Vec<u8>, Failure<RequestFault>>
     requires { HasNoFeed line.now }
     ensures pool { IfOk result (λ pool. pool_bytes line.now ≡ Ok pool.items) }
-    ensures fault { IfErr result (λ why. Fails why (request_of (said_in line.now))) }
+    ensures fault { IfErr result (λ why. Fails why (request_of (values_in line.now))) }
 {
     match pool_of(alloc, line) {
         Ok(pool) => Ok(pool),
@@ -49,7 +49,7 @@ pub fn read_line<'t, 'p: 't>(
 ) -> Result<Option<Request<'t, 'p>>, Failure<RequestFault>>
     requires line { HasNoFeed line.now }
     requires pool { pool_bytes line.now ≡ Ok pool.now }
-    ensures { Answers (λ r. r) result (request_of (said_in line.now)) }
+    ensures { Answers (λ r. r) result (request_of (values_in line.now)) }
 {
     let cursor = Cursor::of(line, pool);
     if cursor.is_empty() {
@@ -67,26 +67,26 @@ fn request<'t, 'p: 't>(
     line: &'t [u8],
     pool: &'p [u8],
 ) -> Result<Request<'t, 'p>, Failure<RequestFault>>
-    ensures { Answers (λ r. r) result (request (all_said_over pool.now (tokens_of line.now))) }
+    ensures { Answers (λ r. r) result (request (values_over pool.now (tokens_of line.now))) }
 {
     let mut rest = Cursor::of(line, pool);
     let command = next_named(&mut rest);
-    asked(alloc, command, &mut rest, line, pool)
+    request_or_edit(alloc, command, &mut rest, line, pool)
 }
 
 // The request of the command, if the line begins with one; else an edit.
-fn asked<'t, 'p: 't>(
+fn request_or_edit<'t, 'p: 't>(
     alloc: Global,
     command: Result<Command, LineFault>,
     rest: &mut Cursor<'t, 'p>,
     line: &'t [u8],
     pool: &'p [u8],
 ) -> Result<Request<'t, 'p>, Failure<RequestFault>>
-    requires { Reads (λ c. c) (next_named command_word commands) (left_over pool.now (tokens_of line.now)) rest.old command }
-    ensures { Answers (λ r. r) result (request (all_said_over pool.now (tokens_of line.now))) }
+    requires { Reads (λ c. c) (next_named command_word commands) (cursor_over pool.now (tokens_of line.now)) rest.old command }
+    ensures { Answers (λ r. r) result (request (values_over pool.now (tokens_of line.now))) }
 {
     match command {
-        Ok(command) => asked_by(alloc, command, rest, line, pool),
+        Ok(command) => request_by(alloc, command, rest, line, pool),
         Err(_) => edit_of_line(alloc, line, pool),
     }
 }
@@ -97,34 +97,34 @@ fn edit_of_line<'t, 'p>(
     line: &'t [u8],
     pool: &'p [u8],
 ) -> Result<Request<'t, 'p>, Failure<RequestFault>>
-    ensures { Answers (λ r. r) result (told asks.Edit (edit (all_said_over pool.now (tokens_of line.now)))) }
+    ensures { Answers (λ r. r) result (made_request asks.Edit (edit (values_over pool.now (tokens_of line.now)))) }
 {
     let mut whole = Cursor::of(line, pool);
     Ok(Request::Edit(an_edit(alloc, &mut whole)?))
 }
 
 // The request of a command, by the rest of its line.
-fn asked_by<'t, 'p: 't>(
+fn request_by<'t, 'p: 't>(
     alloc: Global,
     command: Command,
     rest: &mut Cursor<'t, 'p>,
     line: &'t [u8],
     pool: &'p [u8],
 ) -> Result<Request<'t, 'p>, Failure<RequestFault>>
-    requires behind { rest.old.said ≡ drop 1 (all_said_over pool.now (tokens_of line.now)) }
-    requires word { IsOk (word (all_said_over pool.now (tokens_of line.now))) }
-    ensures { Answers (λ r. r) result (asked_by command rest.old.said) }
+    requires after_word { rest.old.said ≡ drop 1 (values_over pool.now (tokens_of line.now)) }
+    requires word { IsOk (word (values_over pool.now (tokens_of line.now))) }
+    ensures { Answers (λ r. r) result (request_by command rest.old.said) }
 {
     match command {
         Command::Neutral => neutral_edit(alloc, rest),
-        Command::Undo => alone(Request::Undo, rest),
-        Command::Redo => alone(Request::Redo, rest),
+        Command::Undo => without_arguments(Request::Undo, rest),
+        Command::Redo => without_arguments(Request::Redo, rest),
         Command::Note => note(rest),
         Command::Frames => some_frames(rest),
         Command::Save => save(line, pool),
-        Command::Show => alone(Request::Show, rest),
-        Command::Help => alone(Request::Help, rest),
-        Command::Quit => alone(Request::Quit, rest),
+        Command::Show => without_arguments(Request::Show, rest),
+        Command::Help => without_arguments(Request::Help, rest),
+        Command::Quit => without_arguments(Request::Quit, rest),
     }
 }
 
@@ -133,14 +133,14 @@ fn neutral_edit<'t, 'p>(
     alloc: Global,
     line: &mut Cursor<'t, 'p>,
 ) -> Result<Request<'t, 'p>, Failure<RequestFault>>
-    ensures { Answers (λ r. r) result (told asks.Neutral (edit line.old.said)) }
+    ensures { Answers (λ r. r) result (made_request asks.Neutral (edit line.old.said)) }
 {
     Ok(Request::Neutral(an_edit(alloc, line)?))
 }
 
 // The edit in the rest of a line.
 fn an_edit<'p>(alloc: Global, line: &mut Cursor<'_, 'p>) -> Result<Edit<'p>, Failure<RequestFault>>
-    ensures { (make : Edit → Request) → Answers make result (told make (edit line.old.said)) }
+    ensures { (make : Edit → Request) → Answers make result (made_request make (edit line.old.said)) }
 {
     match edit(alloc, line) {
         Ok(edit) => Ok(edit),
@@ -157,12 +157,12 @@ fn failure_of(fault: LineFault) -> Failure<RequestFault>
 }
 
 // The request, if its line is at its end.
-#[tactic(auto, unfolding(script_tokens::specs::Parts::ended))]
-fn alone<'t, 'p>(
+#[tactic(auto, unfolding(script_tokens::specs::Parsers::ended))]
+fn without_arguments<'t, 'p>(
     request: Request<'t, 'p>,
     line: &mut Cursor<'t, 'p>,
 ) -> Result<Request<'t, 'p>, Failure<RequestFault>>
-    ensures answer { Answers (λ r. r) result (told (λ r. r) (ended request.entry line.old.said)) }
+    ensures answer { Answers (λ r. r) result (made_request (λ r. r) (ended request.entry line.old.said)) }
     ensures memory { IsNotOutOfMemory result }
 {
     match line.end() {
@@ -206,7 +206,7 @@ fn note_now(line: &mut Cursor<'_, '_>) -> Result<Option<Note>, LineFault>
 
 // A request for frames.
 fn some_frames<'t, 'p>(line: &mut Cursor<'t, 'p>) -> Result<Request<'t, 'p>, Failure<RequestFault>>
-    ensures answer { Answers (λ r. r) result (told asks.Frames (frames line.old.said)) }
+    ensures answer { Answers (λ r. r) result (made_request asks.Frames (frames line.old.said)) }
     ensures memory { IsNotOutOfMemory result }
 {
     match frames(line) {
@@ -216,7 +216,7 @@ fn some_frames<'t, 'p>(line: &mut Cursor<'t, 'p>) -> Result<Request<'t, 'p>, Fai
 }
 
 // A number of frames, to the line's end.
-#[tactic(auto, unfolding(crate::specs::Requests::frames, script_tokens::specs::Parts::ended))]
+#[tactic(auto, unfolding(crate::specs::Requests::frames, script_tokens::specs::Parsers::ended))]
 fn frames(line: &mut Cursor<'_, '_>) -> Result<u32, LineFault>
     ensures { Reads (λ n. n) frames line.old line.new result }
 {
@@ -230,8 +230,8 @@ fn save<'t, 'p: 't>(
     line: &'t [u8],
     pool: &'p [u8],
 ) -> Result<Request<'t, 'p>, Failure<RequestFault>>
-    requires { IsOk (word (all_said_over pool.now (tokens_of line.now))) }
-    ensures answer { Answers (λ r. r) result (told asks.Save (paths (drop 1 (all_said_over pool.now (tokens_of line.now))))) }
+    requires { IsOk (word (values_over pool.now (tokens_of line.now))) }
+    ensures answer { Answers (λ r. r) result (made_request asks.Save (paths (drop 1 (values_over pool.now (tokens_of line.now))))) }
     ensures memory { IsNotOutOfMemory result }
 {
     match both_paths(line, pool) {

@@ -11,7 +11,7 @@ use Rattle.zone_select.specs.Select.{Voice, selected}
 use Rattle.zone_select.specs.Pairs.{pairs, voice_by, listed}
 use Rattle.zone_select.proofs.PairLaws.{selected_by_pairs}
 use Rattle.zone_select.proofs.PlayedLaws.{pairs_have_voices}
-use Rattle.mixer.specs.Heard.{playing, fresh}
+use Rattle.mixer.specs.StartFrames.{playing, note_voices}
 
 one_listed : (o : Option Voice) → IsSome o → length (listed o) ≡ 1
 one_listed (Some v) h = refl
@@ -27,8 +27,8 @@ all_voiced f (q ∷ qs) d h =
     all_voiced f qs d (λ k l. h (suc k) (omega arith)) in
     omega (arith, length-append (listed (f q)) (flat_map (λ q. listed (f q)) qs))
 
-pub fresh_counted : (b : Parts) (n : Numbers) → IsValid b → length (pairs b n) ≡ length (fresh b n)
-unfolding fresh
+pub fresh_counted : (b : Parts) (n : Numbers) → IsValid b → length (pairs b n) ≡ length (note_voices b n)
+unfolding note_voices
 fresh_counted b n valid =
     sym
     (all_voiced (voice_by b n) (pairs b n) (0, 0)
@@ -39,9 +39,9 @@ fresh_counted b n valid =
     ∙ sym (length-map (selected b n) (playing n))
 
 pub count_first : (b : Parts) (n : Numbers) (qs : List (ℕ × ℕ)) (voices : ℕ) → IsValid b → voices ≡ 0 → qs ≡ pairs b n
-    → (length qs ≤ length (fresh b n)) × (voices ≡ min (length (fresh b n) - length qs) (2 ^ 64 - 1))
+    → (length qs ≤ length (note_voices b n)) × (voices ≡ min (length (note_voices b n) - length qs) (2 ^ 64 - 1))
 count_first b n qs voices valid e f =
-    let same : length qs ≡ length (fresh b n) = ap length f ∙ fresh_counted b n valid in
+    let same : length qs ≡ length (note_voices b n) = ap length f ∙ fresh_counted b n valid in
     (omega arith, omega arith)
 
 pub count_next : (total : ℕ) (q : ℕ × ℕ) (rest qs : List (ℕ × ℕ)) (voices more : ℕ) → qs ≡ q ∷ rest

@@ -7,7 +7,7 @@ use Rattle.std.proofs.KnownBytes.{Appends-nil}
 use Rattle.wave_file.specs.Wave.{sample_bytes}
 use Rattle.live_lines.specs.declared.answer.Answer.{Answer}
 use Rattle.live_lines.specs.declared.request.Request.{Request}
-use Rattle.live_sessions.specs.declared.live.Live.{Live}
+use Rattle.live_sessions.specs.declared.live.LiveState.{LiveState}
 use Rattle.live_sessions.specs.Saved.{Saved, Adds}
 use Rattle.live_sessions.specs.Steps.{RequestIs, Does, frames_of, saves_of}
 
@@ -22,7 +22,7 @@ adds_then (Some x) (Some y) None xs ys p q = absurd q
 adds_then (Some x) (Some y) (Some z) xs ys p q = q ∙ ap (λ (l : List Saved). l ++ ys) p ∙ append_assoc x xs ys
 
 -- requests that write no frames and save nothing
-pub does_quietly : (old new : Live) (r : Request) (a : Answer) (pcm : Option (List ℕ)) (saved : Option (List Saved))
+pub does_quietly : (old new : LiveState) (r : Request) (a : Answer) (pcm : Option (List ℕ)) (saved : Option (List Saved))
     → RequestIs old r a new
     → frames_of old r a ≡ [] → saves_of old r a ≡ [] → Does old new r a pcm pcm saved saved
 does_quietly old new r a pcm saved h f s = record {
@@ -31,6 +31,6 @@ does_quietly old new r a pcm saved h f s = record {
   saves = subst (λ (xs : List Saved). Adds saved saved xs) (sym s) (adds_nothing saved);
 }
 
-pub quietly_as : (old new : Live) (r s : Request) (a : Answer) (pcm : Option (List ℕ)) (saved : Option (List Saved))
+pub quietly_as : (old new : LiveState) (r s : Request) (a : Answer) (pcm : Option (List ℕ)) (saved : Option (List Saved))
     → r ≡ s → Does old new s a pcm pcm saved saved → Does old new r a pcm pcm saved saved
 quietly_as old new r s a pcm saved e h = subst (λ (x : Request). Does old new x a pcm pcm saved saved) (sym e) h

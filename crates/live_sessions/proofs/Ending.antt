@@ -11,20 +11,20 @@ use Rattle.std.proofs.lemmas.Grind.{flat_map-append}
 use Rattle.std.proofs.lemmas.List.{map-append}
 use Rattle.script_tokens.specs.Lines.{lines_of}
 use Rattle.bank_format.specs.declared.fault.Counts.{Counts}
-use Rattle.live_sessions.specs.declared.live.Live.{Live}
+use Rattle.live_sessions.specs.declared.live.LiveState.{LiveState}
 use Rattle.live_sessions.specs.declared.requests.Next.{Next}
 use Rattle.live_sessions.specs.declared.requests.Next.TheVariants as next
 use Rattle.live_sessions.specs.declared.fault.LiveFault.{LiveFault}
 use Rattle.live_sessions.specs.declared.fault.LiveFault.TheVariants as fault
 use Rattle.live_sessions.specs.Saved.{Saved, Adds}
-use Rattle.live_sessions.specs.Turns.{LineIs, Turn, Around, asked, text_in, bytes_in, saves_in, ends_in, AreTurns}
+use Rattle.live_sessions.specs.Turns.{LineIs, Turn, Streams, request_in, text_in, bytes_in, saves_in, ends_in, AreTurns}
 use Rattle.live_sessions.specs.Turns.{Reads, Passes, Passed}
 use Rattle.live_sessions.specs.Runs.{OnlyReads, EndsWell, ReadsPart, Unread, EndsBy, most_lines, Plays, AnswersOr, GoesOn}
 use Rattle.live_sessions.specs.Runs.{Goes, IsReadFault}
 use Rattle.live_sessions.proofs.Doing.{adds_nothing, adds_then}
 use Rattle.live_sessions.proofs.Turning.{around}
 
-abbrev pub with_input : Option (List ℕ) → Option (List ℕ) → Option (List ℕ) → Option (List Saved) → Around
+abbrev pub with_input : Option (List ℕ) → Option (List ℕ) → Option (List ℕ) → Option (List Saved) → Streams
 with_input input answers pcm saved = record { input = input; answers = answers; pcm = pcm; saved = saved }
 
 -- ---- a line that was read
@@ -34,7 +34,7 @@ passes_read : (counts : Counts) (t : Turn) (i j o n p q : Option (List ℕ)) (v 
     → Passes counts t (with_input i o p v) (with_input j n q w)
 passes_read counts t i j o n p q v w h = record { is = h.is; answers = h.answers; pcm = h.pcm; saved = h.saved }
 
-pub line_goes : (counts : Counts) (line : List ℕ) (old new : Live) (i j o n p q : Option (List ℕ))
+pub line_goes : (counts : Counts) (line : List ℕ) (old new : LiveState) (i j o n p q : Option (List ℕ))
     (v w : Option (List Saved)) (why : Option ErrorKind) (r : Result Next LiveFault)
     → Reads i j (line ∷ []) → AnswersOr counts line old new (around o p v) (around n q w) r
     → Goes counts old new (with_input i o p v) (with_input j n q w) why r
@@ -99,7 +99,7 @@ no_line i j o p v why P kind e h part = record {
   only = only_reads i j o p v;
 }
 
-pub unread : (counts : Counts) (old new : Live) (i j o p : Option (List ℕ)) (v : Option (List Saved))
+pub unread : (counts : Counts) (old new : LiveState) (i j o p : Option (List ℕ)) (v : Option (List Saved))
     (why : Option ErrorKind) (kind : ErrorKind) (f : LiveFault) → why ≡ Some kind → IsReadFault kind f → ReadsPart i j
     → Goes counts old new (with_input i o p v) (with_input j o p v) why (Err f)
 unread counts old new i j o p v why kind fault.Memory e h part =
@@ -110,14 +110,14 @@ unread counts old new i j o p v why kind (fault.File f) e h part = absurd h
 unread counts old new i j o p v why kind (fault.Answers k) e h part = absurd h
 unread counts old new i j o p v why kind (fault.Pcm k) e h part = absurd h
 
-pub at_end : (counts : Counts) (old : Live) (i j o p : Option (List ℕ)) (v : Option (List Saved)) → IsAtEnd i
+pub at_end : (counts : Counts) (old : LiveState) (i j o p : Option (List ℕ)) (v : Option (List Saved)) → IsAtEnd i
     → EndsWell counts old (with_input i o p v) (with_input j o p v)
 at_end counts old i j o p v h = inl (h, only_reads i j o p v)
 
 -- ---- lines in order
 
 -- `n` lines were answered
-pub record Reached (counts : Counts) (n : ℕ) (first last : Live) (old new : Around) : Type 0 where
+pub record Reached (counts : Counts) (n : ℕ) (first last : LiveState) (old new : Streams) : Type 0 where
   pub turns : List Turn
   pub count : length turns ≡ n
   pub passed : Passed counts first turns last old new
@@ -133,8 +133,8 @@ reads_then (Some x) (Some y) None xs ys p q = absurd q
 reads_then (Some x) (Some y) (Some z) xs ys p q =
     p ∙ ap (λ (ls : List (List ℕ)). xs ++ ls) q ∙ sym (append_assoc xs ys (lines_of z))
 
-turns_then : (first middle : Live) (ts : List Turn) (t : Turn) → AreTurns first ts middle → t.old ≡ middle
-    → LineIs (asked t) t.old t.answer t.new → AreTurns first (ts ++ t ∷ []) t.new
+turns_then : (first middle : LiveState) (ts : List Turn) (t : Turn) → AreTurns first ts middle → t.old ≡ middle
+    → LineIs (request_in t) t.old t.answer t.new → AreTurns first (ts ++ t ∷ []) t.new
 turns_then first middle [] t h e is = (e ∙ h, is, refl)
 turns_then first middle (s ∷ ts) t h e is = (h.0, h.1, turns_then s.new middle ts t h.2 e is)
 
@@ -153,7 +153,7 @@ more_of : {X : Type 0} (f : Turn → List X) (ts : List Turn) (t : Turn)
     → flat_map f (ts ++ t ∷ []) ≡ flat_map f ts ++ f t
 more_of f ts t = flat_map-append f ts (t ∷ []) ∙ ap (λ (xs : List _). flat_map f ts ++ xs) (one_of f t)
 
-pub reached_first : (counts : Counts) (first : Live) (a : Around) → Reached counts 0 first first a a
+pub reached_first : (counts : Counts) (first : LiveState) (a : Streams) → Reached counts 0 first first a a
 reached_first counts first a = record {
   turns = [];
   count = refl;
@@ -167,7 +167,7 @@ reached_first counts first a = record {
   };
 }
 
-pub reached_next : (counts : Counts) (n : ℕ) (first last new : Live) (a b c : Around) → Reached counts n first last a b
+pub reached_next : (counts : Counts) (n : ℕ) (first last new : LiveState) (a b c : Streams) → Reached counts n first last a b
     → GoesOn counts last new b c → Reached counts (n + 1) first new a c
 reached_next counts n first last new a b c r g =
     let t : Turn = g.answers.turn in
@@ -177,7 +177,7 @@ reached_next counts n first last new a b c r g =
       count = length-append ts (t ∷ []) ∙ ap (λ (k : ℕ). k + 1) r.count;
       passed = record {
         turns =
-            subst (λ (s : Live). AreTurns first (ts ++ t ∷ []) s) g.answers.leaves
+            subst (λ (s : LiveState). AreTurns first (ts ++ t ∷ []) s) g.answers.leaves
             (turns_then first last ts t r.passed.turns g.answers.begins g.answers.passes.is);
         going = going_then ts t r.passed.going g.answers.ends;
         input =
@@ -196,23 +196,23 @@ reached_next counts n first last new a b c r g =
       };
     }
 
-pub plays_to : (counts : Counts) (n : ℕ) (first last : Live) (a b c : Around) (why : Option ErrorKind)
+pub plays_to : (counts : Counts) (n : ℕ) (first last : LiveState) (a b c : Streams) (why : Option ErrorKind)
     (r : Result (Unit {0}) LiveFault)
     → Reached counts n first last a b → EndsBy counts last b c why r → Plays counts first a c why r
 plays_to counts n first last a b c why r h e =
     record { turns = h.turns; last = last; between = b; passed = h.passed; end = inl e }
 
-pub plays_full : (counts : Counts) (n : ℕ) (first last : Live) (a b : Around) (why : Option ErrorKind)
+pub plays_full : (counts : Counts) (n : ℕ) (first last : LiveState) (a b : Streams) (why : Option ErrorKind)
     → Reached counts n first last a b → n ≡ most_lines → Plays counts first a b why (Err fault.Input)
 plays_full counts n first last a b why h e =
     record { turns = h.turns; last = last; between = b; passed = h.passed; end = inr (h.count ∙ e, refl) }
 
 -- ---- the whole run
 
-pub goes_on : (counts : Counts) (x : Next) (old new : Live) (a b : Around) (why : Option ErrorKind) → x ≡ next.Line
+pub goes_on : (counts : Counts) (x : Next) (old new : LiveState) (a b : Streams) (why : Option ErrorKind) → x ≡ next.Line
     → Goes counts old new a b why (Ok x) → GoesOn counts old new a b
 goes_on counts x old new a b why e h = subst (λ (y : Next). Goes counts old new a b why (Ok y)) e h
 
-pub ends_well : (counts : Counts) (x : Next) (old new : Live) (a b : Around) (why : Option ErrorKind) → x ≡ next.End
+pub ends_well : (counts : Counts) (x : Next) (old new : LiveState) (a b : Streams) (why : Option ErrorKind) → x ≡ next.End
     → Goes counts old new a b why (Ok x) → EndsWell counts old a b
 ends_well counts x old new a b why e h = subst (λ (y : Next). Goes counts old new a b why (Ok y)) e h

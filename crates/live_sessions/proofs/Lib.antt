@@ -6,5 +6,5 @@ pub mod Doing
 pub mod LineLaws
 pub mod Turning
 pub mod Ending
-pub mod Hearing
-pub mod LeadingBack
+pub mod FrameLaws
+pub mod UndoLists

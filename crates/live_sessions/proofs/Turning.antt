@@ -7,7 +7,7 @@ use Rattle.std.specs.Io.KnownBytes.{Appends}
 use Rattle.std.proofs.KnownBytes.{Appends-nil}
 use Rattle.sf_base.specs.declared.memory.Failure.{Failure}
 use Rattle.sf_base.specs.declared.memory.Failure.TheVariants as failures
-use Rattle.script_tokens.specs.Said.{said_in}
+use Rattle.script_tokens.specs.TokenValue.{values_in}
 use Rattle.script_tokens.specs.Pool.{Fails}
 use Rattle.bank_format.specs.declared.fault.Counts.{Counts}
 use Rattle.wave_file.specs.Wave.{sample_bytes}
@@ -18,31 +18,31 @@ use Rattle.live_lines.specs.declared.request.Request.{Request}
 use Rattle.live_lines.specs.declared.request.Request.TheVariants as asks
 use Rattle.live_lines.specs.Requests.{request_of}
 use Rattle.live_lines.specs.Answers.{answer_text}
-use Rattle.live_sessions.specs.declared.live.Live.{Live}
-use Rattle.live_sessions.specs.declared.requests.Kind.{Kind}
+use Rattle.live_sessions.specs.declared.live.LiveState.{LiveState}
+use Rattle.live_sessions.specs.declared.requests.RequestKind.{RequestKind}
 use Rattle.live_sessions.specs.declared.requests.Next.{Next}
 use Rattle.live_sessions.specs.declared.requests.Next.TheVariants as next
 use Rattle.live_sessions.specs.declared.fault.LiveFault.{LiveFault}
 use Rattle.live_sessions.specs.declared.fault.LiveFault.TheVariants as fault
 use Rattle.live_sessions.specs.Saved.{Saved, Adds}
-use Rattle.live_sessions.specs.Telling.{kind_of, bank_told, told_text, next_of, is_last, told_failure, IsSent}
-use Rattle.live_sessions.specs.Steps.{RequestIs, StopsIn, FramesStop, Does, frames_of, saves_of, told_of, events_of}
+use Rattle.live_sessions.specs.AnswerTexts.{kind_of, listing_now, preamble, next_of, is_last, failure_answer, IsWritten}
+use Rattle.live_sessions.specs.Steps.{RequestIs, StopsIn, FramesStop, Does, frames_of, saves_of, preamble_of, events_of}
 use Rattle.live_sessions.specs.Steps.{is_end}
-use Rattle.live_sessions.specs.Turns.{Asked, LineIs, Turn, Around, answered, ends}
+use Rattle.live_sessions.specs.Turns.{RequestResult, LineIs, Turn, Streams, answered, ends}
 use Rattle.live_sessions.specs.Runs.{Answers, AnswersOr, StopsLine}
 use Rattle.live_sessions.proofs.Doing.{adds_nothing}
 
 -- the outputs of a session
-abbrev pub around : Option (List ℕ) → Option (List ℕ) → Option (List Saved) → Around
+abbrev pub around : Option (List ℕ) → Option (List ℕ) → Option (List Saved) → Streams
 around answers pcm saved = record { input = None; answers = answers; pcm = pcm; saved = saved }
 
-abbrev pub turn_of : List ℕ → Live → Option Answer → Live → Turn
+abbrev pub turn_of : List ℕ → LiveState → Option Answer → LiveState → Turn
 turn_of line old a new = record { line = line; old = old; answer = a; new = new }
 
 -- ---- a line without a request
 
-pub none_asked : (counts : Counts) (line : List ℕ) (s : Live) (o p : Option (List ℕ)) (v : Option (List Saved))
-    → request_of (said_in line) ≡ Ok None
+pub none_asked : (counts : Counts) (line : List ℕ) (s : LiveState) (o p : Option (List ℕ)) (v : Option (List Saved))
+    → request_of (values_in line) ≡ Ok None
     → Answers counts line s s (around o p v) (around o p v) false
 none_asked counts line s o p v e = record {
   turn = turn_of line s None s;
@@ -51,33 +51,33 @@ none_asked counts line s o p v e = record {
   leaves = refl;
   passes = record {
     is = (e, refl);
-    answers = subst (λ (x : Asked). Appends o o (answered x None (told_of counts s) ++ [])) (sym e) (Appends-nil o);
+    answers = subst (λ (x : RequestResult). Appends o o (answered x None (preamble_of counts s) ++ [])) (sym e) (Appends-nil o);
     pcm =
-        subst (λ (x : Asked). Appends p p (flat_map sample_bytes (answered x None (frames_of s)))) (sym e)
+        subst (λ (x : RequestResult). Appends p p (flat_map sample_bytes (answered x None (frames_of s)))) (sym e)
         (Appends-nil p);
-    saved = subst (λ (x : Asked). Adds v v (answered x None (saves_of s))) (sym e) (adds_nothing v);
+    saved = subst (λ (x : RequestResult). Adds v v (answered x None (saves_of s))) (sym e) (adds_nothing v);
   };
-  ends = ap (λ (x : Asked). ends x None) e;
+  ends = ap (λ (x : RequestResult). ends x None) e;
 }
 
 -- ---- a line with a fault, or whose allocation fails
 
 -- a line with this answer writes this answer alone
-pub record Bare (counts : Counts) (s : Live) (x : Asked) (a : Answer) : Type 0 where
+pub record Bare (counts : Counts) (s : LiveState) (x : RequestResult) (a : Answer) : Type 0 where
   pub is : LineIs x s (Some a) s
-  pub told : answered x (Some a) (told_of counts s) ≡ []
+  pub reported : answered x (Some a) (preamble_of counts s) ≡ []
   pub frames : answered x (Some a) (frames_of s) ≡ []
   pub saves : answered x (Some a) (saves_of s) ≡ []
   pub ends : ends x (Some a) ≡ false
 
 -- a request that runs out of memory writes no listing or frames, saves nothing, changes no voice and ends no session
-abbrev pub NothingDone : Live → Request → Live → Type 0
+abbrev pub NothingDone : LiveState → Request → LiveState → Type 0
 NothingDone old r new =
-    ((counts : Counts) → told_of counts old r answer.OutOfMemory ≡ []) × (frames_of old r answer.OutOfMemory ≡ [])
+    ((counts : Counts) → preamble_of counts old r answer.OutOfMemory ≡ []) × (frames_of old r answer.OutOfMemory ≡ [])
     × (saves_of old r answer.OutOfMemory ≡ [])
     × (events_of r answer.OutOfMemory new ≡ []) × (is_end r answer.OutOfMemory ≡ false)
 
-pub nothing_done : (old : Live) (r : Request) (new : Live) → NothingDone old r new
+pub nothing_done : (old : LiveState) (r : Request) (new : LiveState) → NothingDone old r new
 nothing_done old (asks.Edit e) new = ((λ counts. refl), refl, refl, refl, refl)
 nothing_done old (asks.Neutral e) new = ((λ counts. refl), refl, refl, refl, refl)
 nothing_done old asks.Undo new = ((λ counts. refl), refl, refl, refl, refl)
@@ -89,32 +89,32 @@ nothing_done old asks.Show new = ((λ counts. refl), refl, refl, refl, refl)
 nothing_done old asks.Help new = ((λ counts. refl), refl, refl, refl, refl)
 nothing_done old asks.Quit new = ((λ counts. refl), refl, refl, refl, refl)
 
-memory_bare : (counts : Counts) (s : Live) (x : Asked) → Bare counts s x answer.OutOfMemory
-memory_bare counts s (Ok None) = record { is = inr (refl, refl); told = refl; frames = refl; saves = refl; ends = refl }
+memory_bare : (counts : Counts) (s : LiveState) (x : RequestResult) → Bare counts s x answer.OutOfMemory
+memory_bare counts s (Ok None) = record { is = inr (refl, refl); reported = refl; frames = refl; saves = refl; ends = refl }
 memory_bare counts s (Ok (Some r)) =
     let none = nothing_done s r s in
-    record { is = inr (refl, refl); told = none.0 counts; frames = none.1; saves = none.2; ends = none.4 }
-memory_bare counts s (Err f) = record { is = inr (refl, refl); told = refl; frames = refl; saves = refl; ends = refl }
+    record { is = inr (refl, refl); reported = none.0 counts; frames = none.1; saves = none.2; ends = none.4 }
+memory_bare counts s (Err f) = record { is = inr (refl, refl); reported = refl; frames = refl; saves = refl; ends = refl }
 
-fault_bare : (counts : Counts) (s : Live) (x : Asked) (f : RequestFault) → x ≡ Err f → Bare counts s x (answer.Fault f)
+fault_bare : (counts : Counts) (s : LiveState) (x : RequestResult) (f : RequestFault) → x ≡ Err f → Bare counts s x (answer.Fault f)
 fault_bare counts s x f e =
     let at : Bare counts s (Err f) (answer.Fault f) =
-    record { is = inl (refl, refl); told = refl; frames = refl; saves = refl; ends = refl } in
-    subst (λ (y : Asked). Bare counts s y (answer.Fault f)) (sym e) at
+    record { is = inl (refl, refl); reported = refl; frames = refl; saves = refl; ends = refl } in
+    subst (λ (y : RequestResult). Bare counts s y (answer.Fault f)) (sym e) at
 
-failure_bare : (counts : Counts) (s : Live) (x : Asked) (why : Failure RequestFault) → Fails why x
-    → Bare counts s x (told_failure why)
+failure_bare : (counts : Counts) (s : LiveState) (x : RequestResult) (why : Failure RequestFault) → Fails why x
+    → Bare counts s x (failure_answer why)
 failure_bare counts s x (failures.Fault f) h = fault_bare counts s x f h
 failure_bare counts s x failures.OutOfMemory h = memory_bare counts s x
 
-failure_told : (counts : Counts) (line : List ℕ) (s : Live) (o n p : Option (List ℕ)) (v : Option (List Saved))
+failure_told : (counts : Counts) (line : List ℕ) (s : LiveState) (o n p : Option (List ℕ)) (v : Option (List Saved))
     (why : Failure RequestFault) (a : Answer)
-    → Fails why (request_of (said_in line)) → a ≡ told_failure why → Appends o n (answer_text a)
+    → Fails why (request_of (values_in line)) → a ≡ failure_answer why → Appends o n (answer_text a)
     → Answers counts line s s (around o p v) (around n p v) false
 failure_told counts line s o n p v why a h e sent =
-    let b : Bare counts s (request_of (said_in line)) a =
-    subst (λ (x : Answer). Bare counts s (request_of (said_in line)) x) (sym e)
-    (failure_bare counts s (request_of (said_in line)) why h) in
+    let b : Bare counts s (request_of (values_in line)) a =
+    subst (λ (x : Answer). Bare counts s (request_of (values_in line)) x) (sym e)
+    (failure_bare counts s (request_of (values_in line)) why h) in
     record {
       turn = turn_of line s (Some a) s;
       said = refl;
@@ -122,29 +122,29 @@ failure_told counts line s o n p v why a h e sent =
       leaves = refl;
       passes = record {
         is = b.is;
-        answers = subst (λ (xs : List ℕ). Appends o n (xs ++ answer_text a)) (sym b.told) sent;
+        answers = subst (λ (xs : List ℕ). Appends o n (xs ++ answer_text a)) (sym b.reported) sent;
         pcm = subst (λ (xs : List ℤ). Appends p p (flat_map sample_bytes xs)) (sym b.frames) (Appends-nil p);
         saved = subst (λ (xs : List Saved). Adds v v xs) (sym b.saves) (adds_nothing v);
       };
       ends = b.ends;
     }
 
-failure_unsent : (counts : Counts) (line : List ℕ) (s : Live) (o n p : Option (List ℕ)) (v : Option (List Saved))
+failure_unsent : (counts : Counts) (line : List ℕ) (s : LiveState) (o n p : Option (List ℕ)) (v : Option (List Saved))
     (why : Failure RequestFault) (a : Answer) (f : LiveFault)
-    → Fails why (request_of (said_in line)) → a ≡ told_failure why → IsSent {U = Next} o n (answer_text a) (Err f)
+    → Fails why (request_of (values_in line)) → a ≡ failure_answer why → IsWritten {U = Next} o n (answer_text a) (Err f)
     → StopsLine counts line s (around o p v) (around n p v) f
 failure_unsent counts line s o n p v why a (fault.Answers k) h e sent =
-    let b : Bare counts s (request_of (said_in line)) a =
-    subst (λ (x : Answer). Bare counts s (request_of (said_in line)) x) (sym e)
-    (failure_bare counts s (request_of (said_in line)) why h) in
+    let b : Bare counts s (request_of (values_in line)) a =
+    subst (λ (x : Answer). Bare counts s (request_of (values_in line)) x) (sym e)
+    (failure_bare counts s (request_of (values_in line)) why h) in
     record {
       turn = turn_of line s (Some a) s;
       said = refl;
       begins = refl;
       stops = record {
         is = b.is;
-        within = subst (λ (xs : List ℕ). k ≤ length (xs ++ answer_text a)) (sym b.told) sent.0;
-        answers = subst (λ (xs : List ℕ). Appends o n (take k (xs ++ answer_text a))) (sym b.told) sent.1;
+        within = subst (λ (xs : List ℕ). k ≤ length (xs ++ answer_text a)) (sym b.reported) sent.0;
+        answers = subst (λ (xs : List ℕ). Appends o n (take k (xs ++ answer_text a))) (sym b.reported) sent.1;
         pcm = subst (λ (xs : List ℤ). Appends p p (flat_map sample_bytes xs)) (sym b.frames) (Appends-nil p);
         saved = subst (λ (xs : List Saved). Adds v v xs) (sym b.saves) (adds_nothing v);
       };
@@ -154,9 +154,9 @@ failure_unsent counts line s o n p v why a fault.Memory h e sent = absurd sent
 failure_unsent counts line s o n p v why a fault.Input h e sent = absurd sent
 failure_unsent counts line s o n p v why a (fault.Pcm k) h e sent = absurd sent
 
-pub failure_answered : (counts : Counts) (line : List ℕ) (s : Live) (o n p : Option (List ℕ)) (v : Option (List Saved))
+pub failure_answered : (counts : Counts) (line : List ℕ) (s : LiveState) (o n p : Option (List ℕ)) (v : Option (List Saved))
     (why : Failure RequestFault) (a : Answer) (r : Result Next LiveFault)
-    → Fails why (request_of (said_in line)) → a ≡ told_failure why → IsSent o n (answer_text a) r
+    → Fails why (request_of (values_in line)) → a ≡ failure_answer why → IsWritten o n (answer_text a) r
     → IfOk r (λ (x : Next). x ≡ next.Line)
     → AnswersOr counts line s s (around o p v) (around n p v) r
 failure_answered counts line s o n p v why a (Ok x) h e sent goes =
@@ -168,36 +168,36 @@ failure_answered counts line s o n p v why a (Err f) h e sent goes =
 -- ---- a request
 
 -- the listing before an answer is the same for the session before and after the request
-same_told : (counts : Counts) (old new : Live) (r : Request) (a : Answer) → RequestIs old r a new
-    → told_text counts new (kind_of r) ≡ told_of counts old r a
-same_told counts old new (asks.Edit e) a h = refl
-same_told counts old new (asks.Neutral e) a h = refl
-same_told counts old new asks.Undo a h = refl
-same_told counts old new asks.Redo a h = refl
-same_told counts old new (asks.Note n) a h = refl
-same_told counts old new (asks.Frames n) a h = refl
-same_told counts old new (asks.Save paths) a h = refl
-same_told counts old new asks.Show answer.Done h = ap (bank_told counts) h
-same_told counts old new asks.Show (answer.Started n) h = absurd h
-same_told counts old new asks.Show (answer.Refused why) h = absurd h
-same_told counts old new asks.Show answer.NotNeutral h = absurd h
-same_told counts old new asks.Show answer.TooManyFrames h = absurd h
-same_told counts old new asks.Show (answer.Fault f) h = absurd h
-same_told counts old new asks.Show answer.OutOfMemory h = absurd h
-same_told counts old new asks.Show (answer.WriteFault path n) h = absurd h
-same_told counts old new asks.Show (answer.Rejected path f) h = absurd h
-same_told counts old new asks.Help answer.Done h = refl
-same_told counts old new asks.Help (answer.Started n) h = absurd h
-same_told counts old new asks.Help (answer.Refused why) h = absurd h
-same_told counts old new asks.Help answer.NotNeutral h = absurd h
-same_told counts old new asks.Help answer.TooManyFrames h = absurd h
-same_told counts old new asks.Help (answer.Fault f) h = absurd h
-same_told counts old new asks.Help answer.OutOfMemory h = absurd h
-same_told counts old new asks.Help (answer.WriteFault path n) h = absurd h
-same_told counts old new asks.Help (answer.Rejected path f) h = absurd h
-same_told counts old new asks.Quit a h = refl
+same_reported : (counts : Counts) (old new : LiveState) (r : Request) (a : Answer) → RequestIs old r a new
+    → preamble counts new (kind_of r) ≡ preamble_of counts old r a
+same_reported counts old new (asks.Edit e) a h = refl
+same_reported counts old new (asks.Neutral e) a h = refl
+same_reported counts old new asks.Undo a h = refl
+same_reported counts old new asks.Redo a h = refl
+same_reported counts old new (asks.Note n) a h = refl
+same_reported counts old new (asks.Frames n) a h = refl
+same_reported counts old new (asks.Save paths) a h = refl
+same_reported counts old new asks.Show answer.Done h = ap (listing_now counts) h
+same_reported counts old new asks.Show (answer.Started n) h = absurd h
+same_reported counts old new asks.Show (answer.Refused why) h = absurd h
+same_reported counts old new asks.Show answer.NotNeutral h = absurd h
+same_reported counts old new asks.Show answer.TooManyFrames h = absurd h
+same_reported counts old new asks.Show (answer.Fault f) h = absurd h
+same_reported counts old new asks.Show answer.OutOfMemory h = absurd h
+same_reported counts old new asks.Show (answer.WriteFault path n) h = absurd h
+same_reported counts old new asks.Show (answer.Rejected path f) h = absurd h
+same_reported counts old new asks.Help answer.Done h = refl
+same_reported counts old new asks.Help (answer.Started n) h = absurd h
+same_reported counts old new asks.Help (answer.Refused why) h = absurd h
+same_reported counts old new asks.Help answer.NotNeutral h = absurd h
+same_reported counts old new asks.Help answer.TooManyFrames h = absurd h
+same_reported counts old new asks.Help (answer.Fault f) h = absurd h
+same_reported counts old new asks.Help answer.OutOfMemory h = absurd h
+same_reported counts old new asks.Help (answer.WriteFault path n) h = absurd h
+same_reported counts old new asks.Help (answer.Rejected path f) h = absurd h
+same_reported counts old new asks.Quit a h = refl
 
-same_end : (old new : Live) (r : Request) (a : Answer) → RequestIs old r a new
+same_end : (old new : LiveState) (r : Request) (a : Answer) → RequestIs old r a new
     → is_end r a ≡ is_last (next_of (kind_of r))
 same_end old new (asks.Edit e) a h = refl
 same_end old new (asks.Neutral e) a h = refl
@@ -219,14 +219,14 @@ same_end old new asks.Quit (answer.WriteFault path n) h = absurd h
 same_end old new asks.Quit (answer.Rejected path f) h = absurd h
 
 -- the turn of a line with this request
-request_told : (counts : Counts) (line : List ℕ) (old new : Live) (r : Request) (a : Answer) (k : Kind)
+request_told : (counts : Counts) (line : List ℕ) (old new : LiveState) (r : Request) (a : Answer) (k : RequestKind)
     (next : Next) (o n p q : Option (List ℕ)) (v w : Option (List Saved))
-    → request_of (said_in line) ≡ Ok (Some r) → k ≡ kind_of r → next ≡ next_of k → Does old new r a p q v w
-    → Appends o n (told_text counts new k ++ answer_text a)
+    → request_of (values_in line) ≡ Ok (Some r) → k ≡ kind_of r → next ≡ next_of k → Does old new r a p q v w
+    → Appends o n (preamble counts new k ++ answer_text a)
     → Answers counts line old new (around o p v) (around n q w) (is_last next)
 request_told counts line old new r a k next o n p q v w e kind_is next_is d sent =
-    let told : told_text counts new k ≡ told_of counts old r a =
-    ap (told_text counts new) kind_is ∙ same_told counts old new r a d.session in
+    let reported : preamble counts new k ≡ preamble_of counts old r a =
+    ap (preamble counts new) kind_is ∙ same_reported counts old new r a d.session in
     let last : is_end r a ≡ is_last next =
     same_end old new r a d.session ∙ sym (ap is_last (next_is ∙ ap next_of kind_is)) in
     record {
@@ -235,40 +235,40 @@ request_told counts line old new r a k next o n p q v w e kind_is next_is d sent
       begins = refl;
       leaves = refl;
       passes = record {
-        is = subst (λ (x : Asked). LineIs x old (Some a) new) (sym e) (inl d.session);
-        answers = subst (λ (x : Asked). Appends o n (answered x (Some a) (told_of counts old) ++ answer_text a)) (sym e)
-            (subst (λ (xs : List ℕ). Appends o n (xs ++ answer_text a)) told sent);
+        is = subst (λ (x : RequestResult). LineIs x old (Some a) new) (sym e) (inl d.session);
+        answers = subst (λ (x : RequestResult). Appends o n (answered x (Some a) (preamble_of counts old) ++ answer_text a)) (sym e)
+            (subst (λ (xs : List ℕ). Appends o n (xs ++ answer_text a)) reported sent);
         pcm =
-            subst (λ (x : Asked). Appends p q (flat_map sample_bytes (answered x (Some a) (frames_of old)))) (sym e)
+            subst (λ (x : RequestResult). Appends p q (flat_map sample_bytes (answered x (Some a) (frames_of old)))) (sym e)
             d.frames;
-        saved = subst (λ (x : Asked). Adds v w (answered x (Some a) (saves_of old))) (sym e) d.saves;
+        saved = subst (λ (x : RequestResult). Adds v w (answered x (Some a) (saves_of old))) (sym e) d.saves;
       };
-      ends = ap (λ (x : Asked). ends x (Some a)) e ∙ last;
+      ends = ap (λ (x : RequestResult). ends x (Some a)) e ∙ last;
     }
 
-request_unsent : (counts : Counts) (line : List ℕ) (old new : Live) (r : Request) (a : Answer) (k : Kind)
+request_unsent : (counts : Counts) (line : List ℕ) (old new : LiveState) (r : Request) (a : Answer) (k : RequestKind)
     (o n p q : Option (List ℕ)) (v w : Option (List Saved)) (f : LiveFault)
-    → request_of (said_in line) ≡ Ok (Some r) → k ≡ kind_of r → Does old new r a p q v w
-    → IsSent {U = Next} o n (told_text counts new k ++ answer_text a) (Err f)
+    → request_of (values_in line) ≡ Ok (Some r) → k ≡ kind_of r → Does old new r a p q v w
+    → IsWritten {U = Next} o n (preamble counts new k ++ answer_text a) (Err f)
     → StopsLine counts line old (around o p v) (around n q w) f
 request_unsent counts line old new r a k o n p q v w (fault.Answers m) e kind_is d sent =
-    let told : told_text counts new k ≡ told_of counts old r a =
-    ap (told_text counts new) kind_is ∙ same_told counts old new r a d.session in
+    let reported : preamble counts new k ≡ preamble_of counts old r a =
+    ap (preamble counts new) kind_is ∙ same_reported counts old new r a d.session in
     let S : List ℕ → Type 0 = λ xs. (m ≤ length (xs ++ answer_text a)) × Appends o n (take m (xs ++ answer_text a)) in
-    let T : Asked → Type 0 = λ x. S (answered x (Some a) (told_of counts old)) in
-    let both : T (request_of (said_in line)) = subst T (sym e) (subst S told sent) in
+    let T : RequestResult → Type 0 = λ x. S (answered x (Some a) (preamble_of counts old)) in
+    let both : T (request_of (values_in line)) = subst T (sym e) (subst S reported sent) in
     record {
       turn = turn_of line old (Some a) new;
       said = refl;
       begins = refl;
       stops = record {
-        is = subst (λ (x : Asked). LineIs x old (Some a) new) (sym e) (inl d.session);
+        is = subst (λ (x : RequestResult). LineIs x old (Some a) new) (sym e) (inl d.session);
         within = both.0;
         answers = both.1;
         pcm =
-            subst (λ (x : Asked). Appends p q (flat_map sample_bytes (answered x (Some a) (frames_of old)))) (sym e)
+            subst (λ (x : RequestResult). Appends p q (flat_map sample_bytes (answered x (Some a) (frames_of old)))) (sym e)
             d.frames;
-        saved = subst (λ (x : Asked). Adds v w (answered x (Some a) (saves_of old))) (sym e) d.saves;
+        saved = subst (λ (x : RequestResult). Adds v w (answered x (Some a) (saves_of old))) (sym e) d.saves;
       };
     }
 request_unsent counts line old new r a k o n p q v w (fault.File g) e kind_is d sent = absurd sent
@@ -276,10 +276,10 @@ request_unsent counts line old new r a k o n p q v w fault.Memory e kind_is d se
 request_unsent counts line old new r a k o n p q v w fault.Input e kind_is d sent = absurd sent
 request_unsent counts line old new r a k o n p q v w (fault.Pcm m) e kind_is d sent = absurd sent
 
-pub request_answered : (counts : Counts) (line : List ℕ) (old new : Live) (r : Request) (a : Answer) (k : Kind)
+pub request_answered : (counts : Counts) (line : List ℕ) (old new : LiveState) (r : Request) (a : Answer) (k : RequestKind)
     (o n p q : Option (List ℕ)) (v w : Option (List Saved)) (result : Result Next LiveFault)
-    → request_of (said_in line) ≡ Ok (Some r) → k ≡ kind_of r → Does old new r a p q v w
-    → IsSent o n (told_text counts new k ++ answer_text a) result → IfOk result (λ (x : Next). x ≡ next_of k)
+    → request_of (values_in line) ≡ Ok (Some r) → k ≡ kind_of r → Does old new r a p q v w
+    → IsWritten o n (preamble counts new k ++ answer_text a) result → IfOk result (λ (x : Next). x ≡ next_of k)
     → AnswersOr counts line old new (around o p v) (around n q w) result
 request_answered counts line old new r a k o n p q v w (Ok x) e kind_is d sent next_is =
     request_told counts line old new r a k x o n p q v w e kind_is next_is d sent
@@ -291,14 +291,14 @@ abbrev IsOfFrames : LiveFault → Type 0
 IsOfFrames (fault.Pcm n) = Unit {0}
 IsOfFrames other = ⊥
 
-of_frames : (old : Live) (n : ℕ) (p q : Option (List ℕ)) (f : LiveFault) → FramesStop old n p q f → IsOfFrames f
+of_frames : (old : LiveState) (n : ℕ) (p q : Option (List ℕ)) (f : LiveFault) → FramesStop old n p q f → IsOfFrames f
 of_frames old n p q (fault.Pcm k) h = tt
 of_frames old n p q (fault.File g) h = h
 of_frames old n p q fault.Memory h = h
 of_frames old n p q fault.Input h = h
 of_frames old n p q (fault.Answers k) h = h
 
-only_frames : (old : Live) (r : Request) (p q : Option (List ℕ)) (v w : Option (List Saved)) (f : LiveFault)
+only_frames : (old : LiveState) (r : Request) (p q : Option (List ℕ)) (v w : Option (List Saved)) (f : LiveFault)
     → StopsIn old r p q v w f → IsOfFrames f
 only_frames old (asks.Edit e) p q v w f h = absurd h
 only_frames old (asks.Neutral e) p q v w f h = absurd h
@@ -311,9 +311,9 @@ only_frames old asks.Show p q v w f h = absurd h
 only_frames old asks.Help p q v w f h = absurd h
 only_frames old asks.Quit p q v w f h = absurd h
 
-pub request_stopped : (counts : Counts) (line : List ℕ) (old : Live) (r : Request) (o p q : Option (List ℕ))
+pub request_stopped : (counts : Counts) (line : List ℕ) (old : LiveState) (r : Request) (o p q : Option (List ℕ))
     (v w : Option (List Saved)) (f : LiveFault)
-    → request_of (said_in line) ≡ Ok (Some r) → StopsIn old r p q v w f
+    → request_of (values_in line) ≡ Ok (Some r) → StopsIn old r p q v w f
     → StopsLine counts line old (around o p v) (around o q w) f
 request_stopped counts line old r o p q v w (fault.Pcm n) e h = record {
   turn = turn_of line old None old;

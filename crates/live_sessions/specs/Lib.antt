@@ -1,5 +1,5 @@
 pub use Rattle.bank_format.specs.Canon
-pub use Rattle.bank_format.specs.ReadSteps
+pub use Rattle.bank_format.specs.ReadChecks
 pub use Rattle.show_listing.specs.Listing
 pub use Rattle.edit_script.specs.Printing
 pub use Rattle.inverse_edits.specs.Histories
@@ -7,7 +7,7 @@ pub use Rattle.live_lines.specs.Requests
 pub use Rattle.live_lines.specs.Answers
 pub use Rattle.mixer.specs.Events
 pub mod Saved
-pub mod Telling
+pub mod AnswerTexts
 pub mod Steps
 pub mod Turns
 pub mod Runs

@@ -6,17 +6,17 @@ use Rattle.std.specs.declared.io.ErrorKind.TheVariants.{OutOfMemory}
 use Rattle.std.specs.Io as io
 use Rattle.std.specs.Io.KnownBytes.{Consumes, IsAtEnd}
 use Rattle.script_tokens.specs.Lines.{lines_of}
-use Rattle.live_sessions.specs.Telling.{is_last}
+use Rattle.live_sessions.specs.AnswerTexts.{is_last}
 use Rattle.bank_parts.specs.declared.parts.Parts.{Parts}
 use Rattle.bank_format.specs.declared.fault.Counts.{Counts}
-use Rattle.bank_format.specs.ReadSteps.{ReadsAs, fault_of}
+use Rattle.bank_format.specs.ReadChecks.{ReadsAs, fault_of}
 use Rattle.live_sessions.specs.declared.fault.LiveFault.{LiveFault}
 use Rattle.live_sessions.specs.declared.fault.LiveFault.TheVariants as fault
-use Rattle.live_sessions.specs.declared.live.Live.{Live}
+use Rattle.live_sessions.specs.declared.live.LiveState.{LiveState}
 use Rattle.live_sessions.specs.declared.requests.Next.{Next}
 use Rattle.live_sessions.specs.declared.requests.Next.TheVariants as next
 use Rattle.live_sessions.specs.Steps.{started_with}
-use Rattle.live_sessions.specs.Turns.{Turn, Around, Reads, Passes, Passed, StopsAt, ends_in}
+use Rattle.live_sessions.specs.Turns.{Turn, Streams, Reads, Passes, Passed, StopsAt, ends_in}
 
 -- ---- the last line
 
@@ -25,13 +25,13 @@ abbrev pub line_feed : ℕ
 line_feed = 10
 
 -- nothing was written, and no line was answered
-pub record OnlyReads (between new : Around) : Type 0 where
+pub record OnlyReads (between new : Streams) : Type 0 where
   pub answers : new.answers ≡ between.answers
   pub pcm : new.pcm ≡ between.pcm
   pub saved : new.saved ≡ between.saved
 
 -- a line ends the session
-pub record Quits (counts : Counts) (last : Live) (between new : Around) : Type 0 where
+pub record Quits (counts : Counts) (last : LiveState) (between new : Streams) : Type 0 where
   pub turn : Turn
   pub begins : turn.old ≡ last
   pub input : Reads between.input new.input (turn.line ∷ [])
@@ -39,14 +39,14 @@ pub record Quits (counts : Counts) (last : Live) (between new : Around) : Type 0
   pub ends : ends_in turn ≡ true
 
 -- a writer fails at a line
-pub record Stops (counts : Counts) (last : Live) (between new : Around) (why : LiveFault) : Type 0 where
+pub record Stops (counts : Counts) (last : LiveState) (between new : Streams) (why : LiveFault) : Type 0 where
   pub turn : Turn
   pub begins : turn.old ≡ last
   pub input : Reads between.input new.input (turn.line ∷ [])
   pub stops : StopsAt counts turn between new why
 
 -- the input is at its end, or a line ends the session
-abbrev pub EndsWell : Counts → Live → Around → Around → Type 0
+abbrev pub EndsWell : Counts → LiveState → Streams → Streams → Type 0
 EndsWell counts last between new = (IsAtEnd between.input × OnlyReads between new) ⊎ Quits counts last between new
 
 -- A part of one line was read of known bytes, or all of it: only the last of these bytes can be a line feed.
@@ -54,13 +54,13 @@ abbrev pub ReadsPart : Option (List ℕ) → Option (List ℕ) → Type 0
 ReadsPart old new = (bytes : List ℕ) × Consumes old new bytes × io.StopsAt bytes line_feed
 
 -- no further line could be read, for this reason, and nothing was written
-pub record Unread (between new : Around) (failure : Option ErrorKind) (why : ErrorKind → Type 0) : Type 0 where
+pub record Unread (between new : Streams) (failure : Option ErrorKind) (why : ErrorKind → Type 0) : Type 0 where
   pub failed : IsSomeAnd failure why
   pub part : ReadsPart between.input new.input
   pub only : OnlyReads between new
 
 -- the end, or the fault: the last read failed by a failed allocation or for another reason, or a writer failed
-abbrev pub EndsBy : Counts → Live → Around → Around → Option ErrorKind → Result (Unit {0}) LiveFault → Type 0
+abbrev pub EndsBy : Counts → LiveState → Streams → Streams → Option ErrorKind → Result (Unit {0}) LiveFault → Type 0
 EndsBy counts last between new failure (Ok u) = EndsWell counts last between new
 EndsBy counts last between new failure (Err (fault.File f)) = ⊥
 EndsBy counts last between new failure (Err fault.Memory) = Unread between new failure (λ kind. kind ≡ OutOfMemory)
@@ -73,23 +73,23 @@ abbrev pub most_lines : ℕ
 most_lines = 2 ^ 64 - 1
 
 -- the most lines were answered, and nothing is read after them
-abbrev pub IsFull : List Turn → Around → Around → Result (Unit {0}) LiveFault → Type 0
+abbrev pub IsFull : List Turn → Streams → Streams → Result (Unit {0}) LiveFault → Type 0
 IsFull turns between new (Err fault.Input) = (length turns ≡ most_lines) × (new ≡ between)
 IsFull turns between new other = ⊥
 
 -- ---- the whole session
 
 -- lines were answered, and then the session ended
-pub record Plays (counts : Counts) (first : Live) (old new : Around) (failure : Option ErrorKind)
+pub record Plays (counts : Counts) (first : LiveState) (old new : Streams) (failure : Option ErrorKind)
     (r : Result (Unit {0}) LiveFault) : Type 0 where
   pub turns : List Turn
-  pub last : Live
-  pub between : Around
+  pub last : LiveState
+  pub between : Streams
   pub passed : Passed counts first turns last old between
   pub end : EndsBy counts last between new failure r ⊎ IsFull turns between new r
 
 -- the file is read as a bank, with which the session begins
-pub record PlaysBank (file : List ℕ) (old new : Around) (failure : Option ErrorKind) (r : Result (Unit {0}) LiveFault)
+pub record PlaysBank (file : List ℕ) (old new : Streams) (failure : Option ErrorKind) (r : Result (Unit {0}) LiveFault)
     : Type 0 where
   pub bank : Parts
   pub counts : Counts
@@ -97,12 +97,12 @@ pub record PlaysBank (file : List ℕ) (old new : Around) (failure : Option Erro
   pub plays : Plays counts (started_with bank) old new failure r
 
 -- nothing was read of the input, and nothing was written
-abbrev pub IsUntouched : Around → Around → Type 0
+abbrev pub IsUntouched : Streams → Streams → Type 0
 IsUntouched old new = (new.input ≡ old.input) × OnlyReads old new
 
 -- The result of a session. If its file is no bank, or an allocation fails while reading it, nothing is read of the
 -- input and nothing is written. `failure` is why the last read of the input failed, if it did.
-abbrev pub Runs : List ℕ → Around → Around → Option ErrorKind → Result (Unit {0}) LiveFault → Type 0
+abbrev pub Runs : List ℕ → Streams → Streams → Option ErrorKind → Result (Unit {0}) LiveFault → Type 0
 Runs file old new failure (Ok u) = PlaysBank file old new failure (Ok u)
 Runs file old new failure (Err (fault.File f)) = (fault_of file ≡ Some f) × IsUntouched old new
 Runs file old new failure (Err fault.Memory) = IsUntouched old new ⊎ PlaysBank file old new failure (Err fault.Memory)
@@ -113,7 +113,7 @@ Runs file old new failure (Err (fault.Pcm n)) = PlaysBank file old new failure (
 -- ---- one line of a session
 
 -- this line is answered; whether it ends the session
-pub record Answers (counts : Counts) (line : List ℕ) (live live_new : Live) (old new : Around) (ending : Bool) : Type
+pub record Answers (counts : Counts) (line : List ℕ) (live live_new : LiveState) (old new : Streams) (ending : Bool) : Type
     0 where
   pub turn : Turn
   pub said : turn.line ≡ line
@@ -123,24 +123,24 @@ pub record Answers (counts : Counts) (line : List ℕ) (live live_new : Live) (o
   pub ends : ends_in turn ≡ ending
 
 -- a writer fails at this line
-pub record StopsLine (counts : Counts) (line : List ℕ) (live : Live) (old new : Around) (why : LiveFault) : Type 0 where
+pub record StopsLine (counts : Counts) (line : List ℕ) (live : LiveState) (old new : Streams) (why : LiveFault) : Type 0 where
   pub turn : Turn
   pub said : turn.line ≡ line
   pub begins : turn.old ≡ live
   pub stops : StopsAt counts turn old new why
 
-abbrev pub AnswersOr : Counts → List ℕ → Live → Live → Around → Around → Result Next LiveFault → Type 0
+abbrev pub AnswersOr : Counts → List ℕ → LiveState → LiveState → Streams → Streams → Result Next LiveFault → Type 0
 AnswersOr counts line live live_new old new (Ok n) = Answers counts line live live_new old new (is_last n)
 AnswersOr counts line live live_new old new (Err why) = StopsLine counts line live old new why
 
 -- the line was read before it was answered
-pub record GoesOn (counts : Counts) (live live_new : Live) (old new : Around) : Type 0 where
+pub record GoesOn (counts : Counts) (live live_new : LiveState) (old new : Streams) : Type 0 where
   pub line : List ℕ
   pub input : Reads old.input new.input (line ∷ [])
   pub answers : Answers counts line live live_new old new false
 
 -- the result of the next line
-abbrev pub Goes : Counts → Live → Live → Around → Around → Option ErrorKind → Result Next LiveFault → Type 0
+abbrev pub Goes : Counts → LiveState → LiveState → Streams → Streams → Option ErrorKind → Result Next LiveFault → Type 0
 Goes counts live live_new old new failure (Ok next.Line) = GoesOn counts live live_new old new
 Goes counts live live_new old new failure (Ok next.End) = EndsWell counts live old new
 Goes counts live live_new old new failure (Err why) = EndsBy counts live old new failure (Err why)

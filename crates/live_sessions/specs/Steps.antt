@@ -7,11 +7,11 @@ use Rattle.std.specs.Option.{option_map_or}
 use Rattle.bank_parts.specs.declared.parts.Parts.{Parts}
 use Rattle.bank_format.specs.declared.fault.Counts.{Counts}
 use Rattle.edit_forms.specs.declared.edit.Edit.{Edit}
-use Rattle.inverse_edits.specs.Histories.{IsHistory, bank_now, begun, IsEdited, IsRefusalNow, IsForth, IsUndoFailure}
-use Rattle.inverse_edits.specs.Histories.{IsRedoFailure, way_back}
+use Rattle.inverse_edits.specs.Histories.{IsHistory, bank_now, new_history, IsEdited, IsRefusalNow, MovesForward, IsUndoFailure}
+use Rattle.inverse_edits.specs.Histories.{IsRedoFailure, undo_edits}
 use Rattle.sound_neutral_edits.specs.Neutral.{is_neutral}
 use Rattle.script_notes.specs.Notes.{Numbers}
-use Rattle.mixer.specs.Heard.{fresh}
+use Rattle.mixer.specs.StartFrames.{note_voices}
 use Rattle.mixer.specs.Events.{Event, Edited, Started, Given, after_start, after_block, block}
 use Rattle.live_lines.specs.declared.answer.Answer.{Answer}
 use Rattle.live_lines.specs.declared.answer.Answer.TheVariants as answer
@@ -20,83 +20,83 @@ use Rattle.live_lines.specs.declared.request.Request.TheVariants as asks
 use Rattle.live_lines.specs.declared.request.TheConstants.{MOST_FRAMES}
 use Rattle.live_lines.specs.declared.help.TheConstants.{HELP}
 use Rattle.live_lines.specs.declared.paths.Paths.{Paths}
-use Rattle.live_sessions.specs.declared.live.Live.{Live}
+use Rattle.live_sessions.specs.declared.live.LiveState.{LiveState}
 use Rattle.wave_file.specs.Wave.{sample_bytes}
 use Rattle.live_sessions.specs.declared.fault.LiveFault.{LiveFault}
 use Rattle.live_sessions.specs.declared.fault.LiveFault.TheVariants as fault
 use Rattle.live_sessions.specs.Saved.{Saved, Adds, saved_of}
-use Rattle.live_sessions.specs.Telling.{bank_told}
+use Rattle.live_sessions.specs.AnswerTexts.{listing_now}
 
 -- a new session with a bank: no edit, no voice and no frame yet
-abbrev pub started_with : Parts → Live
-started_with b = record { session = begun b; player = []; given = 0 }
+abbrev pub started_with : Parts → LiveState
+started_with b = record { session = new_history b; player = []; given = 0 }
 
 -- ---- the session after a request
 
 -- the player and the count of frames are unchanged
-pub record OnlyTheBank (old new : Live) : Type 0 where
+pub record OnlyTheBank (old new : LiveState) : Type 0 where
   pub player : new.player ≡ old.player
   pub given : new.given ≡ old.given
 
 -- the bank accepts the edit, or refuses it and nothing changes
-abbrev pub EditIs : Live → Edit → Answer → Live → Type 0
+abbrev pub EditIs : LiveState → Edit → Answer → LiveState → Type 0
 EditIs old e answer.Done new = IsEdited old.session new.session e × OnlyTheBank old new
 EditIs old e (answer.Refused why) new = IsRefusalNow old.session e why × (new ≡ old)
 EditIs old e other new = ⊥
 
 -- an edit that is not neutral is refused; a neutral edit is done as any edit
-abbrev pub NeutralIs : Live → Edit → Answer → Live → Type 0
+abbrev pub NeutralIs : LiveState → Edit → Answer → LiveState → Type 0
 NeutralIs old e answer.NotNeutral new = (is_neutral e ≡ false) × (new ≡ old)
 NeutralIs old e other new = (is_neutral e ≡ true) × EditIs old e other new
 
 -- the bank before the last edit
-abbrev pub UndoIs : Live → Answer → Live → Type 0
-UndoIs old answer.Done new = IsForth new.session old.session × OnlyTheBank old new
+abbrev pub UndoIs : LiveState → Answer → LiveState → Type 0
+UndoIs old answer.Done new = MovesForward new.session old.session × OnlyTheBank old new
 UndoIs old (answer.Refused why) new = IsUndoFailure old.session why × (new ≡ old)
 UndoIs old other new = ⊥
 
 -- the bank after the edit undone last
-abbrev pub RedoIs : Live → Answer → Live → Type 0
-RedoIs old answer.Done new = IsForth old.session new.session × OnlyTheBank old new
+abbrev pub RedoIs : LiveState → Answer → LiveState → Type 0
+RedoIs old answer.Done new = MovesForward old.session new.session × OnlyTheBank old new
 RedoIs old (answer.Refused why) new = IsRedoFailure old.session why × (new ≡ old)
 RedoIs old other new = ⊥
 
 -- a note starts all its voices on the current bank, at the next frame; their count saturates
-pub record StartsVoices (old : Live) (n : Numbers) (voices : ℕ) (new : Live) : Type 0 where
+pub record StartsVoices (old : LiveState) (n : Numbers) (voices : ℕ) (new : LiveState) : Type 0 where
   pub bank : Parts
   pub here : bank_now old.session ≡ Some bank
-  pub counted : voices ≡ min (length (fresh bank n)) (2 ^ 64 - 1)
-  pub plays : new ≡ record old { player = after_start old.player (fresh bank n) }
+  pub counted : voices ≡ min (length (note_voices bank n)) (2 ^ 64 - 1)
+  pub plays : new ≡ record old { player = after_start old.player (note_voices bank n) }
 
-abbrev pub NoteIs : Live → Numbers → Answer → Live → Type 0
+abbrev pub NoteIs : LiveState → Numbers → Answer → LiveState → Type 0
 NoteIs old n (answer.Started voices) new = StartsVoices old n voices new
 NoteIs old n answer.OutOfMemory new = new ≡ old
 NoteIs old n other new = ⊥
 
 -- the session after `m` frames
-abbrev pub after_frames : Live → ℕ → Live
+abbrev pub after_frames : LiveState → ℕ → LiveState
 after_frames old m = record { session = old.session; player = after_block old.player m; given = old.given + m }
 
-abbrev pub FramesAre : Live → ℕ → Answer → Live → Type 0
+abbrev pub FramesAre : LiveState → ℕ → Answer → LiveState → Type 0
 FramesAre old m answer.Done new = (old.given + m ≤ MOST_FRAMES) × (new ≡ after_frames old m)
 FramesAre old m answer.TooManyFrames new = (MOST_FRAMES < old.given + m) × (new ≡ old)
 FramesAre old m other new = ⊥
 
 -- A save never changes the session. The saved script undoes the history; a write fault or a rejected output has one of
 -- the paths.
-abbrev pub SaveIs : Live → Paths → Answer → Live → Type 0
+abbrev pub SaveIs : LiveState → Paths → Answer → LiveState → Type 0
 SaveIs old paths answer.Done new = IsHistory old.session × (new ≡ old)
 SaveIs old paths answer.OutOfMemory new = new ≡ old
 SaveIs old paths (answer.WriteFault path written) new = ((path ≡ paths.out) ⊎ (path ≡ paths.undo)) × (new ≡ old)
 SaveIs old paths (answer.Rejected path fault) new = ((path ≡ paths.out) ⊎ (path ≡ paths.undo)) × (new ≡ old)
 SaveIs old paths other new = ⊥
 
-abbrev pub TellIs : Live → Answer → Live → Type 0
-TellIs old answer.Done new = new ≡ old
-TellIs old other new = ⊥
+abbrev pub ShowIs : LiveState → Answer → LiveState → Type 0
+ShowIs old answer.Done new = new ≡ old
+ShowIs old other new = ⊥
 
 -- the answer to a request, and the session after it
-abbrev pub RequestIs : Live → Request → Answer → Live → Type 0
+abbrev pub RequestIs : LiveState → Request → Answer → LiveState → Type 0
 RequestIs old (asks.Edit e) a new = EditIs old e a new
 RequestIs old (asks.Neutral e) a new = NeutralIs old e a new
 RequestIs old asks.Undo a new = UndoIs old a new
@@ -104,14 +104,14 @@ RequestIs old asks.Redo a new = RedoIs old a new
 RequestIs old (asks.Note n) a new = NoteIs old n a new
 RequestIs old (asks.Frames m) a new = FramesAre old m a new
 RequestIs old (asks.Save paths) a new = SaveIs old paths a new
-RequestIs old asks.Show a new = TellIs old a new
-RequestIs old asks.Help a new = TellIs old a new
-RequestIs old asks.Quit a new = TellIs old a new
+RequestIs old asks.Show a new = ShowIs old a new
+RequestIs old asks.Help a new = ShowIs old a new
+RequestIs old asks.Quit a new = ShowIs old a new
 
 -- ---- what a request writes
 
 -- the bank after an edit, an undo or a redo that is done
-abbrev pub if_edited : Answer → Live → List Event
+abbrev pub if_edited : Answer → LiveState → List Event
 if_edited answer.Done new = option_map_or (λ (b : Parts). Edited b ∷ []) (bank_now new.session) []
 if_edited other new = []
 
@@ -124,7 +124,7 @@ if_given m answer.Done = Given m ∷ []
 if_given m other = []
 
 -- the events of a request for the player
-abbrev pub events_of : Request → Answer → Live → List Event
+abbrev pub events_of : Request → Answer → LiveState → List Event
 events_of (asks.Edit e) a new = if_edited a new
 events_of (asks.Neutral e) a new = if_edited a new
 events_of asks.Undo a new = if_edited a new
@@ -136,34 +136,34 @@ events_of asks.Show a new = []
 events_of asks.Help a new = []
 events_of asks.Quit a new = []
 
-abbrev pub block_if : Live → ℕ → Answer → List ℤ
+abbrev pub block_if : LiveState → ℕ → Answer → List ℤ
 block_if old m answer.Done = block old.player m
 block_if old m other = []
 
 -- the frames of a request, left and right samples in turn
-abbrev pub frames_of : Live → Request → Answer → List ℤ
+abbrev pub frames_of : LiveState → Request → Answer → List ℤ
 frames_of old (asks.Frames m) a = block_if old m a
 frames_of old other a = []
 
-abbrev pub saves_if : Live → Answer → List Saved
+abbrev pub saves_if : LiveState → Answer → List Saved
 saves_if old answer.Done =
-    option_map_or (λ (b : Parts). saved_of b (way_back old.session) ∷ []) (bank_now old.session) []
+    option_map_or (λ (b : Parts). saved_of b (undo_edits old.session) ∷ []) (bank_now old.session) []
 saves_if old other = []
 
 -- what a request saves: the current bank and its undo script
-abbrev pub saves_of : Live → Request → Answer → List Saved
+abbrev pub saves_of : LiveState → Request → Answer → List Saved
 saves_of old (asks.Save paths) a = saves_if old a
 saves_of old other a = []
 
-abbrev pub told_if : Answer → List ℕ → List ℕ
-told_if answer.Done text = text
-told_if other text = []
+abbrev pub preamble_if : Answer → List ℕ → List ℕ
+preamble_if answer.Done text = text
+preamble_if other text = []
 
 -- the text before the answer: the listing of the current bank, or the help
-abbrev pub told_of : Counts → Live → Request → Answer → List ℕ
-told_of counts old asks.Show a = told_if a (bank_told counts old)
-told_of counts old asks.Help a = told_if a HELP.now
-told_of counts old other a = []
+abbrev pub preamble_of : Counts → LiveState → Request → Answer → List ℕ
+preamble_of counts old asks.Show a = preamble_if a (listing_now counts old)
+preamble_of counts old asks.Help a = preamble_if a HELP.now
+preamble_of counts old other a = []
 
 abbrev pub is_done : Answer → Bool
 is_done answer.Done = true
@@ -177,7 +177,7 @@ is_end other a = false
 -- ---- one request that is done
 
 -- the session after it, the frames written, and what was saved
-pub record Does (old new : Live) (r : Request) (a : Answer) (pcm pcm_new : Option (List ℕ))
+pub record Does (old new : LiveState) (r : Request) (a : Answer) (pcm pcm_new : Option (List ℕ))
     (saved saved_new : Option (List Saved)) : Type 0 where
   pub session : RequestIs old r a new
   pub frames : Appends pcm pcm_new (flat_map sample_bytes (frames_of old r a))
@@ -185,19 +185,19 @@ pub record Does (old new : Live) (r : Request) (a : Answer) (pcm pcm_new : Optio
 
 -- The writer failed after a prefix of these frames. The fault counts the bytes of all frames of the session so far,
 -- saturating.
-pub record StopsInFrames (old : Live) (count : ℕ) (pcm pcm_new : Option (List ℕ)) (written : ℕ) : Type 0 where
+pub record StopsInFrames (old : LiveState) (count : ℕ) (pcm pcm_new : Option (List ℕ)) (written : ℕ) : Type 0 where
   pub within : old.given + count ≤ MOST_FRAMES
   pub part : ℕ
   pub counted : written ≡ min (4 * old.given + part) (2 ^ 64 - 1)
   pub front : part ≤ length (flat_map sample_bytes (block old.player count))
   pub out : Appends pcm pcm_new (take part (flat_map sample_bytes (block old.player count)))
 
-abbrev pub FramesStop : Live → ℕ → Option (List ℕ) → Option (List ℕ) → LiveFault → Type 0
+abbrev pub FramesStop : LiveState → ℕ → Option (List ℕ) → Option (List ℕ) → LiveFault → Type 0
 FramesStop old count pcm pcm_new (fault.Pcm written) = StopsInFrames old count pcm pcm_new written
 FramesStop old count pcm pcm_new other = ⊥
 
 -- only a request for frames stops midway, and nothing was saved
-abbrev pub StopsIn : Live → Request → Option (List ℕ) → Option (List ℕ) → Option (List Saved) → Option (List Saved)
+abbrev pub StopsIn : LiveState → Request → Option (List ℕ) → Option (List ℕ) → Option (List Saved) → Option (List Saved)
     → LiveFault → Type 0
 StopsIn old (asks.Frames count) pcm pcm_new saved saved_new why =
     FramesStop old count pcm pcm_new why × Adds saved saved_new []

@@ -5,7 +5,7 @@ use Rattle.std.specs.List.{flat_map, list_any}
 use Rattle.std.specs.Option.{option_map_or}
 use Rattle.std.specs.Io.KnownBytes.{Appends}
 use Rattle.script_tokens.specs.Lines.{lines_of}
-use Rattle.script_tokens.specs.Said.{said_in}
+use Rattle.script_tokens.specs.TokenValue.{values_in}
 use Rattle.bank_format.specs.declared.fault.Counts.{Counts}
 use Rattle.mixer.specs.Events.{Event}
 use Rattle.wave_file.specs.Wave.{sample_bytes}
@@ -15,104 +15,104 @@ use Rattle.live_lines.specs.declared.fault.RequestFault.{RequestFault}
 use Rattle.live_lines.specs.declared.request.Request.{Request}
 use Rattle.live_lines.specs.Requests.{request_of}
 use Rattle.live_lines.specs.Answers.{answer_text}
-use Rattle.live_sessions.specs.declared.live.Live.{Live}
+use Rattle.live_sessions.specs.declared.live.LiveState.{LiveState}
 use Rattle.live_sessions.specs.declared.fault.LiveFault.{LiveFault}
 use Rattle.live_sessions.specs.declared.fault.LiveFault.TheVariants as fault
 use Rattle.live_sessions.specs.Saved.{Saved, Adds}
-use Rattle.live_sessions.specs.Steps.{RequestIs, StopsIn, events_of, frames_of, saves_of, told_of, is_end}
+use Rattle.live_sessions.specs.Steps.{RequestIs, StopsIn, events_of, frames_of, saves_of, preamble_of, is_end}
 
 -- ---- one line
 
 -- the request of a line, or its fault
-abbrev pub Asked : Type 0
-Asked = Result (Option Request) RequestFault
+abbrev pub RequestResult : Type 0
+RequestResult = Result (Option Request) RequestFault
 
 -- a request is answered, or a fault is reported
-abbrev pub AnswerIs : Asked → Live → Answer → Live → Type 0
+abbrev pub AnswerIs : RequestResult → LiveState → Answer → LiveState → Type 0
 AnswerIs (Ok None) old a new = ⊥
 AnswerIs (Ok (Some r)) old a new = RequestIs old r a new
 AnswerIs (Err f) old a new = (a ≡ answer.Fault f) × (new ≡ old)
 
 -- A line without a request has no answer. Any answer may be replaced by out of memory, and nothing changes.
-abbrev pub LineIs : Asked → Live → Option Answer → Live → Type 0
+abbrev pub LineIs : RequestResult → LiveState → Option Answer → LiveState → Type 0
 LineIs asks old None new = (asks ≡ Ok None) × (new ≡ old)
 LineIs asks old (Some a) new = AnswerIs asks old a new ⊎ ((a ≡ answer.OutOfMemory) × (new ≡ old))
 
 -- a line without its line feed, the session before it and after it, and its answer
 pub record Turn : Type 0 where
   pub line : List ℕ
-  pub old : Live
+  pub old : LiveState
   pub answer : Option Answer
-  pub new : Live
+  pub new : LiveState
 
-abbrev pub asked : Turn → Asked
-asked t = request_of (said_in t.line)
+abbrev pub request_in : Turn → RequestResult
+request_in t = request_of (values_in t.line)
 
 -- ---- what a line writes
 
 -- what a request with this answer writes
-abbrev pub answered : {X : Type 0} → Asked → Option Answer → (Request → Answer → List X) → List X
+abbrev pub answered : {X : Type 0} → RequestResult → Option Answer → (Request → Answer → List X) → List X
 answered (Ok (Some r)) (Some a) f = f r a
 answered asks a f = []
 
 abbrev pub events_in : Turn → List Event
-events_in t = answered (asked t) t.answer (λ r a. events_of r a t.new)
+events_in t = answered (request_in t) t.answer (λ r a. events_of r a t.new)
 
 abbrev pub frames_in : Turn → List ℤ
-frames_in t = answered (asked t) t.answer (frames_of t.old)
+frames_in t = answered (request_in t) t.answer (frames_of t.old)
 
 -- the bytes of these frames, each sample little-endian
 abbrev pub bytes_in : Turn → List ℕ
 bytes_in t = flat_map sample_bytes (frames_in t)
 
 abbrev pub saves_in : Turn → List Saved
-saves_in t = answered (asked t) t.answer (saves_of t.old)
+saves_in t = answered (request_in t) t.answer (saves_of t.old)
 
 -- the text before the answer, and the answer
 abbrev pub text_in : Counts → Turn → List ℕ
-text_in counts t = answered (asked t) t.answer (told_of counts t.old) ++ option_map_or answer_text t.answer []
+text_in counts t = answered (request_in t) t.answer (preamble_of counts t.old) ++ option_map_or answer_text t.answer []
 
 -- whether the session ends after a line
-abbrev pub ends : Asked → Option Answer → Bool
+abbrev pub ends : RequestResult → Option Answer → Bool
 ends (Ok (Some r)) (Some a) = is_end r a
 ends asks a = false
 
 abbrev pub ends_in : Turn → Bool
-ends_in t = ends (asked t) t.answer
+ends_in t = ends (request_in t) t.answer
 
 -- ---- the input and the outputs of a session
 
 -- the remaining bytes of its input, the bytes of its writers, and what was saved
-pub record Around : Type 0 where
+pub record Streams : Type 0 where
   pub input : Option (List ℕ)
   pub answers : Option (List ℕ)
   pub pcm : Option (List ℕ)
   pub saved : Option (List Saved)
 
 -- a line is answered, and all that it writes is written
-pub record Passes (counts : Counts) (t : Turn) (old new : Around) : Type 0 where
-  pub is : LineIs (asked t) t.old t.answer t.new
+pub record Passes (counts : Counts) (t : Turn) (old new : Streams) : Type 0 where
+  pub is : LineIs (request_in t) t.old t.answer t.new
   pub answers : Appends old.answers new.answers (text_in counts t)
   pub pcm : Appends old.pcm new.pcm (bytes_in t)
   pub saved : Adds old.saved new.saved (saves_in t)
 
 -- a line is answered, but exactly the first `written` bytes of its text were written, which may be all
-pub record StopsInAnswer (counts : Counts) (t : Turn) (old new : Around) (written : ℕ) : Type 0 where
-  pub is : LineIs (asked t) t.old t.answer t.new
+pub record StopsInAnswer (counts : Counts) (t : Turn) (old new : Streams) (written : ℕ) : Type 0 where
+  pub is : LineIs (request_in t) t.old t.answer t.new
   pub within : written ≤ length (text_in counts t)
   pub answers : Appends old.answers new.answers (take written (text_in counts t))
   pub pcm : Appends old.pcm new.pcm (bytes_in t)
   pub saved : Adds old.saved new.saved (saves_in t)
 
 -- a request stops before its answer
-pub record StopsBefore (t : Turn) (old new : Around) (why : LiveFault) : Type 0 where
+pub record StopsBefore (t : Turn) (old new : Streams) (why : LiveFault) : Type 0 where
   pub request : Request
-  pub is : asked t ≡ Ok (Some request)
+  pub is : request_in t ≡ Ok (Some request)
   pub stops : StopsIn t.old request old.pcm new.pcm old.saved new.saved why
   pub answers : Appends old.answers new.answers []
 
 -- a line at which the session stops
-abbrev pub StopsAt : Counts → Turn → Around → Around → LiveFault → Type 0
+abbrev pub StopsAt : Counts → Turn → Streams → Streams → LiveFault → Type 0
 StopsAt counts t old new (fault.Answers n) = StopsInAnswer counts t old new n
 StopsAt counts t old new (fault.Pcm n) = StopsBefore t old new (fault.Pcm n)
 StopsAt counts t old new other = ⊥
@@ -120,9 +120,9 @@ StopsAt counts t old new other = ⊥
 -- ---- lines in order
 
 -- each line is answered by the session after the lines before it
-abbrev pub AreTurns : Live → List Turn → Live → Type 0
+abbrev pub AreTurns : LiveState → List Turn → LiveState → Type 0
 AreTurns first [] last = last ≡ first
-AreTurns first (t ∷ ts) last = (t.old ≡ first) × LineIs (asked t) t.old t.answer t.new × AreTurns t.new ts last
+AreTurns first (t ∷ ts) last = (t.old ≡ first) × LineIs (request_in t) t.old t.answer t.new × AreTurns t.new ts last
 
 -- these lines were read of known bytes
 abbrev pub Reads : Option (List ℕ) → Option (List ℕ) → List (List ℕ) → Type 0
@@ -131,7 +131,7 @@ Reads (Some bytes) None lines = ⊥
 Reads (Some bytes) (Some left) lines = lines_of bytes ≡ lines ++ lines_of left
 
 -- these lines were read and answered, none ends the session, and all that they write is written
-pub record Passed (counts : Counts) (first : Live) (ts : List Turn) (last : Live) (old new : Around) : Type 0 where
+pub record Passed (counts : Counts) (first : LiveState) (ts : List Turn) (last : LiveState) (old new : Streams) : Type 0 where
   pub turns : AreTurns first ts last
   pub going : list_any ends_in ts ≡ false
   pub input : Reads old.input new.input (map (λ (t : Turn). t.line) ts)

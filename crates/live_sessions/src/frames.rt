@@ -19,7 +19,7 @@ const BLOCK: usize = 2048;
 
 /// Writes the next frames, each sample little-endian, and flushes. A fault has the number of bytes written. Allocates
 /// nothing.
-pub(crate) fn send_frames<P: Write>(
+pub(crate) fn write_frames<P: Write>(
     player: &mut Player<'_>,
     count: u32,
     pcm: &mut P,
@@ -65,7 +65,7 @@ fn put_samples<P: Write>(samples: &[i16], output: &mut Output<'_, P>)
     ensures { Puts P.contents output.old output.new (flat_map sample_bytes samples.now) }
 {
     let mut bytes = [0; 2 * BLOCK];
-    let spelled = &mut bytes[..2 * samples.len()];
-    LittleEndian::write_i16_into(samples, spelled);
-    output.put(spelled);
+    let encoded = &mut bytes[..2 * samples.len()];
+    LittleEndian::write_i16_into(samples, encoded);
+    output.put(encoded);
 }

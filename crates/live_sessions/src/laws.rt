@@ -1,16 +1,16 @@
 //! Laws of sessions.
-ghost use Rattle.live_sessions.specs.Laws.{FramesAreHeard, WaysLeadBack};
+ghost use Rattle.live_sessions.specs.Laws.{FramesFollowEvents, UndoListsLeadBack};
 
 /// The frames that a session writes are those of its events in the order of their lines: the banks after edits, undo
-/// and redo, the notes started and the blocks of frames. With `mixer::cuts_are_free`, frames do not depend on how they
+/// and redo, the notes started and the blocks of frames. With `mixer::splits_are_free`, frames do not depend on how they
 /// are split into blocks. This function does nothing.
-#[tactic(auto, using(crate::proofs::Hearing::frames_are_heard))]
-pub fn frames_are_heard()
-    ensures { FramesAreHeard }
+#[tactic(auto, using(crate::proofs::FrameLaws::frames_follow_events))]
+pub fn frames_follow_events()
+    ensures { FramesFollowEvents }
 {}
 
 /// The bank that a save writes accepts the edits of the undo script that it writes, and they lead to the bank with
 /// which the session began. This function does nothing.
-pub fn saved_ways_lead_back()
-    ensures { WaysLeadBack }
+pub fn saved_undo_leads_back()
+    ensures { UndoListsLeadBack }
 {}

@@ -1,6 +1,6 @@
 //! The state of a session: its bank, its player, and the number of frames written.
 ghost use Rattle.std.specs.Prelude.{◌≡◌, ◌+◌, length, min};
-ghost use Rattle.mixer.specs.Heard.{fresh};
+ghost use Rattle.mixer.specs.StartFrames.{note_voices};
 ghost use Rattle.live_sessions.specs.Steps.{EditIs, NeutralIs, UndoIs, RedoIs, NoteIs, started_with};
 
 use bank_core::Bank;
@@ -14,7 +14,7 @@ use std::alloc::Global;
 use zone_select::matches;
 
 /// The state of a session.
-pub(crate) struct Live<'a> {
+pub(crate) struct LiveState<'a> {
     // First, because of its lists.
     pub(crate) player: Player<'a>,
     pub(crate) session: Session<'a>,
@@ -23,9 +23,9 @@ pub(crate) struct Live<'a> {
 }
 
 // Not derived: a derived drop is inlined, and proved, wherever a value is dropped; this one is a call.
-impl Drop for Live<'_> {
+impl Drop for LiveState<'_> {
     fn drop(self) {
-        let Live {
+        let LiveState {
             player: _,
             session: _,
             given: _,
@@ -33,12 +33,12 @@ impl Drop for Live<'_> {
     }
 }
 
-impl<'a> Live<'a> {
+impl<'a> LiveState<'a> {
     /// A new session with a bank. Allocates nothing.
-    pub(crate) fn new(alloc: Global, bank: Bank<'a>) -> Live<'a>
+    pub(crate) fn new(alloc: Global, bank: Bank<'a>) -> LiveState<'a>
         ensures { result ≡ started_with bank.entry }
     {
-        Live {
+        LiveState {
             player: Player::new(alloc),
             session: Session::new(alloc, bank),
             given: 0,
@@ -99,7 +99,7 @@ impl<'a> Live<'a> {
 
 // The number of voices of a note: one for each pair of zones that match it.
 fn voice_count(bank: &Bank<'_>, note: &Note) -> usize
-    ensures { result ≡ min (length (fresh bank.now note.now)) usize.MAX }
+    ensures { result ≡ min (length (note_voices bank.now note.now)) usize.MAX }
 {
     bank.soundness();
     let mut voices = 0usize;

@@ -5,11 +5,11 @@ ghost use Rattle.std.specs.Io.KnownBytes.{Appends};
 ghost use Rattle.wave_file.specs.Wave.{sample_bytes};
 ghost use Rattle.live_sessions.specs.Saved.{Adds};
 ghost use Rattle.live_sessions.specs.Steps.{FramesAre, FramesStop, SaveIs, Does, StopsIn, block_if, saves_if};
-ghost use Rattle.live_sessions.specs.Telling.{kind_of, next_of};
+ghost use Rattle.live_sessions.specs.AnswerTexts.{kind_of, next_of};
 
 use crate::fault::LiveFault;
-use crate::frames::send_frames;
-use crate::live::Live;
+use crate::frames::write_frames;
+use crate::live::LiveState;
 use crate::saving::{SaveFault, Saves};
 use live_lines::{Answer, MOST_FRAMES, Paths, Request};
 use std::alloc::Global;
@@ -24,7 +24,7 @@ pub(crate) enum Next {
 
 /// The text before the answer to a request, and whether the session ends after it.
 #[derive(Clone, Copy)]
-pub(crate) enum Kind {
+pub(crate) enum RequestKind {
     Plain,
     /// The listing of the bank.
     Show,
@@ -35,31 +35,31 @@ pub(crate) enum Kind {
 }
 
 /// The kind of a request.
-pub(crate) fn kind_of(request: &Request<'_, '_>) -> Kind
+pub(crate) fn kind_of(request: &Request<'_, '_>) -> RequestKind
     ensures { result ≡ kind_of request.now }
 {
     match request {
-        Request::Show => Kind::Show,
-        Request::Help => Kind::Help,
-        Request::Quit => Kind::Quit,
-        _ => Kind::Plain,
+        Request::Show => RequestKind::Show,
+        Request::Help => RequestKind::Help,
+        Request::Quit => RequestKind::Quit,
+        _ => RequestKind::Plain,
     }
 }
 
 /// Whether the session continues after a request of this kind.
-pub(crate) fn next_of(kind: Kind) -> Next
+pub(crate) fn next_of(kind: RequestKind) -> Next
     ensures { result ≡ next_of kind }
 {
     match kind {
-        Kind::Quit => Next::End,
-        Kind::Plain | Kind::Show | Kind::Help => Next::Line,
+        RequestKind::Quit => Next::End,
+        RequestKind::Plain | RequestKind::Show | RequestKind::Help => Next::Line,
     }
 }
 
 /// Does a request, and returns its answer. After a fault of the writer of frames the session's state is unspecified.
 pub(crate) fn do_request<'t, 'a, P: Write, S: Saves>(
     alloc: Global,
-    live: &mut Live<'a>,
+    live: &mut LiveState<'a>,
     request: Request<'t, 'a>,
     pcm: &mut P,
     host: &mut S,
@@ -83,7 +83,7 @@ pub(crate) fn do_request<'t, 'a, P: Write, S: Saves>(
 
 // Writes this many frames, within the limit of a session.
 fn give_frames<P: Write>(
-    live: &mut Live<'_>,
+    live: &mut LiveState<'_>,
     count: u32,
     pcm: &mut P,
 ) -> Result<Answer<'static>, LiveFault>
@@ -95,7 +95,7 @@ fn give_frames<P: Write>(
     if given > u64::from(MOST_FRAMES) {
         return Ok(Answer::TooManyFrames);
     }
-    match send_frames(&mut live.player, count, pcm) {
+    match write_frames(&mut live.player, count, pcm) {
         Ok(_) => {
             live.given = given as u32;
             Ok(Answer::Done)
@@ -108,7 +108,7 @@ fn give_frames<P: Write>(
 }
 
 // Saves the current bank and its undo script.
-fn save<'t, S: Saves>(live: &Live<'_>, paths: Paths<'t>, host: &mut S) -> Answer<'t>
+fn save<'t, S: Saves>(live: &LiveState<'_>, paths: Paths<'t>, host: &mut S) -> Answer<'t>
     ensures answer { SaveIs live.now paths.entry result live.now }
     ensures saved { Adds (S.saved host.old) (S.saved host.new) (saves_if live.now result) }
 {

@@ -2,16 +2,16 @@
 ghost use Rattle.std.specs.Prelude.{◌≡◌, None};
 ghost use Rattle.script_tokens.specs.Lines.{lines_of};
 ghost use Rattle.live_lines.specs.Requests.{HasNoFeed};
-ghost use Rattle.live_sessions.specs.Telling.{told_failure};
+ghost use Rattle.live_sessions.specs.AnswerTexts.{failure_answer};
 ghost use Rattle.live_sessions.specs.Runs.{AnswersOr, Goes, IsFirst, IsReadFault, Plays, Runs};
 
-use crate::asking::ask;
+use crate::answering::write_answer;
 use crate::fault::LiveFault;
 use crate::line_reader::LineReader;
-use crate::live::Live;
-use crate::requests::{Kind, Next, do_request, kind_of};
+use crate::live::LiveState;
+use crate::request_reading::read_request;
+use crate::requests::{Next, RequestKind, do_request, kind_of};
 use crate::saving::Saves;
-use crate::telling::send_answer;
 use bank_format::Counts;
 use live_lines::{Answer, RequestFault};
 use script_tokens::Lines;
@@ -47,14 +47,14 @@ pub fn live_run<R: LineReader, A: Write, P: Write, S: Saves>(
         Err(Failure::Fault(fault)) => return Err(LiveFault::File(fault)),
         Err(Failure::OutOfMemory) => return Err(LiveFault::Memory),
     };
-    let mut live = Live::new(alloc, bank);
+    let mut live = LiveState::new(alloc, bank);
     play(alloc, &mut live, &counts, input, answers, pcm, host)
 }
 
 // Answers lines up to the end.
 fn play<R: LineReader, A: Write, P: Write, S: Saves>(
     alloc: Global,
-    live: &mut Live<'_>,
+    live: &mut LiveState<'_>,
     counts: &Counts,
     input: &mut R,
     answers: &mut A,
@@ -78,7 +78,7 @@ fn play<R: LineReader, A: Write, P: Write, S: Saves>(
 // Reads and answers the next line, if there is one. All lines share one buffer.
 fn take_line<R: LineReader, A: Write, P: Write, S: Saves>(
     alloc: Global,
-    live: &mut Live<'_>,
+    live: &mut LiveState<'_>,
     counts: &Counts,
     line: &mut Vec<u8>,
     input: &mut R,
@@ -128,7 +128,7 @@ fn first_line(text: &[u8]) -> &[u8]
 // Answers a line.
 fn answer_line<'a, A: Write, P: Write, S: Saves>(
     alloc: Global,
-    live: &mut Live<'a>,
+    live: &mut LiveState<'a>,
     counts: &Counts,
     line: &[u8],
     answers: &mut A,
@@ -140,22 +140,28 @@ fn answer_line<'a, A: Write, P: Write, S: Saves>(
         (record { input = None; answers = A.contents answers.old; pcm = P.contents pcm.old; saved = S.saved host.old })
         (record { input = None; answers = A.contents answers.new; pcm = P.contents pcm.new; saved = S.saved host.new }) result }
 {
-    match ask(alloc, line) {
+    match read_request(alloc, line) {
         Ok(Some(request)) => {
             let kind = kind_of(&request);
             match do_request(alloc, live, request, pcm, host) {
-                Ok(answer) => send_answer(live, counts, kind, &answer, answers),
+                Ok(answer) => write_answer(live, counts, kind, &answer, answers),
                 Err(fault) => Err(fault),
             }
         }
         Ok(None) => Ok(Next::Line),
-        Err(failure) => send_answer(live, counts, Kind::Plain, &told(failure), answers),
+        Err(failure) => write_answer(
+            live,
+            counts,
+            RequestKind::Plain,
+            &reported(failure),
+            answers,
+        ),
     }
 }
 
 // The answer to a line with a fault or a failed allocation.
-fn told(failure: Failure<RequestFault>) -> Answer<'static>
-    ensures { result ≡ told_failure failure }
+fn reported(failure: Failure<RequestFault>) -> Answer<'static>
+    ensures { result ≡ failure_answer failure }
 {
     match failure {
         Failure::Fault(fault) => Answer::Fault(fault),

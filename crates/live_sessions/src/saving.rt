@@ -5,7 +5,7 @@ ghost use Rattle.base_outputs.specs.Output.{Puts};
 ghost use Rattle.live_sessions.specs.Saved.{undo_text};
 ghost use Rattle.live_sessions.specs.Steps.{SaveIs};
 
-use crate::live::Live;
+use crate::live::LiveState;
 use bank_core::Bank;
 use base_outputs::{Output, OutputFault};
 use edit_forms::Edit;

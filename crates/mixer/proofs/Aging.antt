@@ -7,21 +7,21 @@ use Rattle.std.proofs.Math.Seq.{take-add}
 use Rattle.std.proofs.lemmas.Grind.{common_steps}
 use Rattle.voices.specs.Sound.{Live}
 use Rattle.voices.specs.Sound.{snd}
-use Rattle.mixer.specs.declared.playing.Playing.{Playing}
-use Rattle.mixer.specs.Sums.{sum_of}
-use Rattle.mixer.specs.Heard.{is_left}
+use Rattle.mixer.specs.declared.playing.PlayingVoice.{PlayingVoice}
+use Rattle.mixer.specs.Sums.{sum_over}
+use Rattle.mixer.specs.StartFrames.{is_left}
 use Rattle.mixer.specs.Events.{aged, total_at}
 use Rattle.mixer.specs.KeptVoices.{AllYounger}
-use Rattle.mixer.proofs.Sums.{sum_of-append, add_z-zero, add_z-assoc}
+use Rattle.mixer.proofs.Sums.{sum_over-append, add_z-zero, add_z-assoc}
 
 -- the element at the loop's index is unchanged
 pub still : {X : Type 0} (f : X → X) (xs ys : List X) (i : ℕ) (d : X) → i < length xs
     → ys ≡ map f (take i xs) ++ drop i xs → get_or ys i d ≡ get_or xs i d
 still f xs ys i d h e = grind (arith, common_steps)
 
-pub aged_is : (n m : ℕ) (p : Playing) (v : Live) → v ≡ record { value = p.voice.value; age = p.voice.age + m / 2 }
+pub aged_is : (n m : ℕ) (p : PlayingVoice) (v : Live) → v ≡ record { value = p.voice.value; age = p.voice.age + m / 2 }
     → m ≡ n
-    → (let q : Playing = record { voice = v; bank = p.bank; number = p.number } in q) ≡ aged (n / 2) p
+    → (let q : PlayingVoice = record { voice = v; bank = p.bank; number = p.number } in q) ≡ aged (n / 2) p
 unfolding aged
 aged_is n m p v e h =
     λ j.
@@ -38,17 +38,17 @@ aged_is n m p v e h =
       number = p.number;
     }
 
-pub total_more : (xs : List Playing) (i k : ℕ) (d p : Playing) → i < length xs → p ≡ get_or xs i d
+pub total_more : (xs : List PlayingVoice) (i k : ℕ) (d p : PlayingVoice) → i < length xs → p ≡ get_or xs i d
     → total_at (take (i + 1) xs) k ≡ total_at (take i xs) k +ℤ snd p.voice.value (is_left k) (p.voice.age + k / 2)
-unfolding total_at sum_of
+unfolding total_at sum_over
 total_more xs i k d p h e =
-    let f : Playing → ℤ = λ q. snd q.voice.value (is_left k) (q.voice.age + k / 2) in
-    ap (sum_of f) (take_more xs i d h)
-    ∙ sum_of-append f (take i xs) (get_or xs i d ∷ [])
-    ∙ ap (λ (z : ℤ). sum_of f (take i xs) +ℤ z) (add_z-zero (f (get_or xs i d)) ∙ ap f (sym e))
+    let f : PlayingVoice → ℤ = λ q. snd q.voice.value (is_left k) (q.voice.age + k / 2) in
+    ap (sum_over f) (take_more xs i d h)
+    ∙ sum_over-append f (take i xs) (get_or xs i d ∷ [])
+    ∙ ap (λ (z : ℤ). sum_over f (take i xs) +ℤ z) (add_z-zero (f (get_or xs i d)) ∙ ap f (sym e))
 
 pub total_none : (k : ℕ) → total_at [] k ≡ pos 0
-unfolding total_at sum_of
+unfolding total_at sum_over
 total_none k = refl
 
 -- one more voice is added
@@ -72,11 +72,11 @@ part_is : {X : Type 0} (xs ys : List X) (i n : ℕ) → drop i ys ≡ drop i xs
     → take (i + n - i) (drop i ys) ≡ take n (drop i xs)
 part_is xs ys i n e = λ j. take ((let k : i + n - i ≡ n = omega arith in k) j) (e j)
 
-pub young_part : (f : Playing → Playing) (xs ys : List Playing) (i n m : ℕ) → i ≤ length xs
+pub young_part : (f : PlayingVoice → PlayingVoice) (xs ys : List PlayingVoice) (i n m : ℕ) → i ≤ length xs
     → ys ≡ map f (take i xs) ++ drop i xs → AllYounger m xs → AllYounger m (take (i + n - i) (drop i ys))
 young_part f xs ys i n m h e young =
-    let P : List Playing → Type 0 = λ zs. AllYounger m zs in
-    let y : Playing → Type 0 = λ p. p.voice.age < m in
+    let P : List PlayingVoice → Type 0 = λ zs. AllYounger m zs in
+    let y : PlayingVoice → Type 0 = λ p. p.voice.age < m in
     subst P (sym (part_is xs ys i n (back f xs ys i h e))) (All-take y n (drop i xs) (All-drop y i xs young))
 
 -- the list after n more elements
@@ -94,11 +94,11 @@ part_live f xs ys mid i n h e m =
     ∙ sym (append_assoc (map f (take i xs)) (map f (take n (drop i xs))) (drop (i + n) xs))
     ∙ ap (λ l. l ++ drop (i + n) xs) (sym whole)
 
-pub total_part : (f : Playing → Playing) (xs ys : List Playing) (i n k : ℕ) → i ≤ length xs
+pub total_part : (f : PlayingVoice → PlayingVoice) (xs ys : List PlayingVoice) (i n k : ℕ) → i ≤ length xs
     → ys ≡ map f (take i xs) ++ drop i xs
     → total_at (take (i + n) xs) k ≡ total_at (take i xs) k +ℤ total_at (take (i + n - i) (drop i ys)) k
 unfolding total_at
 total_part f xs ys i n k h e =
-    let g : Playing → ℤ = λ q. snd q.voice.value (is_left k) (q.voice.age + k / 2) in
-    ap (sum_of g) (take-add i n xs) ∙ sum_of-append g (take i xs) (take n (drop i xs))
-    ∙ ap (λ l. sum_of g (take i xs) +ℤ sum_of g l) (sym (part_is xs ys i n (back f xs ys i h e)))
+    let g : PlayingVoice → ℤ = λ q. snd q.voice.value (is_left k) (q.voice.age + k / 2) in
+    ap (sum_over g) (take-add i n xs) ∙ sum_over-append g (take i xs) (take n (drop i xs))
+    ∙ ap (λ l. sum_over g (take i xs) +ℤ sum_over g l) (sym (part_is xs ys i n (back f xs ys i h e)))

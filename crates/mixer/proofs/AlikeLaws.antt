@@ -10,53 +10,53 @@ use Rattle.script_notes.specs.Notes.{Numbers}
 use Rattle.zone_select.specs.Select.{selected}
 use Rattle.zone_select.specs.Alike.{AreAlike}
 use Rattle.voices.specs.Sound.{snd}
-use Rattle.mixer.specs.declared.playing.Playing.{Playing}
-use Rattle.mixer.specs.Sums.{sum_of}
-use Rattle.mixer.specs.Heard.{Start, playing, fresh, excludes, silences, is_silenced, voice_at, start_at, sum_at}
-use Rattle.mixer.specs.Heard.{side_at, frames, cut, is_left}
+use Rattle.mixer.specs.declared.playing.PlayingVoice.{PlayingVoice}
+use Rattle.mixer.specs.Sums.{sum_over}
+use Rattle.mixer.specs.StartFrames.{Start, playing, note_voices, excludes, silences, is_silenced, voice_at, start_at, sum_at}
+use Rattle.mixer.specs.StartFrames.{side_at, frames, clipped, is_left}
 use Rattle.mixer.specs.Events.{Event, Edited, Started, Given, starts, given, heard, blocks}
 use Rattle.mixer.specs.Render.{end_of, frame_count, silenced_from, note_with, note_at, notes_at, rendered_side, render}
 use Rattle.mixer.specs.Alike.{LeaveAlike, without_edits}
-use Rattle.mixer.proofs.Sums.{sum_of-same}
-use Rattle.mixer.proofs.Permuted.{sum_of-permuted, last_release-permuted}
+use Rattle.mixer.proofs.Sums.{sum_over-same}
+use Rattle.mixer.proofs.Permuted.{sum_over-permuted, last_release-permuted}
 use Rattle.mixer.proofs.EventLaws.{blocks_from, frames-same}
 
-fresh-alike : (b c : Parts) → AreAlike b c → (n : Numbers) → IsPermutation (fresh b n) (fresh c n)
-unfolding fresh
-fresh-alike b c h n = IsPermutation-map (playing n) (selected b n) (selected c n) (h n)
+note_voices-alike : (b c : Parts) → AreAlike b c → (n : Numbers) → IsPermutation (note_voices b n) (note_voices c n)
+unfolding note_voices
+note_voices-alike b c h n = IsPermutation-map (playing n) (selected b n) (selected c n) (h n)
 
-silences-permuted : (ps qs : List Playing) → IsPermutation ps qs → (p : Playing) → silences ps p ≡ silences qs p
+silences-permuted : (ps qs : List PlayingVoice) → IsPermutation ps qs → (p : PlayingVoice) → silences ps p ≡ silences qs p
 unfolding silences
 silences-permuted ps qs h p = list_any-IsPermutation (λ q. excludes q p) ps qs h
 
 -- functions that are equal at each element, and lists that are permutations
-sum_of-alike : (f g : Playing → ℤ) (ps qs : List Playing) → ((p : Playing) → f p ≡ g p) → IsPermutation ps qs
-    → sum_of f ps ≡ sum_of g qs
-sum_of-alike f g ps qs e h = sum_of-same f g e ps ∙ sum_of-permuted g ps qs h
+sum_over-alike : (f g : PlayingVoice → ℤ) (ps qs : List PlayingVoice) → ((p : PlayingVoice) → f p ≡ g p) → IsPermutation ps qs
+    → sum_over f ps ≡ sum_over g qs
+sum_over-alike f g ps qs e h = sum_over-same f g e ps ∙ sum_over-permuted g ps qs h
 
 -- ---- notes
 
-silenced_from-alike : (b c : Parts) → AreAlike b c → (k t : ℕ) (q : Playing) (ms : List Numbers)
+silenced_from-alike : (b c : Parts) → AreAlike b c → (k t : ℕ) (q : PlayingVoice) (ms : List Numbers)
     → silenced_from b k t q ms ≡ silenced_from c k t q ms
 unfolding silenced_from
 silenced_from-alike b c h k t q [] = refl
 silenced_from-alike b c h k t q (m ∷ ms) =
     λ j.
     (nat_le k m.start
-    && (nat_le m.start t && silences-permuted (fresh b m) (fresh c m) (fresh-alike b c h m) q j))
+    && (nat_le m.start t && silences-permuted (note_voices b m) (note_voices c m) (note_voices-alike b c h m) q j))
     || silenced_from-alike b c h k t q ms j
 
-note_with-alike : (b c : Parts) → AreAlike b c → (quiet hushed : Playing → Bool) → ((p : Playing) → quiet p ≡ hushed p)
+note_with-alike : (b c : Parts) → AreAlike b c → (quiet hushed : PlayingVoice → Bool) → ((p : PlayingVoice) → quiet p ≡ hushed p)
     → (n : Numbers) (left : Bool) (t : ℕ) → note_with b quiet n left t ≡ note_with c hushed n left t
 unfolding note_with
 note_with-alike b c h quiet hushed e n left t =
     ap (λ z. cond (nat_le n.start t) z (pos 0))
-    (sum_of-alike
+    (sum_over-alike
     (λ p. cond (quiet p) (pos 0) (snd p.voice.value left (p.voice.age + (t - n.start))))
     (λ p. cond (hushed p) (pos 0) (snd p.voice.value left (p.voice.age + (t - n.start))))
-    (fresh b n) (fresh c n)
+    (note_voices b n) (note_voices c n)
     (λ p. ap (λ q. cond q (pos 0) (snd p.voice.value left (p.voice.age + (t - n.start)))) (e p))
-    (fresh-alike b c h n))
+    (note_voices-alike b c h n))
 
 notes_at-alike : (b c : Parts) → AreAlike b c → (before ns : List Numbers) (left : Bool) (t : ℕ)
     → notes_at b before ns left t ≡ notes_at c before ns left t
@@ -83,7 +83,7 @@ pub alike_render : (b c : Parts) → AreAlike b c → (ns : List Numbers) → re
 unfolding render rendered_side
 alike_render b c h ns =
     λ j.
-    map (λ i. cut (notes_at-alike b c h [] ns (is_left i) (i / 2) j))
+    map (λ i. clipped (notes_at-alike b c h [] ns (is_left i) (i / 2) j))
     (range_with_len 0 (2 * frame_count-alike b c h ns j))
 
 -- ---- events
@@ -95,19 +95,19 @@ AreAlike-trans : (b c d : Parts) → AreAlike b c → AreAlike c d → AreAlike 
 AreAlike-trans b c d h g n = IsPermutation-trans (selected b n) (selected c n) (selected d n) (h n) (g n)
 
 -- c is the bank with the edits, b the one without them
-is_silenced-alike : (b c : Parts) → AreAlike b c → (es : List Event) → LeaveAlike c es → (from t : ℕ) (q : Playing)
+is_silenced-alike : (b c : Parts) → AreAlike b c → (es : List Event) → LeaveAlike c es → (from t : ℕ) (q : PlayingVoice)
     → is_silenced (starts c from es) t q ≡ is_silenced (starts b from (without_edits es)) t q
 unfolding starts is_silenced without_edits
 is_silenced-alike b c h [] g from t q = refl
 is_silenced-alike b c h (Edited d ∷ es) g from t q = is_silenced-alike b d (AreAlike-trans b c d h g.0) es g.1 from t q
 is_silenced-alike b c h (Started n ∷ es) g from t q =
     λ j.
-    (nat_le from t && sym (silences-permuted (fresh b n) (fresh c n) (fresh-alike b c h n) q) j)
+    (nat_le from t && sym (silences-permuted (note_voices b n) (note_voices c n) (note_voices-alike b c h n) q) j)
     || is_silenced-alike b c h es g from t q j
 is_silenced-alike b c h (Given m ∷ es) g from t q = is_silenced-alike b c h es g (from + m) t q
 
 -- a voice that played before the events
-voice_at-alike : (b : Parts) (es : List Event) → LeaveAlike b es → (from t : ℕ) (left : Bool) (p : Playing)
+voice_at-alike : (b : Parts) (es : List Event) → LeaveAlike b es → (from t : ℕ) (left : Bool) (p : PlayingVoice)
     → voice_at (starts b from es) from left t p ≡ voice_at (starts b from (without_edits es)) from left t p
 unfolding voice_at
 voice_at-alike b es g from t left p =
@@ -122,13 +122,13 @@ sum_at-alike b c h (Edited d ∷ es) g from left t = sum_at-alike b d (AreAlike-
 sum_at-alike b c h (Started n ∷ es) g from left t =
     let later : List Start = starts c from es in
     let others : List Start = starts b from (without_edits es) in
-    let one : sum_of (voice_at later from left t) (fresh c n) ≡ sum_of (voice_at others from left t) (fresh b n) =
-    sum_of-same (voice_at later from left t) (voice_at others from left t)
+    let one : sum_over (voice_at later from left t) (note_voices c n) ≡ sum_over (voice_at others from left t) (note_voices b n) =
+    sum_over-same (voice_at later from left t) (voice_at others from left t)
     (λ p.
     ap (λ x. cond x (pos 0) (snd p.voice.value left (p.voice.age + (t - from))))
     (is_silenced-alike b c h es g from t p))
-    (fresh c n)
-    ∙ sym (sum_of-permuted (voice_at others from left t) (fresh b n) (fresh c n) (fresh-alike b c h n)) in
+    (note_voices c n)
+    ∙ sym (sum_over-permuted (voice_at others from left t) (note_voices b n) (note_voices c n) (note_voices-alike b c h n)) in
     λ j. cond (nat_le from t) (one j) (pos 0) +ℤ sum_at-alike b c h es g from left t j
 sum_at-alike b c h (Given m ∷ es) g from left t = sum_at-alike b c h es g (from + m) left t
 
@@ -142,23 +142,23 @@ given-without_edits (Given m ∷ es) = ap (λ a. m + a) (given-without_edits es)
 pub alike_heard : (b : Parts) (es : List Event) → LeaveAlike b es → heard b es ≡ heard b (without_edits es)
 unfolding heard frames side_at
 alike_heard b es g =
-    λ j. map (λ i. cut (sum_at-alike b b (AreAlike-refl b) es g 0 (is_left i) (0 + i / 2) j))
+    λ j. map (λ i. clipped (sum_at-alike b b (AreAlike-refl b) es g 0 (is_left i) (0 + i / 2) j))
     (range_with_len 0 (2 * given-without_edits es j))
 
 -- the voices of a player are a start before those of the events
-joined-alike : (b : Parts) (ps : List Playing) (es : List Event) → LeaveAlike b es → (left : Bool) (t : ℕ)
+joined-alike : (b : Parts) (ps : List PlayingVoice) (es : List Event) → LeaveAlike b es → (left : Bool) (t : ℕ)
     → sum_at (record { frame = 0; voices = ps } ∷ starts b 0 es) left t
     ≡ sum_at (record { frame = 0; voices = ps } ∷ starts b 0 (without_edits es)) left t
 unfolding sum_at start_at
 joined-alike b ps es g left t =
     λ j.
     cond (nat_le 0 t)
-    (sum_of-same (voice_at (starts b 0 es) 0 left t) (voice_at (starts b 0 (without_edits es)) 0 left t)
+    (sum_over-same (voice_at (starts b 0 es) 0 left t) (voice_at (starts b 0 (without_edits es)) 0 left t)
     (voice_at-alike b es g 0 t left) ps j)
     (pos 0)
     +ℤ sum_at-alike b b (AreAlike-refl b) es g 0 left t j
 
-pub alike_blocks : (b : Parts) (ps : List Playing) (es : List Event) → LeaveAlike b es
+pub alike_blocks : (b : Parts) (ps : List PlayingVoice) (es : List Event) → LeaveAlike b es
     → blocks b ps es ≡ blocks b ps (without_edits es)
 alike_blocks b ps es g =
     let s : Start = record { frame = 0; voices = ps } in

@@ -8,7 +8,7 @@ use Rattle.std.proofs.lemmas.Bool.Decides.{nat_tests}
 use Rattle.std.proofs.lemmas.List.Sums.{sum_by-cons}
 use Rattle.std.proofs.lemmas.List.Sorted.{sum_by-IsPermutation, list_any-IsPermutation}
 use Rattle.zone_select.specs.Select.{Voice}
-use Rattle.mixer.specs.Sums.{sum_of}
+use Rattle.mixer.specs.Sums.{sum_over}
 use Rattle.mixer.specs.Render.{last_release}
 
 -- a signed number as a difference
@@ -28,22 +28,22 @@ added : (z s : ℤ) (a b c d e f : ℕ) → z ≡ pos a -ℤ pos b → s ≡ pos
     → z +ℤ s ≡ pos e -ℤ pos f
 added z s a b c d e f h g i j = omega (arith, ints)
 
-sum_of-parts : {X : Type 0} (f : X → ℤ) (xs : List X)
-    → sum_of f xs ≡ pos (sum_by (λ x. up (f x)) xs) -ℤ pos (sum_by (λ x. down (f x)) xs)
-unfolding sum_of
-sum_of-parts f [] = refl
-sum_of-parts f (x ∷ xs) =
-    added (f x) (sum_of f xs) (up (f x)) (down (f x)) (sum_by (λ x. up (f x)) xs) (sum_by (λ x. down (f x)) xs) _ _
-    (parts (f x)) (sum_of-parts f xs) (sum_by-cons (λ x. up (f x)) x xs) (sum_by-cons (λ x. down (f x)) x xs)
+sum_over-parts : {X : Type 0} (f : X → ℤ) (xs : List X)
+    → sum_over f xs ≡ pos (sum_by (λ x. up (f x)) xs) -ℤ pos (sum_by (λ x. down (f x)) xs)
+unfolding sum_over
+sum_over-parts f [] = refl
+sum_over-parts f (x ∷ xs) =
+    added (f x) (sum_over f xs) (up (f x)) (down (f x)) (sum_by (λ x. up (f x)) xs) (sum_by (λ x. down (f x)) xs) _ _
+    (parts (f x)) (sum_over-parts f xs) (sum_by-cons (λ x. up (f x)) x xs) (sum_by-cons (λ x. down (f x)) x xs)
 
-pub sum_of-permuted : {X : Type 0} (f : X → ℤ) (xs ys : List X) → IsPermutation xs ys → sum_of f xs ≡ sum_of f ys
-sum_of-permuted f xs ys h =
-    sum_of-parts f xs
+pub sum_over-permuted : {X : Type 0} (f : X → ℤ) (xs ys : List X) → IsPermutation xs ys → sum_over f xs ≡ sum_over f ys
+sum_over-permuted f xs ys h =
+    sum_over-parts f xs
     ∙ sym
     (λ i.
     pos (sum_by-IsPermutation (λ x. up (f x)) xs ys h i) -ℤ pos
     (sum_by-IsPermutation (λ x. down (f x)) xs ys h i))
-    ∙ sym (sum_of-parts f ys)
+    ∙ sym (sum_over-parts f ys)
 
 one_more : (r m k : ℕ) (a : Bool) → nat_le m k ≡ not a → nat_le (max r m) k ≡ not (nat_lt k r || a)
 one_more r m k true h = grind (arith, nat_tests)

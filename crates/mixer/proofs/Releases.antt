@@ -16,7 +16,7 @@ use Rattle.script_notes.specs.Notes.{Numbers}
 use Rattle.zone_select.specs.declared.parameters.VoiceParameters.{VoiceParameters}
 use Rattle.zone_select.specs.Amounts.{moved, parameters_of}
 use Rattle.zone_select.specs.Select.{Voice, voice_of}
-use Rattle.zone_select.specs.Pairs.{Chosen, chosen_by, chosen_voice, voice_by, listed}
+use Rattle.zone_select.specs.Pairs.{SelectedPair, selected_pair, selected_pair_voice, voice_by, listed}
 use Rattle.zone_select.proofs.LinearLaws.{above_least}
 use Rattle.mixer.specs.Render.{last_release}
 use Rattle.mixer.proofs.Selected.{release_alone}
@@ -46,7 +46,7 @@ frames_most (negsuc a) =
     ] in
     at (leb 11999 a) refl
 
-of_sample : (n : Numbers) (c : Chosen) (p : VoiceParameters) (o : Option Sample)
+of_sample : (n : Numbers) (c : SelectedPair) (p : VoiceParameters) (o : Option Sample)
     → Some p ≡ option_map (λ (v : Voice). v.parameters) (option_map (voice_of n c.instrument_zone c.preset_zone) o)
     → p.release ≤ 4480284
 unfolding voice_of parameters_of
@@ -55,14 +55,14 @@ of_sample n c p (Some s) e =
     let h : p.release ≡ frames_of (moved n c.instrument_zone c.preset_zone 38) = cc in
     subst (λ (k : ℕ). k ≤ 4480284) (sym h) (frames_most (moved n c.instrument_zone c.preset_zone 38))
 
-of_chosen : (b : Parts) (n : Numbers) (p : VoiceParameters) (o : Option Chosen)
-    → Some p ≡ option_map (λ (v : Voice). v.parameters) (option_and_then (chosen_voice b n) o) → p.release ≤ 4480284
+of_chosen : (b : Parts) (n : Numbers) (p : VoiceParameters) (o : Option SelectedPair)
+    → Some p ≡ option_map (λ (v : Voice). v.parameters) (option_and_then (selected_pair_voice b n) o) → p.release ≤ 4480284
 of_chosen b n p None e = absurd cc
 of_chosen b n p (Some c) e = of_sample n c p (slice_get b.samples c.sample) e
 
 pub release_most : (b : Parts) (n : Numbers) (q : ℕ × ℕ) (p : VoiceParameters)
     → Some p ≡ option_map (λ (v : Voice). v.parameters) (voice_by b n q) → p.release ≤ 4480284
-release_most b n q p e = of_chosen b n p (chosen_by b n q) e
+release_most b n q p e = of_chosen b n p (selected_pair b n q) e
 
 pub release_is : (p : VoiceParameters) (o : Option Voice) → Some p ≡ option_map (λ (v : Voice). v.parameters) o
     → p.release ≡ last_release (listed o)

@@ -6,13 +6,13 @@ use Rattle.std.specs.List.{All}
 use Rattle.std.proofs.lemmas.Bool.{cases_lt, not-false}
 use Rattle.std.proofs.lemmas.Grind.{common_steps}
 use Rattle.voices.specs.Sound.{Live, snd}
-use Rattle.voices.specs.Place.{is_over}
+use Rattle.voices.specs.Position.{is_over}
 use Rattle.voices.proofs.OverLaws.{over_stays}
-use Rattle.mixer.specs.declared.playing.Playing.{Playing}
-use Rattle.mixer.specs.Heard.{excludes, silences, is_left, cut}
+use Rattle.mixer.specs.declared.playing.PlayingVoice.{PlayingVoice}
+use Rattle.mixer.specs.StartFrames.{excludes, silences, is_left, clipped}
 use Rattle.mixer.specs.Events.{is_sounding, unsilenced, aged, after_block, total_at, next_side}
 use Rattle.mixer.specs.Ahead.{rewound}
-use Rattle.mixer.proofs.Sums.{sum_of-kept, sum_of-map, sum_of-same}
+use Rattle.mixer.proofs.Sums.{sum_over-kept, sum_over-map, sum_over-same}
 use Rattle.mixer.proofs.Parts.{aged-more, side_later}
 use Rattle.mixer.proofs.EventLaws.{over_is_silent}
 
@@ -62,34 +62,34 @@ filter-later f p r h (x ∷ xs) =
 
 -- ---- voices that go back
 
-with_age : (p : Playing) (a b : ℕ) → a ≡ b
+with_age : (p : PlayingVoice) (a b : ℕ) → a ≡ b
     →
-    (let q : Playing =
+    (let q : PlayingVoice =
     record { voice = record { value = p.voice.value; age = a }; bank = p.bank; number = p.number } in q)
     ≡
-    (let q : Playing =
+    (let q : PlayingVoice =
     record { voice = record { value = p.voice.value; age = b }; bank = p.bank; number = p.number } in q)
 with_age p a b e = λ j. record { voice = record { value = p.voice.value; age = e j }; bank = p.bank; number = p.number }
 
-pub rewound-none : (ps : List Playing) → map (rewound 0) ps ≡ ps
+pub rewound-none : (ps : List PlayingVoice) → map (rewound 0) ps ≡ ps
 unfolding rewound
 rewound-none [] = refl
 rewound-none (p ∷ ps) = λ j. with_age p (p.voice.age - 0) p.voice.age (omega arith) j ∷ rewound-none ps j
 
 -- one voice
-pub rewound_is : (n : ℕ) (p : Playing) (v : Live) → v ≡ record { value = p.voice.value; age = p.voice.age - n }
-    → (let q : Playing = record { voice = v; bank = p.bank; number = p.number } in q) ≡ rewound n p
+pub rewound_is : (n : ℕ) (p : PlayingVoice) (v : Live) → v ≡ record { value = p.voice.value; age = p.voice.age - n }
+    → (let q : PlayingVoice = record { voice = v; bank = p.bank; number = p.number } in q) ≡ rewound n p
 unfolding rewound
 rewound_is n p v e = λ j. record { voice = e j; bank = p.bank; number = p.number }
 
 -- going back undoes advancing
-pub rewound-aged : (n : ℕ) (ps : List Playing) → map (rewound n) (map (aged n) ps) ≡ ps
+pub rewound-aged : (n : ℕ) (ps : List PlayingVoice) → map (rewound n) (map (aged n) ps) ≡ ps
 unfolding rewound aged
 rewound-aged n [] = refl
 rewound-aged n (p ∷ ps) = λ j. with_age p (p.voice.age + n - n) p.voice.age (omega arith) j ∷ rewound-aged n ps j
 
 -- going back by k is going back by k + m and advancing by m
-pub rewound-fewer : (n m k : ℕ) (ps : List Playing) → k + m ≡ n → All (λ (p : Playing). n ≤ p.voice.age) ps
+pub rewound-fewer : (n m k : ℕ) (ps : List PlayingVoice) → k + m ≡ n → All (λ (p : PlayingVoice). n ≤ p.voice.age) ps
     → map (rewound k) ps ≡ map (aged m) (map (rewound n) ps)
 unfolding rewound aged
 rewound-fewer n m k [] e h = refl
@@ -99,11 +99,11 @@ rewound-fewer n m k (p ∷ ps) e h =
     ∷ rewound-fewer n m k ps e (λ i d l. h (suc i) d (omega (arith, l))) j
 
 -- going back doesn't change which voice is silenced
-silences-rewound : (new : List Playing) (n : ℕ) (p : Playing) → silences new (rewound n p) ≡ silences new p
+silences-rewound : (new : List PlayingVoice) (n : ℕ) (p : PlayingVoice) → silences new (rewound n p) ≡ silences new p
 unfolding silences excludes rewound
 silences-rewound new n p = refl
 
-pub unsilenced-rewound : (new : List Playing) (n : ℕ) (ps : List Playing)
+pub unsilenced-rewound : (new : List PlayingVoice) (n : ℕ) (ps : List PlayingVoice)
     → unsilenced new (filter is_sounding (map (rewound n) ps))
     ≡ filter is_sounding (map (rewound n) (unsilenced new ps))
 unfolding unsilenced
@@ -113,7 +113,7 @@ unsilenced-rewound new n ps =
 
 -- ---- voices at later frames
 
-over_later : (m : ℕ) (p : Playing) → is_sounding p ≡ false → is_sounding (aged m p) ≡ false
+over_later : (m : ℕ) (p : PlayingVoice) → is_sounding p ≡ false → is_sounding (aged m p) ≡ false
 unfolding is_sounding aged
 over_later m p h =
     ap not
@@ -121,37 +121,37 @@ over_later m p h =
     (not-false (is_over p.voice.value.parameters p.voice.age) h))
 
 -- voices that are over may be dropped before
-pub sounding_later : (m : ℕ) (ps : List Playing) → after_block (filter is_sounding ps) m ≡ after_block ps m
+pub sounding_later : (m : ℕ) (ps : List PlayingVoice) → after_block (filter is_sounding ps) m ≡ after_block ps m
 unfolding after_block
 sounding_later m ps = filter-later (aged m) is_sounding is_sounding (over_later m) ps
 
 -- two blocks are one
-pub after_more : (m n : ℕ) (ps : List Playing) → after_block (after_block ps m) n ≡ after_block ps (m + n)
+pub after_more : (m n : ℕ) (ps : List PlayingVoice) → after_block (after_block ps m) n ≡ after_block ps (m + n)
 unfolding after_block
 after_more m n ps =
     filter-later (aged n) is_sounding is_sounding (over_later n) (map (aged m) ps)
     ∙ ap (filter is_sounding) (aged-more m n ps)
 
 -- voices that are over add nothing
-pub total_sounding : (ps : List Playing) (i : ℕ) → total_at (filter is_sounding ps) i ≡ total_at ps i
+pub total_sounding : (ps : List PlayingVoice) (i : ℕ) → total_at (filter is_sounding ps) i ≡ total_at ps i
 unfolding total_at
 total_sounding ps i =
-    let sound : Playing → ℤ = λ p. snd p.voice.value (is_left i) (p.voice.age + i / 2) in
-    sym (sum_of-kept sound sound is_sounding
+    let sound : PlayingVoice → ℤ = λ p. snd p.voice.value (is_left i) (p.voice.age + i / 2) in
+    sym (sum_over-kept sound sound is_sounding
     (λ p. let P : Bool → Type 0 = λ b. is_sounding p ≡ b → sound p ≡ cond b (sound p) (pos 0) in
     let at : (b : Bool) → P b = elim [ true ↦ λ _. refl | false ↦ λ over. over_is_silent p (is_left i) (i / 2) over ] in
     at (is_sounding p) refl) ps)
 
-pub next_sounding : (ps : List Playing) (i : ℕ) → next_side (filter is_sounding ps) i ≡ next_side ps i
+pub next_sounding : (ps : List PlayingVoice) (i : ℕ) → next_side (filter is_sounding ps) i ≡ next_side ps i
 unfolding next_side
-next_sounding ps i = ap cut (total_sounding ps i)
+next_sounding ps i = ap clipped (total_sounding ps i)
 
 -- the sums of older voices are those of later frames
-pub total_later : (m i : ℕ) (ps : List Playing) → total_at (map (aged m) ps) i ≡ total_at ps (2 * m + i)
+pub total_later : (m i : ℕ) (ps : List PlayingVoice) → total_at (map (aged m) ps) i ≡ total_at ps (2 * m + i)
 unfolding total_at aged
 total_later m i ps =
-    sum_of-map (λ p. snd p.voice.value (is_left i) (p.voice.age + i / 2)) (aged m) ps
-    ∙ sum_of-same (λ p. snd p.voice.value (is_left i) (p.voice.age + m + i / 2))
+    sum_over-map (λ p. snd p.voice.value (is_left i) (p.voice.age + i / 2)) (aged m) ps
+    ∙ sum_over-same (λ p. snd p.voice.value (is_left i) (p.voice.age + m + i / 2))
     (λ p. snd p.voice.value (is_left (2 * m + i)) (p.voice.age + (2 * m + i) / 2))
     (λ p.
     λ j.
@@ -162,7 +162,7 @@ total_later m i ps =
 -- ---- a block whose first frames are written
 
 -- the next frames are written after them
-pub written_on : (out new rest : List ℤ) (ps : List Playing) (at n : ℕ) → at ≤ length out → n ≤ length new → at % 2 ≡ 0
+pub written_on : (out new rest : List ℤ) (ps : List PlayingVoice) (at n : ℕ) → at ≤ length out → n ≤ length new → at % 2 ≡ 0
     → ((k : ℕ) → k < at → get_or out k (pos 0) ≡ next_side ps k)
     → ((k : ℕ) → k < n → get_or new k (pos 0) ≡ next_side (after_block ps (at / 2)) k)
     → (k : ℕ) → k < at + n → get_or (take at out ++ (new ++ rest)) k (pos 0) ≡ next_side ps k

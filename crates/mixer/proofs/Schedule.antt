@@ -6,8 +6,8 @@ use Rattle.std.proofs.lemmas.Slice.{take-put_mid}
 use Rattle.std.proofs.lemmas.Grind.{common_steps}
 use Rattle.script_notes.specs.Notes.{Numbers}
 use Rattle.bank_parts.specs.declared.parts.Parts.{Parts}
-use Rattle.mixer.specs.declared.playing.Playing.{Playing}
-use Rattle.mixer.specs.Heard.{Start, fresh, frames}
+use Rattle.mixer.specs.declared.playing.PlayingVoice.{PlayingVoice}
+use Rattle.mixer.specs.StartFrames.{Start, note_voices, frames}
 use Rattle.mixer.specs.Events.{Event, Started, Given, starts, given, heard, after_start, after_block, block, blocks}
 use Rattle.mixer.specs.Order.{start_of, frames_of, IsRising, StartWithin}
 use Rattle.mixer.proofs.EventLaws.{blocks_heard}
@@ -21,9 +21,9 @@ starts_scheduled : (b : Parts) (t : ℕ) (ns : List Numbers) (m : ℕ) → IsRis
 unfolding events_from starts start_of
 starts_scheduled b t [] m r = refl
 starts_scheduled b t (n ∷ ns) m r =
-    ap (λ u. (let s : Start = record { frame = u; voices = fresh b n } in s) ∷ starts b u (events_from n.start ns m))
+    ap (λ u. (let s : Start = record { frame = u; voices = note_voices b n } in s) ∷ starts b u (events_from n.start ns m))
     (let e : t + (n.start - t) ≡ n.start = omega (arith, r.0) in e)
-    ∙ ap (λ ss. (let s : Start = record { frame = n.start; voices = fresh b n } in s) ∷ ss)
+    ∙ ap (λ ss. (let s : Start = record { frame = n.start; voices = note_voices b n } in s) ∷ ss)
     (starts_scheduled b n.start ns m r.1)
 
 given_scheduled : (t : ℕ) (ns : List Numbers) (m : ℕ) → t ≤ m → IsRising t ns → StartWithin m ns
@@ -46,19 +46,19 @@ scheduled b ns m r w =
     ((given_scheduled 0 ns m (omega arith) r w ∙ (let e : m - 0 ≡ m = omega arith in e)) j))
 
 -- the frames that are written, and those still to come, are all frames
-pub record IsPlayed (b : Parts) (ps : List Playing) (ns : List Numbers) (now : ℕ) (out all : List ℤ) : Type 0 where
+pub record IsPlayed (b : Parts) (ps : List PlayingVoice) (ns : List Numbers) (now : ℕ) (out all : List ℤ) : Type 0 where
   pub even : now % 2 ≡ 0
   pub within : now ≤ length out
   pub rising : IsRising (now / 2) ns
   pub starts_in : StartWithin (length out / 2) ns
   pub is : take now out ++ blocks b ps (events_from (now / 2) ns (length out / 2)) ≡ all
 
-pub play_step : (b : Parts) (ps qs : List Playing) (n : Numbers) (ns : List Numbers) (now next : ℕ)
+pub play_step : (b : Parts) (ps qs : List PlayingVoice) (n : Numbers) (ns : List Numbers) (now next : ℕ)
     (out new written all : List ℤ)
     → IsPlayed b ps (n ∷ ns) now out all
     → next ≡ 2 * n.start
     → new ≡ block ps ((next - now) / 2) → length new ≡ next - now
-    → qs ≡ after_start (after_block ps ((next - now) / 2)) (fresh b n)
+    → qs ≡ after_start (after_block ps ((next - now) / 2)) (note_voices b n)
     → written ≡ take now out ++ (new ++ drop (next - now) (drop now out))
     → length written ≡ length out
     → IsPlayed b qs ns next written all
@@ -81,15 +81,15 @@ play_step b ps qs n ns now next out new written all p at new_is len qs_is writte
       is =
           (λ j. front j ++ blocks b (qs_is j) (events_from (there j) ns (same_len j / 2)))
           ∙ append_assoc (take now out) new
-          (blocks b (after_start (after_block ps ((next - now) / 2)) (fresh b n)) rest)
+          (blocks b (after_start (after_block ps ((next - now) / 2)) (note_voices b n)) rest)
           ∙ ap
-          (λ l. take now out ++ (l ++ blocks b (after_start (after_block ps ((next - now) / 2)) (fresh b n)) rest))
+          (λ l. take now out ++ (l ++ blocks b (after_start (after_block ps ((next - now) / 2)) (note_voices b n)) rest))
           new_is
-          ∙ ap (λ k. take now out ++ (block ps k ++ blocks b (after_start (after_block ps k) (fresh b n)) rest)) half
+          ∙ ap (λ k. take now out ++ (block ps k ++ blocks b (after_start (after_block ps k) (note_voices b n)) rest)) half
           ∙ p.is;
     }
 
-pub play_last : (b : Parts) (ps : List Playing) (now : ℕ) (out new written all : List ℤ)
+pub play_last : (b : Parts) (ps : List PlayingVoice) (now : ℕ) (out new written all : List ℤ)
     → IsPlayed b ps [] now out all → length out % 2 ≡ 0
     → new ≡ block ps ((length out - now) / 2) → written ≡ take now out ++ new → written ≡ all
 unfolding events_from blocks
@@ -102,14 +102,14 @@ play_last b ps now out new written all p even new_is written_is =
     ∙ p.is
 
 -- the note at the loop's index
-pub played_next : (b : Parts) (ps : List Playing) (ns : List Numbers) (i now : ℕ) (n : Numbers) (out all : List ℤ)
+pub played_next : (b : Parts) (ps : List PlayingVoice) (ns : List Numbers) (i now : ℕ) (n : Numbers) (out all : List ℤ)
     → i < length ns → n ≡ get_or ns i n
     → IsPlayed b ps (drop i ns) now out all → IsPlayed b ps (n ∷ drop (i + 1) ns) now out all
 played_next b ps ns i now n out all l e p =
     subst (λ (x : Numbers). IsPlayed b ps (x ∷ drop (i + 1) ns) now out all) (sym e)
     (subst (λ (ms : List Numbers). IsPlayed b ps ms now out all) (at_drop_more (λ (ms : List Numbers). ms) ns i n l) p)
 
-pub played_end : (b : Parts) (ps : List Playing) (ns : List Numbers) (i now : ℕ) (out all : List ℤ) → length ns ≤ i
+pub played_end : (b : Parts) (ps : List PlayingVoice) (ns : List Numbers) (i now : ℕ) (out all : List ℤ) → length ns ≤ i
     → IsPlayed b ps (drop i ns) now out all → IsPlayed b ps [] now out all
 played_end b ps ns i now out all l p =
     subst (λ (ms : List Numbers). IsPlayed b ps ms now out all) (at_drop_all (λ (ms : List Numbers). ms) ns i l) p

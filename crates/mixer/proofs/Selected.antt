@@ -11,8 +11,8 @@ use Rattle.zone_select.specs.Pairs.{pairs, voice_by, listed}
 use Rattle.zone_select.proofs.PairLaws.{selected_by_pairs}
 use Rattle.voices.specs.Sound.{Live}
 use Rattle.voices.specs.Starts as starts
-use Rattle.mixer.specs.declared.playing.Playing.{Playing}
-use Rattle.mixer.specs.Heard.{playing, fresh}
+use Rattle.mixer.specs.declared.playing.PlayingVoice.{PlayingVoice}
+use Rattle.mixer.specs.StartFrames.{playing, note_voices}
 use Rattle.mixer.specs.Render.{last_release}
 
 -- the voices of pairs
@@ -21,15 +21,15 @@ voices_of b n qs = flat_map (λ q. listed (voice_by b n q)) qs
 
 -- ---- their starts
 
-pub fresh_first : (b : Parts) (n : Numbers) (qs : List (ℕ × ℕ)) (ps : List Playing) → ps ≡ [] → qs ≡ pairs b n
-    → ps ++ map (playing n) (voices_of b n qs) ≡ fresh b n
-unfolding fresh
+pub fresh_first : (b : Parts) (n : Numbers) (qs : List (ℕ × ℕ)) (ps : List PlayingVoice) → ps ≡ [] → qs ≡ pairs b n
+    → ps ++ map (playing n) (voices_of b n qs) ≡ note_voices b n
+unfolding note_voices
 fresh_first b n qs ps e f =
     (λ j. e j ++ map (playing n) (voices_of b n (f j))) ∙ ap (map (playing n)) (selected_by_pairs b n)
 
-pub fresh_next : (b : Parts) (n : Numbers) (q : ℕ × ℕ) (rest qs : List (ℕ × ℕ)) (ps new : List Playing) → qs ≡ q ∷ rest
-    → new ≡ ps ++ map (playing n) (listed (voice_by b n q)) → ps ++ map (playing n) (voices_of b n qs) ≡ fresh b n
-    → new ++ map (playing n) (voices_of b n rest) ≡ fresh b n
+pub fresh_next : (b : Parts) (n : Numbers) (q : ℕ × ℕ) (rest qs : List (ℕ × ℕ)) (ps new : List PlayingVoice) → qs ≡ q ∷ rest
+    → new ≡ ps ++ map (playing n) (listed (voice_by b n q)) → ps ++ map (playing n) (voices_of b n qs) ≡ note_voices b n
+    → new ++ map (playing n) (voices_of b n rest) ≡ note_voices b n
 fresh_next b n q rest qs ps new e f h =
     ap (λ xs. xs ++ map (playing n) (voices_of b n rest)) f
     ∙ append_assoc ps (map (playing n) (listed (voice_by b n q))) (map (playing n) (voices_of b n rest))
@@ -37,17 +37,17 @@ fresh_next b n q rest qs ps new e f h =
     ∙ ap (λ rs. ps ++ map (playing n) (voices_of b n rs)) (sym e)
     ∙ h
 
-pub fresh_last : (b : Parts) (n : Numbers) (qs : List (ℕ × ℕ)) (ps all : List Playing) → qs ≡ []
+pub fresh_last : (b : Parts) (n : Numbers) (qs : List (ℕ × ℕ)) (ps all : List PlayingVoice) → qs ≡ []
     → ps ++ map (playing n) (voices_of b n qs) ≡ all → ps ≡ all
 fresh_last b n qs ps all e h = sym (append-nil ps) ∙ ap (λ rs. ps ++ map (playing n) (voices_of b n rs)) (sym e) ∙ h
 
-pub started_is : (n : Numbers) (o : Option Voice) (l : Live) (bank number : ℕ) → option_map starts.fresh o ≡ Some l
+pub started_is : (n : Numbers) (o : Option Voice) (l : Live) (bank number : ℕ) → option_map starts.note_voices o ≡ Some l
     → bank ≡ n.bank → number ≡ n.number
-    → (let p : Playing = record { voice = l; bank = bank; number = number } in p) ∷ [] ≡ map (playing n) (listed o)
+    → (let p : PlayingVoice = record { voice = l; bank = bank; number = number } in p) ∷ [] ≡ map (playing n) (listed o)
 unfolding playing
 started_is n None l bank number e f g = absurd cc
 started_is n (Some v) l bank number e f g =
-    let h : l ≡ starts.fresh v = cc in λ j. record { voice = h j; bank = f j; number = g j } ∷ []
+    let h : l ≡ starts.note_voices v = cc in λ j. record { voice = h j; bank = f j; number = g j } ∷ []
 
 -- ---- their releases
 

@@ -6,8 +6,8 @@ use Rattle.std.proofs.lemmas.Int.{ints}
 use Rattle.std.proofs.lemmas.Bool.Decides.{nat_tests}
 use Rattle.script_notes.specs.Notes.{Numbers}
 use Rattle.bank_parts.specs.declared.parts.Parts.{Parts}
-use Rattle.mixer.specs.declared.playing.Playing.{Playing}
-use Rattle.mixer.specs.Heard.{fresh, silences, is_silenced, voice_at, start_at, sum_at, side_at, frames, cut, is_left}
+use Rattle.mixer.specs.declared.playing.PlayingVoice.{PlayingVoice}
+use Rattle.mixer.specs.StartFrames.{note_voices, silences, is_silenced, voice_at, start_at, sum_at, side_at, frames, clipped, is_left}
 use Rattle.mixer.specs.Render.{frame_count, silenced_from, note_with, note_at, notes_at, rendered_side, render}
 use Rattle.mixer.specs.Order.{placed, in_order, start_of, frames_of, IsRising}
 use Rattle.mixer.proofs.Orders.{rising-in_order}
@@ -34,13 +34,13 @@ above_of : (a b : ℕ) → nat_le a b ≡ true → a ≤ b
 above_of a b h = grind (arith, nat_tests)
 
 -- all notes start late enough
-all_later : (b : Parts) (k t : ℕ) (q : Playing) (ms : List Numbers) → IsRising k ms
+all_later : (b : Parts) (k t : ℕ) (q : PlayingVoice) (ms : List Numbers) → IsRising k ms
     → silenced_from b k t q ms ≡ is_silenced (map (start_of b) ms) t q
 unfolding silenced_from is_silenced start_of
 all_later b k t q [] r = refl
 all_later b k t q (m ∷ ms) r =
     λ j.
-    (at_least k m.start r.0 j && (nat_le m.start t && silences (fresh b m) q))
+    (at_least k m.start r.0 j && (nat_le m.start t && silences (note_voices b m) q))
     || all_later b k t q ms (rising-from k m.start ms r.0 r.1) j
 
 in_order_is : (b : Parts) (u : ℕ) (ms : List Numbers) (left : Bool) (t : ℕ) → IsRising u ms
@@ -78,7 +78,7 @@ not_before b n before (m ∷ ms) left t r =
     note_with b
     (λ p.
     ((not_least (m.start + 1) n.start (omega (arith, r.0)) j
-    && (nat_le n.start t && silences (fresh b n) p))
+    && (nat_le n.start t && silences (note_voices b n) p))
     || silenced_from b (m.start + 1) t p before)
     || silenced_from b m.start t p ms)
     m left t
@@ -97,7 +97,7 @@ earlier : (b : Parts) (n m : Numbers) (before ms : List Numbers) (left : Bool) (
 unfolding note_at silenced_from
 earlier b n m before ms left t h =
     λ j. note_with b (λ p.
-    (let rest : Bool = nat_le n.start t && silences (fresh b n) p in
+    (let rest : Bool = nat_le n.start t && silences (note_voices b n) p in
     let x : Bool = silenced_from b (m.start + 1) t p before in
     let y : Bool = silenced_from b m.start t p ms in
     let first : (((nat_le (m.start + 1) n.start && rest) || x) || y) ≡ ((rest || x) || y) =
@@ -105,7 +105,7 @@ earlier b n m before ms left t h =
     let last : (x || ((nat_le m.start n.start && rest) || y)) ≡ (x || (rest || y)) =
     ap (λ c. x || ((c && rest) || y)) (at_least m.start n.start (omega (arith, h))) in
     let placed_is : silenced_from b m.start t p (placed n ms) ≡ ((nat_le m.start n.start && rest) || y) =
-    any-placed (λ k. nat_le m.start k.start && (nat_le k.start t && silences (fresh b k) p)) n ms in
+    any-placed (λ k. nat_le m.start k.start && (nat_le k.start t && silences (note_voices b k) p)) n ms in
     first ∙ three rest x y ∙ sym last ∙ ap (λ z. x || z) (sym placed_is)) j) m left t
 
 -- a note that starts before n doesn't silence n
@@ -118,7 +118,7 @@ unheard b n m before ms left t h =
     (λ p.
     silenced_from b (n.start + 1) t p before
     ||
-    ((not_least n.start m.start h j && (nat_le m.start t && silences (fresh b m) p))
+    ((not_least n.start m.start h j && (nat_le m.start t && silences (note_voices b m) p))
     || silenced_from b n.start t p ms))
     n left t
 
@@ -151,7 +151,7 @@ unfolding notes_at sorted_at in_order note_at silenced_from
 unordered_is b before [] left t = refl
 unordered_is b before (n ∷ ns) left t =
     (λ j. note_with b (λ p. silenced_from b (n.start + 1) t p before || sym
-    (any-in_order (λ m. nat_le n.start m.start && (nat_le m.start t && silences (fresh b m) p)) ns) j) n left t
+    (any-in_order (λ m. nat_le n.start m.start && (nat_le m.start t && silences (note_voices b m) p)) ns) j) n left t
     +ℤ unordered_is b (n ∷ before) ns left t j)
     ∙ put_in b 0 n before (in_order ns) left t (rising-in_order ns)
 
@@ -165,7 +165,7 @@ render_is b ns =
     λ j.
     map
     (λ i.
-    cut
+    clipped
     ((ap (sum_at (map (start_of b) (in_order ns)) (is_left i))
     (let e : 0 + i / 2 ≡ i / 2 = omega arith in e)
     ∙ order_free b ns (is_left i) (i / 2))

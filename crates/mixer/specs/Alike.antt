@@ -3,7 +3,7 @@ use Rattle.std.specs.Prelude.{◌≡◌, List, [], ◌∷◌}
 use Rattle.bank_parts.specs.declared.parts.Parts.{Parts}
 use Rattle.script_notes.specs.Notes.{Numbers}
 use Rattle.zone_select.specs.Alike.{AreAlike}
-use Rattle.mixer.specs.declared.playing.Playing.{Playing}
+use Rattle.mixer.specs.declared.playing.PlayingVoice.{PlayingVoice}
 use Rattle.mixer.specs.Events.{Event, Edited, Started, Given, heard, blocks}
 use Rattle.mixer.specs.Render.{render}
 
@@ -30,11 +30,11 @@ without_edits (Started n ∷ es) = Started n ∷ without_edits es
 without_edits (Given m ∷ es) = Given m ∷ without_edits es
 
 -- such edits change none of the frames
-abbrev pub AlikeHeard : Type 0
-AlikeHeard = (b : Parts) (es : List Event) → LeaveAlike b es → heard b es ≡ heard b (without_edits es)
+abbrev pub AlikeFrames : Type 0
+AlikeFrames = (b : Parts) (es : List Event) → LeaveAlike b es → heard b es ≡ heard b (without_edits es)
 
 -- such edits change no block of a player, whatever it plays at first
 abbrev pub AlikeBlocks : Type 0
 AlikeBlocks =
-    (b : Parts) (ps : List Playing) (es : List Event) → LeaveAlike b es
+    (b : Parts) (ps : List PlayingVoice) (es : List Event) → LeaveAlike b es
     → blocks b ps es ≡ blocks b ps (without_edits es)

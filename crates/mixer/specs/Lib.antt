@@ -1,5 +1,5 @@
 pub mod Sums
-pub mod Heard
+pub mod StartFrames
 pub mod Events
 pub mod Render
 pub mod Order

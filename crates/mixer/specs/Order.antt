@@ -2,7 +2,7 @@
 use Rattle.std.specs.Prelude.{◌≡◌, ℕ, ◌≤◌, Bool, cond, nat_le, ℤ, List, [], ◌∷◌, map}
 use Rattle.bank_parts.specs.declared.parts.Parts.{Parts}
 use Rattle.script_notes.specs.Notes.{Numbers}
-use Rattle.mixer.specs.Heard.{Start, fresh, sum_at, frames}
+use Rattle.mixer.specs.StartFrames.{Start, note_voices, sum_at, frames}
 use Rattle.mixer.specs.Render.{notes_at}
 
 -- a note inserted before those that start no earlier
@@ -16,7 +16,7 @@ in_order [] = []
 in_order (n ∷ ns) = placed n (in_order ns)
 
 unfoldable pub start_of : Parts → Numbers → Start
-start_of b n = record { frame = n.start; voices = fresh b n }
+start_of b n = record { frame = n.start; voices = note_voices b n }
 
 -- m frames of sorted notes
 unfoldable pub frames_of : Parts → List Numbers → ℕ → List ℤ

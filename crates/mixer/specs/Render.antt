@@ -6,9 +6,9 @@ use Rattle.bank_parts.specs.declared.parts.Parts.{Parts}
 use Rattle.script_notes.specs.Notes.{Numbers}
 use Rattle.zone_select.specs.Select.{Voice, selected}
 use Rattle.voices.specs.Sound.{snd}
-use Rattle.mixer.specs.declared.playing.Playing.{Playing}
-use Rattle.mixer.specs.Sums.{sum_of}
-use Rattle.mixer.specs.Heard.{fresh, silences, cut, is_left}
+use Rattle.mixer.specs.declared.playing.PlayingVoice.{PlayingVoice}
+use Rattle.mixer.specs.Sums.{sum_over}
+use Rattle.mixer.specs.StartFrames.{note_voices, silences, clipped, is_left}
 
 -- ---- how many frames there are
 
@@ -29,14 +29,14 @@ frame_count b (n ∷ ns) = max (end_of b n) (frame_count b ns)
 -- ---- the frames
 
 -- one of the notes starts from frame k to frame t, and silences q
-unfoldable pub silenced_from : Parts → ℕ → ℕ → Playing → List Numbers → Bool
-silenced_from b k t q ms = list_any (λ m. nat_le k m.start && (nat_le m.start t && silences (fresh b m) q)) ms
+unfoldable pub silenced_from : Parts → ℕ → ℕ → PlayingVoice → List Numbers → Bool
+silenced_from b k t q ms = list_any (λ m. nat_le k m.start && (nat_le m.start t && silences (note_voices b m) q)) ms
 
 -- a note at frame t, without its `quiet` voices
-unfoldable pub note_with : Parts → (Playing → Bool) → Numbers → Bool → ℕ → ℤ
+unfoldable pub note_with : Parts → (PlayingVoice → Bool) → Numbers → Bool → ℕ → ℤ
 note_with b quiet n left t =
     cond (nat_le n.start t)
-    (sum_of (λ p. cond (quiet p) (pos 0) (snd p.voice.value left (p.voice.age + (t - n.start)))) (fresh b n)) (pos 0)
+    (sum_over (λ p. cond (quiet p) (pos 0) (snd p.voice.value left (p.voice.age + (t - n.start)))) (note_voices b n)) (pos 0)
 
 -- a note among others: it is silenced by those that start later, and by those after it in the list that start with it
 unfoldable pub note_at : Parts → List Numbers → List Numbers → Numbers → Bool → ℕ → ℤ
@@ -50,7 +50,7 @@ notes_at b before (n ∷ after) left t = note_at b before after n left t +ℤ no
 
 -- value i of the frames: the sum of all notes, clipped once
 unfoldable pub rendered_side : Parts → List Numbers → ℕ → ℤ
-rendered_side b ns i = cut (notes_at b [] ns (is_left i) (i / 2))
+rendered_side b ns i = clipped (notes_at b [] ns (is_left i) (i / 2))
 
 -- all frames of notes in any order, left and right interleaved
 unfoldable pub render : Parts → List Numbers → List ℤ

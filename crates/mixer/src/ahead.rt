@@ -2,15 +2,15 @@
 ghost use Rattle.std.specs.Prelude.{◌≡◌, ℕ, ◌+◌, ◌*◌, ◌/◌, ◌%◌, ◌<◌, ◌≤◌, ◌^◌, ◌++◌, ◌+ℤ◌, List, [], false, pos, EachIndex, length, map, slice_index_or, vec_len};
 ghost use Rattle.std.specs.List.{list_any};
 ghost use Rattle.std.specs.Vec.{vec_capacity};
-ghost use Rattle.mixer.specs.declared.playing.Playing.{Playing};
+ghost use Rattle.mixer.specs.declared.playing.PlayingVoice.{PlayingVoice};
 ghost use Rattle.voices.specs.Within.{IsWithin};
-ghost use Rattle.mixer.specs.Heard as heard;
+ghost use Rattle.mixer.specs.StartFrames as heard;
 ghost use Rattle.mixer.specs.Ahead.{AreSums, AreWithin, IsAhead, playing_now};
 ghost use Rattle.mixer.specs.Events.{aged, next_side, unsilenced};
 ghost use Rattle.mixer.specs.KeptVoices.{AllSounding, AllYounger, lifetime};
 
-use crate::blocks::{GROUP, add_voices, cut_both};
-use crate::playing::{Playing, drop_over, drop_silenced, go_back, have_class};
+use crate::blocks::{GROUP, add_voices, clip_sums};
+use crate::playing::{PlayingVoice, drop_over, drop_silenced, go_back, have_class};
 use voices::Workspace;
 
 // The most frames that are mixed ahead.
@@ -27,7 +27,7 @@ pub(crate) struct Ahead {
     middle: [i32; MOST_AHEAD],
     pub(crate) left: usize,
     // How many frames to sum next if fewer are asked for: twice as many as before, since a start may discard them.
-    reach: usize,
+    next_count: usize,
 }
 
 impl Ahead {
@@ -39,7 +39,7 @@ impl Ahead {
             sides: [0; SIDES],
             middle: [0; MOST_AHEAD],
             left: 0,
-            reach: 0,
+            next_count: 0,
         }
     }
 
@@ -56,12 +56,12 @@ impl Ahead {
     }
 
     // Adds the frames of further voices to the remaining ones, and advances these voices by as many frames.
-    pub(crate) fn join(&mut self, voices: &mut [Playing], work: &mut Workspace)
+    pub(crate) fn join(&mut self, voices: &mut [PlayingVoice], work: &mut Workspace)
         requires few { 0 < self.old.left → length voices.old ≤ GROUP }
         requires young { AllYounger (2 ^ 63 + 2 ^ 34) voices.old }
         requires room { AreWithin GROUP self.old }
         ensures left { self.new.left ≡ self.old.left }
-        ensures sums { (ps : List Playing) → AreSums self.old ps → AreSums self.new (ps ++ voices.old) }
+        ensures sums { (ps : List PlayingVoice) → AreSums self.old ps → AreSums self.new (ps ++ voices.old) }
         ensures live { voices.new ≡ map (aged self.old.left) voices.old }
     {
         if self.left == 0 {
@@ -77,7 +77,7 @@ impl Ahead {
     }
 
     // Sums the next frames of all voices when none remain: as many as asked for, or more.
-    pub(crate) fn fill(&mut self, asked: usize, voices: &mut [Playing], work: &mut Workspace)
+    pub(crate) fn fill(&mut self, asked: usize, voices: &mut [PlayingVoice], work: &mut Workspace)
         requires some { 0 < asked }
         requires few { length voices.old ≤ GROUP }
         requires young { AllYounger (2 ^ 63 + 2 ^ 34) voices.old }
@@ -85,40 +85,40 @@ impl Ahead {
         ensures sums { AreSums self.new voices.old }
         ensures live { voices.new ≡ map (aged self.new.left) voices.old }
     {
-        let count = self.reach.max(asked).min(MOST_AHEAD);
-        self.reach = 2 * count;
+        let count = self.next_count.max(asked).min(MOST_AHEAD);
+        self.next_count = 2 * count;
         self.clear(count);
         self.join(voices, work);
     }
 
     // Writes the next frames, all of which must be summed already.
-    pub(crate) fn give(&mut self, out: &mut [i16])
+    pub(crate) fn write_frames(&mut self, out: &mut [i16])
         requires even { length out.old % 2 ≡ 0 }
         requires enough { length out.old ≤ 2 * self.old.left }
         requires room { AreWithin GROUP self.old }
         ensures left { self.new.left + length out.old / 2 ≡ self.old.left }
-        ensures heard { (ps : List Playing) → AreSums self.old ps
+        ensures heard { (ps : List PlayingVoice) → AreSums self.old ps
             → EachIndex out.new (λ i. slice_index_or out.new i (pos 0) ≡ next_side ps i) }
-        ensures sums { (ps : List Playing) → AreSums self.old ps → AreSums self.new (map (aged (length out.old / 2)) ps) }
+        ensures sums { (ps : List PlayingVoice) → AreSums self.old ps → AreSums self.new (map (aged (length out.old / 2)) ps) }
     {
         let first = MOST_AHEAD - self.left;
-        cut_from(&self.sides, &self.middle, first, out);
+        clip_from(&self.sides, &self.middle, first, out);
         self.left -= out.len() / 2;
     }
 }
 
 // Writes the sums from a frame on, clipped to 16 bits.
-fn cut_from(sides: &[i32], middle: &[i32], first: usize, out: &mut [i16])
+fn clip_from(sides: &[i32], middle: &[i32], first: usize, out: &mut [i16])
     requires even { length out.old % 2 ≡ 0 }
     requires sides { 2 * first + length out.old ≤ length sides.now }
     requires middle { first + length out.old / 2 ≤ length middle.now }
     requires room { (i : ℕ) → i < length out.old → IsWithin GROUP (slice_index_or sides.now (2 * first + i) (pos 0)) }
     requires middle_room { (k : ℕ) → k < length out.old / 2 → IsWithin GROUP (slice_index_or middle.now (first + k) (pos 0)) }
     ensures { EachIndex out.new (λ i. slice_index_or out.new i (pos 0)
-        ≡ heard.cut (slice_index_or sides.now (2 * first + i) (pos 0) +ℤ slice_index_or middle.now (first + i / 2) (pos 0))) }
+        ≡ heard.clipped (slice_index_or sides.now (2 * first + i) (pos 0) +ℤ slice_index_or middle.now (first + i / 2) (pos 0))) }
 {
     let n = out.len();
-    cut_both(
+    clip_sums(
         &sides[2 * first..2 * first + n],
         &middle[first..first + n / 2],
         out,
@@ -128,7 +128,7 @@ fn cut_from(sides: &[i32], middle: &[i32], first: usize, out: &mut [i16])
 // Sums frames of all voices ahead for a short block, unless some remain: as many as asked for, or more. If none remain
 // then, voices that are over have been dropped.
 pub(crate) fn sum_ahead<'a>(
-    voices: &mut Vec<Playing<'a>>,
+    voices: &mut Vec<PlayingVoice<'a>>,
     ahead: &mut Ahead,
     work: &mut Workspace,
     asked: usize,
@@ -153,7 +153,7 @@ pub(crate) fn sum_ahead<'a>(
 // Discards the remaining frames if new voices invalidate them: if a new voice has an exclusive class, and so may
 // silence a voice that is part of them, or if the sums have no space for the new voices. The voices go back by as many
 // frames.
-fn drop_ahead<'a>(voices: &mut Vec<Playing<'a>>, ahead: &mut Ahead, new: &[Playing<'a>])
+fn drop_ahead<'a>(voices: &mut Vec<PlayingVoice<'a>>, ahead: &mut Ahead, new: &[PlayingVoice<'a>])
     requires { IsAhead ahead.old voices.old.items }
     ensures ahead { IsAhead ahead.new voices.new.items }
     ensures same { playing_now ahead.new voices.new.items ≡ playing_now ahead.old voices.old.items }
@@ -167,11 +167,15 @@ fn drop_ahead<'a>(voices: &mut Vec<Playing<'a>>, ahead: &mut Ahead, new: &[Playi
     }
     go_back(voices.as_mut_slice(), ahead.left);
     ahead.left = 0;
-    ahead.reach = 0;
+    ahead.next_count = 0;
 }
 
 // Drops the voices that new ones silence.
-pub(crate) fn make_way<'a>(voices: &mut Vec<Playing<'a>>, ahead: &mut Ahead, new: &[Playing<'a>])
+pub(crate) fn silence_voices<'a>(
+    voices: &mut Vec<PlayingVoice<'a>>,
+    ahead: &mut Ahead,
+    new: &[PlayingVoice<'a>],
+)
     requires { IsAhead ahead.old voices.old.items }
     ensures ahead { IsAhead ahead.new voices.new.items }
     ensures unsilenced { playing_now ahead.new voices.new.items ≡ unsilenced new.now (playing_now ahead.old voices.old.items) }

@@ -1,11 +1,11 @@
 //! Blocks of frames: the sum of the voices, computed in parts and clipped once.
 ghost use Rattle.std.specs.Prelude.{◌≡◌, ℕ, ◌+◌, ◌*◌, ◌/◌, ◌%◌, ◌<◌, ◌≤◌, ◌^◌, ◌+ℤ◌, pos, EachIndex, length, map, slice_index_or};
 ghost use Rattle.voices.specs.Within.{AllWithin};
-ghost use Rattle.mixer.specs.Heard as heard;
+ghost use Rattle.mixer.specs.StartFrames as heard;
 ghost use Rattle.mixer.specs.Events.{aged, total_at, next_side};
 ghost use Rattle.mixer.specs.KeptVoices.{AllYounger};
 
-use crate::playing::Playing;
+use crate::playing::PlayingVoice;
 use voices::Workspace;
 
 // The most frames that are summed in one pass.
@@ -39,7 +39,7 @@ impl MixBuffers {
 // Adds the next frames of all voices: those of centred voices to `middle`, which both sides share, and the others to
 // `sides`. Each voice advances by as many frames.
 pub(crate) fn add_voices(
-    voices: &mut [Playing],
+    voices: &mut [PlayingVoice],
     work: &mut Workspace,
     sides: &mut [i32],
     middle: &mut [i32],
@@ -62,7 +62,12 @@ pub(crate) fn add_voices(
 }
 
 // Computes the sums of all voices of a group.
-fn sum_group(voices: &mut [Playing], work: &mut Workspace, sides: &mut [i32], middle: &mut [i32])
+fn sum_group(
+    voices: &mut [PlayingVoice],
+    work: &mut Workspace,
+    sides: &mut [i32],
+    middle: &mut [i32],
+)
     requires sides { length sides.old ≡ 2 * length middle.old }
     requires few { length voices.old ≤ GROUP }
     requires young { AllYounger (2 ^ 63 + 2 ^ 34) voices.old }
@@ -78,7 +83,7 @@ fn sum_group(voices: &mut [Playing], work: &mut Workspace, sides: &mut [i32], mi
 }
 
 // Adds the sums of a group to totals.
-fn widen(sides: &[i32], middle: &[i32], totals: &mut [i128])
+fn add_to_totals(sides: &[i32], middle: &[i32], totals: &mut [i128])
     requires sides { length totals.old ≡ length sides.now }
     requires middle { length totals.old ≡ 2 * length middle.now }
     requires room { AllWithin (2 ^ 65) totals.old }
@@ -93,13 +98,13 @@ fn widen(sides: &[i32], middle: &[i32], totals: &mut [i128])
 }
 
 // Writes each side's sum plus the shared one, clipped to 16 bits.
-pub(crate) fn cut_both(sums: &[i32], middle: &[i32], out: &mut [i16])
+pub(crate) fn clip_sums(sums: &[i32], middle: &[i32], out: &mut [i16])
     requires sums { length sums.now ≡ length out.old }
     requires middle { length out.old ≡ 2 * length middle.now }
     requires room { AllWithin GROUP sums.now }
     requires middle_room { AllWithin GROUP middle.now }
     ensures { EachIndex out.new (λ i. slice_index_or out.new i (pos 0)
-        ≡ heard.cut (slice_index_or sums.now i (pos 0) +ℤ slice_index_or middle.now (i / 2) (pos 0))) }
+        ≡ heard.clipped (slice_index_or sums.now i (pos 0) +ℤ slice_index_or middle.now (i / 2) (pos 0))) }
 {
     for i in 0..out.len() {
         let both = sums[i] + middle[i / 2];
@@ -108,9 +113,9 @@ pub(crate) fn cut_both(sums: &[i32], middle: &[i32], out: &mut [i16])
 }
 
 // Writes each total, clipped to 16 bits.
-fn cut_totals(totals: &[i128], out: &mut [i16])
+fn clip_totals(totals: &[i128], out: &mut [i16])
     requires { length totals.now ≡ length out.old }
-    ensures { EachIndex out.new (λ i. slice_index_or out.new i (pos 0) ≡ heard.cut (slice_index_or totals.now i (pos 0))) }
+    ensures { EachIndex out.new (λ i. slice_index_or out.new i (pos 0) ≡ heard.clipped (slice_index_or totals.now i (pos 0))) }
 {
     for i in 0..out.len() {
         out[i] = totals[i].min(32767).max(-32768) as i16;
@@ -126,7 +131,7 @@ fn silent_totals() -> [i128; PART_SIDES]
 
 // Adds a group of voices to totals.
 fn add_group(
-    voices: &mut [Playing],
+    voices: &mut [PlayingVoice],
     work: &mut Workspace,
     sides: &mut [i32; PART_SIDES],
     middle: &mut [i32; PART],
@@ -145,11 +150,11 @@ fn add_group(
     let sides = &mut sides[..n];
     let middle = &mut middle[..n / 2];
     sum_group(voices, work, sides, middle);
-    widen(sides, middle, totals);
+    add_to_totals(sides, middle, totals);
 }
 
 // Adds all voices to totals, group by group.
-fn add_all(voices: &mut [Playing], buffers: &mut MixBuffers, totals: &mut [i128])
+fn add_all(voices: &mut [PlayingVoice], buffers: &mut MixBuffers, totals: &mut [i128])
     requires young { AllYounger (2 ^ 63 + 2 ^ 34) voices.old }
     requires short { length totals.old ≤ 2 * PART }
     requires even { length totals.old % 2 ≡ 0 }
@@ -174,7 +179,7 @@ fn add_all(voices: &mut [Playing], buffers: &mut MixBuffers, totals: &mut [i128]
 // Mixes a part of a block of at most one group of voices.
 #[tactic(auto, unfolding(crate::specs::Events::next_side))]
 fn mix_group(
-    voices: &mut [Playing],
+    voices: &mut [PlayingVoice],
     work: &mut Workspace,
     sides: &mut [i32; PART_SIDES],
     middle: &mut [i32; PART],
@@ -191,12 +196,12 @@ fn mix_group(
     let sides = &mut sides[..n];
     let middle = &mut middle[..n / 2];
     sum_group(voices, work, sides, middle);
-    cut_both(sides, middle, out);
+    clip_sums(sides, middle, out);
 }
 
 // Mixes a part of a block of any number of voices.
 #[tactic(auto, unfolding(crate::specs::Events::next_side))]
-fn mix_groups(voices: &mut [Playing], buffers: &mut MixBuffers, out: &mut [i16])
+fn mix_groups(voices: &mut [PlayingVoice], buffers: &mut MixBuffers, out: &mut [i16])
     requires young { AllYounger (2 ^ 63 + 2 ^ 34) voices.old }
     requires short { length out.old ≤ 2 * PART }
     requires even { length out.old % 2 ≡ 0 }
@@ -206,11 +211,11 @@ fn mix_groups(voices: &mut [Playing], buffers: &mut MixBuffers, out: &mut [i16])
     let mut totals = silent_totals();
     let n = out.len();
     add_all(voices, buffers, &mut totals[..n]);
-    cut_totals(&totals[..n], out);
+    clip_totals(&totals[..n], out);
 }
 
 // Mixes a part of a block. Each voice advances; those that are over are not dropped.
-pub(crate) fn mix_part(voices: &mut [Playing], buffers: &mut MixBuffers, out: &mut [i16])
+pub(crate) fn mix_part(voices: &mut [PlayingVoice], buffers: &mut MixBuffers, out: &mut [i16])
     requires young { AllYounger (2 ^ 63 + 2 ^ 34) voices.old }
     requires short { length out.old ≤ 2 * PART }
     requires even { length out.old % 2 ≡ 0 }

@@ -1,6 +1,6 @@
 //! The laws of players and of notes.
-ghost use Rattle.mixer.specs.Alike.{AlikeBlocks, AlikeHeard, AlikeRender};
-ghost use Rattle.mixer.specs.Events.{BlocksAreHeard, CutsAreFree};
+ghost use Rattle.mixer.specs.Alike.{AlikeBlocks, AlikeFrames, AlikeRender};
+ghost use Rattle.mixer.specs.Events.{BlocksAreHeard, SplitsAreFree};
 ghost use Rattle.mixer.specs.Order.{OrderIsFree};
 ghost use Rattle.mixer.specs.Stops.{StopsAreLeast};
 
@@ -13,8 +13,8 @@ pub fn blocks_are_heard()
 
 /// The law that the division of frames into blocks doesn't change them. It does nothing.
 #[tactic(auto, using(crate::proofs::EventLaws::cuts_free))]
-pub fn cuts_are_free()
-    ensures { CutsAreFree }
+pub fn splits_are_free()
+    ensures { SplitsAreFree }
 {}
 
 /// The law that sorting notes by start, with equal starts in their order, doesn't change how they render. It does
@@ -38,7 +38,7 @@ pub fn alike_banks_render_the_same()
 
 /// The law that edits that keep the voices of each note change neither the frames of note starts nor the blocks of a
 /// player, whatever it plays at first. It does nothing.
-pub fn alike_edits_are_not_heard()
-    ensures heard { AlikeHeard }
+pub fn alike_edits_change_no_frame()
+    ensures heard { AlikeFrames }
     ensures blocks { AlikeBlocks }
 {}

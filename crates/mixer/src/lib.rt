@@ -11,8 +11,8 @@ mod playing;
 mod rendering;
 
 pub use laws::{
-    alike_banks_render_the_same, alike_edits_are_not_heard, blocks_are_heard, cuts_are_free,
-    order_is_free, stops_are_least,
+    alike_banks_render_the_same, alike_edits_change_no_frame, blocks_are_heard, order_is_free,
+    splits_are_free, stops_are_least,
 };
 pub use player::Player;
 pub use rendering::{render, render_with_progress};

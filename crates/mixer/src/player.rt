@@ -1,13 +1,13 @@
 //! A player of notes.
 ghost use Rattle.std.specs.Prelude.{◌≡◌, ◌%◌, ◌/◌, ◌<◌, ◌≤◌, ℕ, [], pos, OnOk, OnErr, length, slice_index_or};
-ghost use Rattle.mixer.specs.Heard as heard;
+ghost use Rattle.mixer.specs.StartFrames as heard;
 ghost use Rattle.mixer.specs.Events.{after_start, after_block, block, next_side};
 
-use crate::ahead::{Ahead, MOST_AHEAD, make_way, sum_ahead};
+use crate::ahead::{Ahead, MOST_AHEAD, silence_voices, sum_ahead};
 use crate::blocks::{MixBuffers, PART_SIDES, mix_part};
-use crate::playing::{Playing, drop_over, fresh};
+use crate::playing::{PlayingVoice, drop_over, note_voices};
 use bank_core::Bank;
-use base_progress::{Progress, Unheard};
+use base_progress::{NoReports, Progress};
 use script_notes::Note;
 use sf_base::OutOfMemory;
 use std::alloc::Global;
@@ -23,7 +23,7 @@ pub struct Player<'a> {
     buffers: MixBuffers,
     ahead: Ahead,
     // The voices, advanced past the frames in `ahead`.
-    voices: Vec<Playing<'a>>,
+    voices: Vec<PlayingVoice<'a>>,
 }
 
 // Not derived: a derived drop is inlined, and proved, wherever a value is dropped; this one is a call.
@@ -39,10 +39,10 @@ impl Drop for Player<'_> {
 
 impl<'a> Model for Player<'a> {
     ghost use Rattle.std.specs.Prelude.{List};
-    ghost use Rattle.mixer.specs.declared.playing.Playing.{Playing};
+    ghost use Rattle.mixer.specs.declared.playing.PlayingVoice.{PlayingVoice};
     ghost use Rattle.mixer.specs.Ahead.{IsAhead, playing_now};
 
-    ghost Value = { List Playing };
+    ghost Value = { List PlayingVoice };
 
     ghost view = { λ p. playing_now p.ahead p.voices.items };
 
@@ -68,13 +68,13 @@ impl<'a> Player<'a> {
     /// class of one of the new voices (SoundFont 2.04, section 8.1.2, generator 57; class 0 means none). If it returns
     /// `OutOfMemory`, nothing is started or silenced.
     pub fn start(&mut self, alloc: Global, bank: &Bank<'a>, note: &Note) -> Result<(), OutOfMemory>
-        ensures done { OnOk result (self.new ≡ after_start self.old (heard.fresh bank.now note.now)) }
+        ensures done { OnOk result (self.new ≡ after_start self.old (heard.note_voices bank.now note.now)) }
         ensures refused { OnErr result (self.new ≡ self.old) }
     {
-        let mut new = fresh(alloc, bank, note)?;
+        let mut new = note_voices(alloc, bank, note)?;
         self.voices.try_reserve(new.len())?;
         // No allocation from here on.
-        make_way(&mut self.voices, &mut self.ahead, new.as_slice());
+        silence_voices(&mut self.voices, &mut self.ahead, new.as_slice());
         drop_over(&mut new);
         self.ahead.join(new.as_mut_slice(), &mut self.buffers.work);
         match self.voices.append(&mut new) {
@@ -98,7 +98,7 @@ impl<'a> Player<'a> {
         ensures live { self.new ≡ after_block self.old (length out.old / 2) }
         ensures none { length out.old ≡ 0 → self.new ≡ self.old }
     {
-        self.block_with_progress(out, &mut Unheard);
+        self.block_with_progress(out, &mut NoReports);
     }
 
     // Like `block`, and reports the frames as they are done.
@@ -114,13 +114,18 @@ impl<'a> Player<'a> {
         let is_short = out.len() < 2 * MOST_AHEAD;
         let mut at = 0;
         while at < out.len() {
-            at += self.give_part(&mut out[at..], is_short, progress);
+            at += self.write_part(&mut out[at..], is_short, progress);
         }
     }
 
     // Writes the first of the requested frames, and returns how many values it wrote: frames that are summed ahead, or
     // else at most 1,024 frames, after which voices that are over are dropped.
-    fn give_part<P: Progress>(&mut self, out: &mut [i16], is_short: bool, progress: &mut P) -> usize
+    fn write_part<P: Progress>(
+        &mut self,
+        out: &mut [i16],
+        is_short: bool,
+        progress: &mut P,
+    ) -> usize
         requires even { length out.old % 2 ≡ 0 }
         requires some { 0 < length out.old }
         ensures some { 0 < result }
@@ -145,7 +150,7 @@ impl<'a> Player<'a> {
             return n;
         }
         let n = out.len().min(2 * self.ahead.left);
-        self.ahead.give(&mut out[..n]);
+        self.ahead.write_frames(&mut out[..n]);
         progress.advance(n as u64 / 2);
         n
     }

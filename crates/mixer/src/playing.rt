@@ -4,7 +4,7 @@ ghost use Rattle.std.specs.Bool.{OnTrue};
 ghost use Rattle.std.specs.List.{list_any};
 ghost use Rattle.std.specs.Vec.{vec_capacity};
 ghost use Rattle.zone_select.specs.Pairs.{voice_by, listed};
-ghost use Rattle.mixer.specs.Heard as heard;
+ghost use Rattle.mixer.specs.StartFrames as heard;
 ghost use Rattle.mixer.specs.Events.{is_sounding, unsilenced};
 ghost use Rattle.mixer.specs.Ahead.{rewound};
 ghost use Rattle.mixer.specs.KeptVoices.{AllSounding, AllYounger, lifetime};
@@ -18,13 +18,13 @@ use zone_select::matches;
 
 // A voice, with the bank and preset number of its note.
 #[derive(Drop)]
-pub(crate) struct Playing<'a> {
+pub(crate) struct PlayingVoice<'a> {
     pub(crate) voice: Voice<'a>,
     pub(crate) bank: u16,
     pub(crate) number: u16,
 }
 
-impl<'a> Playing<'a> {
+impl<'a> PlayingVoice<'a> {
     fn has_class(&self) -> bool
         ensures { result ≡ heard.has_class self.now }
     {
@@ -33,8 +33,8 @@ impl<'a> Playing<'a> {
 }
 
 // Whether the first voice silences the second when it starts.
-#[tactic(auto, unfolding(crate::specs::Heard::excludes))]
-fn excludes(new: &Playing, old: &Playing) -> bool
+#[tactic(auto, unfolding(crate::specs::StartFrames::excludes))]
+fn excludes(new: &PlayingVoice, old: &PlayingVoice) -> bool
     ensures { result ≡ heard.excludes new.now old.now }
 {
     let classes = (new.voice.exclusive_class(), old.voice.exclusive_class());
@@ -45,8 +45,8 @@ fn excludes(new: &Playing, old: &Playing) -> bool
 }
 
 // Whether one of the starting voices silences a playing one. A playing voice without a class needs no search.
-#[tactic(auto, using(crate::proofs::Classes::none_silences), unfolding(crate::specs::Heard::silences))]
-fn silences(new: &[Playing], old: &Playing) -> bool
+#[tactic(auto, using(crate::proofs::Classes::none_silences), unfolding(crate::specs::StartFrames::silences))]
+fn silences(new: &[PlayingVoice], old: &PlayingVoice) -> bool
     ensures { result ≡ heard.silences new.now old.now }
 {
     if !old.has_class() {
@@ -56,14 +56,14 @@ fn silences(new: &[Playing], old: &Playing) -> bool
 }
 
 // Whether one of the voices has an exclusive class.
-pub(crate) fn have_class(voices: &[Playing]) -> bool
+pub(crate) fn have_class(voices: &[PlayingVoice]) -> bool
     ensures { result ≡ list_any heard.has_class voices.now }
 {
     voices.iter().any(|p| p.has_class())
 }
 
 // Takes all voices back by a number of frames that they have played.
-pub(crate) fn go_back(voices: &mut [Playing], frames: usize)
+pub(crate) fn go_back(voices: &mut [PlayingVoice], frames: usize)
     requires given { All (λ p. frames ≤ p.voice.age) voices.old }
     ensures live { voices.new ≡ map (rewound frames) voices.old }
 {
@@ -73,7 +73,7 @@ pub(crate) fn go_back(voices: &mut [Playing], frames: usize)
 }
 
 // Drops the voices that new ones silence. New voices without a class need no search.
-pub(crate) fn drop_silenced<'a>(voices: &mut Vec<Playing<'a>>, new: &[Playing<'a>])
+pub(crate) fn drop_silenced<'a>(voices: &mut Vec<PlayingVoice<'a>>, new: &[PlayingVoice<'a>])
     ensures items { voices.new.items ≡ unsilenced new.now voices.old.items }
     ensures bound { vec_len voices.new ≤ vec_len voices.old }
     ensures capacity { vec_capacity voices.new ≡ vec_capacity voices.old }
@@ -85,7 +85,7 @@ pub(crate) fn drop_silenced<'a>(voices: &mut Vec<Playing<'a>>, new: &[Playing<'a
 }
 
 #[tactic(auto, unfolding(crate::specs::Events::is_sounding))]
-fn is_sounding(p: &Playing) -> bool
+fn is_sounding(p: &PlayingVoice) -> bool
     ensures value { result ≡ is_sounding p.now }
     ensures young { OnTrue result (p.now.voice.age < lifetime) }
 {
@@ -93,7 +93,7 @@ fn is_sounding(p: &Playing) -> bool
 }
 
 // Drops the voices that are over.
-pub(crate) fn drop_over<'a>(voices: &mut Vec<Playing<'a>>)
+pub(crate) fn drop_over<'a>(voices: &mut Vec<PlayingVoice<'a>>)
     ensures items { voices.new.items ≡ filter is_sounding voices.old.items }
     ensures young { AllYounger lifetime voices.new.items }
     ensures sounding { AllSounding voices.new.items }
@@ -104,12 +104,12 @@ pub(crate) fn drop_over<'a>(voices: &mut Vec<Playing<'a>>)
 }
 
 // The voices of a note, each at its first frame.
-pub(crate) fn fresh<'a>(
+pub(crate) fn note_voices<'a>(
     alloc: Global,
     bank: &Bank<'a>,
     note: &Note,
-) -> Result<Vec<Playing<'a>>, OutOfMemory>
-    ensures { IfOk result (λ voices. voices.items ≡ heard.fresh bank.now note.now) }
+) -> Result<Vec<PlayingVoice<'a>>, OutOfMemory>
+    ensures { IfOk result (λ voices. voices.items ≡ heard.note_voices bank.now note.now) }
 {
     let mut voices = Vec::new(alloc);
     for pair in matches(bank, note) {
@@ -124,14 +124,14 @@ fn add_voice<'a>(
     bank: &Bank<'a>,
     note: &Note,
     pair: (u32, u32),
-    voices: &mut Vec<Playing<'a>>,
+    voices: &mut Vec<PlayingVoice<'a>>,
 ) -> Result<(), OutOfMemory>
     ensures { OnOk result (voices.new.items
         ≡ voices.old.items ++ map (heard.playing note.now) (listed (voice_by bank.now note.now pair))) }
 {
     match Voice::start(alloc, bank, note, pair) {
         Ok(voice) => {
-            voices.push(Playing {
+            voices.push(PlayingVoice {
                 voice,
                 bank: note.bank(),
                 number: note.number(),

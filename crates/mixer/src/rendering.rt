@@ -9,7 +9,7 @@ ghost use Rattle.mixer.specs.Order.{IsRising, StartWithin};
 
 use crate::player::Player;
 use bank_core::Bank;
-use base_progress::{Progress, Unheard, Work};
+use base_progress::{NoReports, Progress, Work};
 use script_notes::Note;
 use sf_base::OutOfMemory;
 use sound_tables::MOST_FRAMES;
@@ -29,7 +29,7 @@ pub fn render(alloc: Global, bank: &Bank<'_>, notes: &[Note]) -> Result<Vec<i16>
     ensures value { IfOk result (λ sides. sides.items ≡ whole.render bank.now notes.now) }
     ensures fits { IfOk result (λ sides. IsRendered sides.items) }
 {
-    render_with_progress(alloc, bank, notes, &mut Unheard)
+    render_with_progress(alloc, bank, notes, &mut NoReports)
 }
 
 /// Like [`render`], and reports its progress.

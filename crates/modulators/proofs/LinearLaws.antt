@@ -7,13 +7,13 @@ use Rattle.std.proofs.lemmas.Map.Views.{list_any-from_Contains, Contains-from_an
 use Rattle.std.proofs.lemmas.Cmp.{nat_eq_equiv}
 use Rattle.modulators.specs.declared.modulator.Modulator.{Modulator}
 use Rattle.modulators.specs.Modulators.{index_of, flag_of}
-use Rattle.modulators.specs.Linear.{IsLinear, is_linear, curve_of, velocity_index, key_index, moved_generators}
+use Rattle.modulators.specs.Linear.{IsLinear, is_linear, curve_of, velocity_index, key_index, linear_destinations}
 
 moved_decides : (generator : ℕ)
-    → Decides (list_any (λ operator. generator == operator) moved_generators) (Contains moved_generators generator)
+    → Decides (list_any (λ operator. generator == operator) linear_destinations) (Contains linear_destinations generator)
 moved_decides generator = (
-  Contains-from_any (λ x y e. (Decides-eqb x y).0 e) generator moved_generators,
-  list_any-from_Contains nat_eq_equiv generator moved_generators,
+  Contains-from_any (λ x y e. (Decides-eqb x y).0 e) generator linear_destinations,
+  list_any-from_Contains nat_eq_equiv generator linear_destinations,
 )
 
 pub linear_decides : (m : Modulator) → Decides (is_linear m) (IsLinear m)

@@ -18,8 +18,8 @@ key_index = 3
 
 -- The generators that such a modulator may change: pan; the volume envelope's attack, decay, sustain and release;
 -- attenuation; fine tune.
-abbrev pub moved_generators : List ℕ
-moved_generators = 17 ∷ 34 ∷ 36 ∷ 37 ∷ 38 ∷ 48 ∷ 52 ∷ []
+abbrev pub linear_destinations : List ℕ
+linear_destinations = 17 ∷ 34 ∷ 36 ∷ 37 ∷ 38 ∷ 48 ∷ 52 ∷ []
 
 -- Linear, from the key or the velocity alone, to one of those generators.
 pub record IsLinear (m : Modulator) : Type 0 where
@@ -27,7 +27,7 @@ pub record IsLinear (m : Modulator) : Type 0 where
   pub controller : (index_of m.source ≡ velocity_index) ⊎ (index_of m.source ≡ key_index)
   pub straight : curve_of m.source ≡ 0
   pub alone : m.amount_source ≡ 0
-  pub moves : Contains moved_generators m.dest
+  pub moves : Contains linear_destinations m.dest
 
 -- The same as a test.
 abbrev pub is_linear : Modulator → Bool
@@ -36,7 +36,7 @@ is_linear m =
     && ((index_of m.source == velocity_index) || (index_of m.source == key_index))
     && (curve_of m.source == 0)
     && (m.amount_source == 0)
-    && list_any (λ operator. m.dest == operator) moved_generators
+    && list_any (λ operator. m.dest == operator) linear_destinations
 
 -- The value of the source's controller.
 abbrev pub controller_value : ℕ → ℕ → ℕ → ℕ

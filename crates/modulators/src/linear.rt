@@ -2,7 +2,7 @@
 ghost use Rattle.std.specs.Prelude.{◌≡◌, ◌≤◌, ◌<◌, ◌≤ℤ◌, pos, negsuc, IfSome, MatchOption, ◌==◌};
 ghost use Rattle.std.specs.List.{list_any};
 ghost use Rattle.modulators.specs.Modulators.{bit_of};
-ghost use Rattle.modulators.specs.Linear.{IsLinear, is_linear, linear_value, controller_value, directed, polarized, moved_generators};
+ghost use Rattle.modulators.specs.Linear.{IsLinear, is_linear, linear_value, controller_value, directed, polarized, linear_destinations};
 
 use crate::modulator::Modulator;
 
@@ -44,13 +44,13 @@ fn is_linear(modulator: &Modulator) -> bool
     matches!(modulator.source & 0xff, VELOCITY | KEY)
         && modulator.source >> 10 == 0
         && modulator.amount_source == 0
-        && is_moved(modulator.dest)
+        && is_linear_destination(modulator.dest)
 }
 
 // Whether a linear modulator may change this generator: pan; the volume envelope's attack, decay, sustain or release;
 // attenuation; fine tune.
-fn is_moved(generator: u16) -> bool
-    ensures { result ≡ list_any (λ operator. generator == operator) moved_generators }
+fn is_linear_destination(generator: u16) -> bool
+    ensures { result ≡ list_any (λ operator. generator == operator) linear_destinations }
 {
     matches!(generator, 17 | 34 | 36 | 37 | 38 | 48 | 52)
 }

@@ -1,2 +1,2 @@
 mod ReadInPlace
-mod ToldLines
+mod ReportedLines

@@ -5,7 +5,7 @@ use Rattle.program_files.specs.declared.output_checks.OutputCheck.{OutputCheck}
 use Rattle.program_files.specs.declared.output_checks.OutputCheck.TheVariants as checks
 use Rattle.program_files.specs.declared.run_fault.RunFault.TheVariants.{Write, Memory}
 use Rattle.program_files.specs.declared.fault.Fault.{Fault}
-use Rattle.program_files.specs.declared.fault.Fault.TheVariants.{Output, Run, Unread}
+use Rattle.program_files.specs.declared.fault.Fault.TheVariants.{Output, Run, PipeClosed}
 
 -- the fault of a check of the output at this path
 abbrev pub fault_of_check : OutputCheck → Bor (List ℕ) → Fault
@@ -14,10 +14,10 @@ fault_of_check checks.Memory path = Run Memory path
 
 -- a write fault is not reported, any other fault is unchanged
 abbrev pub without_write : Fault → Fault
-without_write (Run (Write which written) path) = Unread
+without_write (Run (Write which written) path) = PipeClosed
 without_write fault = fault
 
 -- if the reader of an output closed its pipe early, a write fault is not reported
-abbrev pub unread_if : Bool → Fault → Fault
-unread_if true fault = without_write fault
-unread_if false fault = fault
+abbrev pub pipe_closed_if : Bool → Fault → Fault
+pipe_closed_if true fault = without_write fault
+pipe_closed_if false fault = fault

@@ -7,14 +7,14 @@ abbrev pub most_bytes : ℕ
 most_bytes = 4294967304
 
 -- The next bytes of an input are appended; no bytes mean its end.
-abbrev pub TakesPiece : Option (List ℕ) → Option (List ℕ) → List ℕ → List ℕ → ℕ → Type 0
-TakesPiece old new before after n =
+abbrev pub ReadsPiece : Option (List ℕ) → Option (List ℕ) → List ℕ → List ℕ → ℕ → Type 0
+ReadsPiece old new before after n =
     (piece : List ℕ) × (after ≡ before ++ piece) × (length piece ≡ n) × Consumes old new piece × (n ≡ 0 → IsAtEnd new)
 
 -- an input within the limit is read whole
-abbrev pub TakesAll : Option (List ℕ) → Option (List ℕ) → List ℕ → Type 0
-TakesAll old new bytes = Consumes old new bytes × IsAtEnd new × (length bytes < most_bytes)
+abbrev pub ReadsAll : Option (List ℕ) → Option (List ℕ) → List ℕ → Type 0
+ReadsAll old new bytes = Consumes old new bytes × IsAtEnd new × (length bytes < most_bytes)
 
 -- an input is longer than the limit
-abbrev pub TakesMost : Option (List ℕ) → Option (List ℕ) → Type 0
-TakesMost old new = (bytes : List ℕ) × Consumes old new bytes × (length bytes ≡ most_bytes)
+abbrev pub ReadsMost : Option (List ℕ) → Option (List ℕ) → Type 0
+ReadsMost old new = (bytes : List ℕ) × Consumes old new bytes × (length bytes ≡ most_bytes)

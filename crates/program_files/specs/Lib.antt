@@ -4,4 +4,4 @@ pub mod InputFaults
 pub mod Inputs
 pub mod RunFaults
 pub mod Saving
-pub mod Telling
+pub mod Reporting

@@ -6,5 +6,5 @@ use Rattle.program_files.specs.declared.run_fault.RunFault.TheVariants as run
 
 -- a failure of a part, as the run's fault
 abbrev pub in_run : {F : Type 0} → (F → RunFault) → Failure F → RunFault
-in_run told (failures.Fault fault) = told fault
-in_run told failures.OutOfMemory = run.Memory
+in_run reported (failures.Fault fault) = reported fault
+in_run reported failures.OutOfMemory = run.Memory

@@ -6,9 +6,9 @@ use Rattle.program_files.specs.declared.run_fault.Which.{Which}
 use Rattle.program_files.specs.declared.run_fault.Which.TheVariants.{Out, Undo}
 
 -- The count before and after a write: it grows by the bytes accepted, saturating at the largest `u64`.
-abbrev pub Counts : {E : Type 0} → Result ℕ E → ℕ → ℕ → Type 0
-Counts (Ok n) before after = after ≡ min (before + n) (2 ^ 64 - 1)
-Counts (Err error) before after = after ≡ before
+abbrev pub CountsWritten : {E : Type 0} → Result ℕ E → ℕ → ℕ → Type 0
+CountsWritten (Ok n) before after = after ≡ min (before + n) (2 ^ 64 - 1)
+CountsWritten (Err error) before after = after ≡ before
 
 -- An output ends as its run does. After a run that succeeds the file may still fail to be put in place, which is a
 -- write fault after all bytes written.

@@ -40,8 +40,8 @@ impl Descriptor {
             return OpenOptions::new().write(true).open(rt, path);
         }
         match self.standing(rt)? {
-            Standing::AtEnd => OpenOptions::new().append(true).open(rt, path),
-            Standing::At(position) => {
+            WritePosition::AtEnd => OpenOptions::new().append(true).open(rt, path),
+            WritePosition::At(position) => {
                 let mut file = OpenOptions::new().write(true).open(rt, path)?;
                 file.seek(SeekFrom::Start(position))?;
                 Ok(file)
@@ -49,11 +49,11 @@ impl Descriptor {
         }
     }
 
-    fn standing<R: Files>(&mut self, rt: &R) -> io::Result<Standing> {
+    fn standing<R: Files>(&mut self, rt: &R) -> io::Result<WritePosition> {
         set_info_path(&mut self.info_path, self.number)?;
         let mut info = [0; INFO_LENGTH];
         let length = File::open(rt, self.info_path.as_str())?.read(&mut info)?;
-        match standing_in(&info[..length.min(INFO_LENGTH)]) {
+        match parse_write_position(&info[..length.min(INFO_LENGTH)]) {
             Some(standing) => Ok(standing),
             None => Err(io::Error::from(ErrorKind::InvalidData)),
         }
@@ -66,7 +66,7 @@ fn is_regular<R: Files>(rt: &R, path: &str) -> io::Result<bool> {
 
 /// Where the next bytes of a descriptor are written.
 #[derive(Clone, Copy)]
-enum Standing {
+enum WritePosition {
     AtEnd,
     At(u64),
 }
@@ -80,14 +80,14 @@ fn set_info_path(info_path: &mut String, number: i32) -> Result<(), AllocError> 
 }
 
 /// Parses the lines `pos:`, and `flags:`, which is octal.
-fn standing_in(info: &[u8]) -> Option<Standing> {
+fn parse_write_position(info: &[u8]) -> Option<WritePosition> {
     let text = std::str::from_utf8(info).ok()?;
     let flags = u64::from_str_radix(value_of(text, "flags:")?, 8).ok()?;
     if flags & APPENDS != 0 {
-        return Some(Standing::AtEnd);
+        return Some(WritePosition::AtEnd);
     }
     let position = value_of(text, "pos:")?.parse::<u64>().ok()?;
-    Some(Standing::At(position))
+    Some(WritePosition::At(position))
 }
 
 fn value_of<'t>(text: &'t str, name: &str) -> Option<&'t str> {

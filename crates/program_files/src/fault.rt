@@ -1,6 +1,6 @@
 //! Why a command fails.
 ghost use Rattle.std.specs.Prelude.{◌≡◌};
-ghost use Rattle.program_files.specs.Ending.{unread_if};
+ghost use Rattle.program_files.specs.Ending.{pipe_closed_if};
 
 use crate::input_fault::InputFault;
 use crate::run_fault::RunFault;
@@ -26,16 +26,16 @@ pub enum Fault<'a> {
     /// The run failed. A write fault is about this path.
     Run(RunFault, &'a str),
     /// The reader of an output closed its pipe early, which is not reported.
-    Unread,
+    PipeClosed,
 }
 
 impl<'a> Fault<'a> {
-    /// Returns `Unread` for a write fault if the reader of the output closed its pipe, else this fault.
-    pub fn unread_if(self, is_unread: bool) -> Fault<'a>
-        ensures { result ≡ unread_if is_unread self.entry }
+    /// Returns `PipeClosed` for a write fault if the reader of the output closed its pipe, else this fault.
+    pub fn pipe_closed_if(self, is_pipe_closed: bool) -> Fault<'a>
+        ensures { result ≡ pipe_closed_if is_pipe_closed self.entry }
     {
         match self {
-            Fault::Run(RunFault::Write(_, _), _path) if is_unread => Fault::Unread,
+            Fault::Run(RunFault::Write(_, _), _path) if is_pipe_closed => Fault::PipeClosed,
             fault => fault,
         }
     }

@@ -1,7 +1,7 @@
 //! Inputs, which are read whole before anything is done.
 ghost use Rattle.std.specs.Prelude.{◌≡◌, ◌≢◌, ◌+◌, ◌<◌, ◌≤◌, IfOk, IfErr, OnOk, vec_len, length, take, drop};
 ghost use Rattle.std.specs.Io.KnownBytes.{Consumes, IsAtEnd};
-ghost use Rattle.program_files.specs.Inputs.{most_bytes, TakesPiece, TakesAll, TakesMost};
+ghost use Rattle.program_files.specs.Inputs.{most_bytes, ReadsPiece, ReadsAll, ReadsMost};
 ghost use Rattle.sf_base.specs.declared.memory.Failure.TheVariants.{Fault as FaultOf};
 ghost use Rattle.program_files.specs.declared.input_fault.InputFault.TheVariants.{TooLong};
 
@@ -28,8 +28,8 @@ pub fn read_whole<R: Read>(
     input: &mut R,
     expected: u64,
 ) -> Result<Vec<u8>, Failure<InputFault>>
-    ensures whole { IfOk result (λ bytes. TakesAll (R.remaining input.old) (R.remaining input.new) bytes.items) }
-    ensures too_long { IfErr result (λ failure. failure ≡ FaultOf TooLong → TakesMost (R.remaining input.old) (R.remaining input.new)) }
+    ensures whole { IfOk result (λ bytes. ReadsAll (R.remaining input.old) (R.remaining input.new) bytes.items) }
+    ensures too_long { IfErr result (λ failure. failure ≡ FaultOf TooLong → ReadsMost (R.remaining input.old) (R.remaining input.new)) }
 {
     let first = expected.min(FILE_LENGTH) as usize + 1;
     let mut bytes = Vec::with_capacity(alloc, first)?;
@@ -45,7 +45,7 @@ pub fn read_whole<R: Read>(
 fn read_piece<R: Read>(input: &mut R, bytes: &mut Vec<u8>) -> Result<usize, Failure<InputFault>>
     requires { vec_len bytes.old < most_bytes }
     ensures within { OnOk result (vec_len bytes.new ≤ most_bytes) }
-    ensures taken { IfOk result (TakesPiece (R.remaining input.old) (R.remaining input.new) bytes.old.items bytes.new.items) }
+    ensures consumed { IfOk result (ReadsPiece (R.remaining input.old) (R.remaining input.new) bytes.old.items bytes.new.items) }
     ensures kinds { IfErr result (λ failure. failure ≢ FaultOf TooLong) }
 {
     let at = bytes.len();
@@ -78,7 +78,7 @@ fn read_at<R: Read>(input: &mut R, buffer: &mut [u8], at: usize) -> Result<usize
     ensures front { take at buffer.new ≡ take at buffer.old }
     ensures len { length buffer.new ≡ length buffer.old }
     ensures within { IfOk result (λ n. at + n ≤ length buffer.new) }
-    ensures taken { IfOk result (λ n. Consumes (R.remaining input.old) (R.remaining input.new) (take n (drop at buffer.new))) }
+    ensures consumed { IfOk result (λ n. Consumes (R.remaining input.old) (R.remaining input.new) (take n (drop at buffer.new))) }
     ensures end { IfOk result (λ n. n ≡ 0 → IsAtEnd (R.remaining input.new)) }
     ensures kinds { IfErr result (λ fault. fault ≢ TooLong) }
 {

@@ -4,7 +4,7 @@ ghost use Rattle.std.specs.Prelude.{◌≡◌, IfOk, IfErr, OnOk, IsSome, None};
 ghost use Rattle.std.specs.Io.{WritesAtMost};
 ghost use Rattle.std.specs.Io.KnownBytes.{WriteAppends, Keeps};
 ghost use Rattle.program_files.specs.declared.run_fault.RunFault.TheVariants as run;
-ghost use Rattle.program_files.specs.Saving.{Counts, EndsAs};
+ghost use Rattle.program_files.specs.Saving.{CountsWritten, EndsAs};
 
 use crate::descriptor::Descriptor;
 use crate::replacement::{Replacement, sync_folder};
@@ -24,17 +24,17 @@ use std::{fs, io};
 pub struct OutputFile<'a, R: Files> {
     rt: &'a R,
     path: &'a str,
-    place: Place,
+    destination: Destination,
     file: Option<R::File>,
     /// The bytes that the file accepted.
     written: u64,
     /// Whether the last write failed because nothing reads the other end of the pipe.
-    is_unread: bool,
+    is_pipe_closed: bool,
 }
 
 /// Where an output is written.
 #[derive(Drop)]
-enum Place {
+enum Destination {
     /// To a new file beside the existing one.
     Replacement(Replacement),
     /// To a new file at this path.
@@ -54,13 +54,13 @@ impl<'a, R: Files + AllocGlobal> OutputFile<'a, R> {
         ensures path { IfOk result (λ output. output.path ≡ path.entry) }
         ensures count { IfOk result (λ output. output.written ≡ 0) }
     {
-        let place = match target_of(rt, path)? {
-            Target::Regular(there) => Place::Replacement(Replacement::of(rt, there)?),
-            Target::Nothing(path) => Place::New(path),
-            Target::Descriptor(number) => Place::Descriptor(Descriptor::new(rt, number)?),
-            Target::Other => Place::Existing,
+        let destination = match target_of(rt, path)? {
+            Target::Regular(there) => Destination::Replacement(Replacement::of(rt, there)?),
+            Target::Nothing(path) => Destination::New(path),
+            Target::Descriptor(number) => Destination::Descriptor(Descriptor::new(rt, number)?),
+            Target::Other => Destination::Existing,
         };
-        Ok(OutputFile::closed(rt, path, place))
+        Ok(OutputFile::closed(rt, path, destination))
     }
 
     /// The output at a path that is written directly, such as a pipe: a regular file is truncated first. Nothing is
@@ -70,16 +70,16 @@ impl<'a, R: Files + AllocGlobal> OutputFile<'a, R> {
         ensures path { IfOk result (λ output. output.path ≡ path.entry) }
         ensures count { IfOk result (λ output. output.written ≡ 0) }
     {
-        let place = match target_of(rt, path)? {
-            Target::Descriptor(number) => Place::Descriptor(Descriptor::new(rt, number)?),
-            _ => Place::Emptied,
+        let destination = match target_of(rt, path)? {
+            Target::Descriptor(number) => Destination::Descriptor(Descriptor::new(rt, number)?),
+            _ => Destination::Emptied,
         };
-        Ok(OutputFile::closed(rt, path, place))
+        Ok(OutputFile::closed(rt, path, destination))
     }
 }
 
 impl<'a, R: Files> OutputFile<'a, R> {
-    fn closed(rt: &'a R, path: &'a str, place: Place) -> OutputFile<'a, R>
+    fn closed(rt: &'a R, path: &'a str, destination: Destination) -> OutputFile<'a, R>
         ensures closed { result.file ≡ None }
         ensures path { result.path ≡ path.entry }
         ensures count { result.written ≡ 0 }
@@ -87,10 +87,10 @@ impl<'a, R: Files> OutputFile<'a, R> {
         OutputFile {
             rt,
             path,
-            place,
+            destination,
             file: None,
             written: 0,
-            is_unread: false,
+            is_pipe_closed: false,
         }
     }
 }
@@ -135,14 +135,14 @@ impl<R: Files> OutputFile<'_, R> {
 
     /// Whether this output replaces an existing file.
     pub(crate) fn replaces(&self) -> bool {
-        matches!(self.place, Place::Replacement(_))
+        matches!(self.destination, Destination::Replacement(_))
     }
 
     /// Whether the last write failed because nothing reads the other end of the pipe.
-    pub fn is_unread(&self) -> bool
-        ensures { result ≡ self.now.is_unread }
+    pub fn is_pipe_closed(&self) -> bool
+        ensures { result ≡ self.now.is_pipe_closed }
     {
-        self.is_unread
+        self.is_pipe_closed
     }
 
     /// The number of bytes that the file accepted.
@@ -167,8 +167,8 @@ impl<R: Files> OutputFile<'_, R> {
     pub(crate) fn put_in_place(&mut self) -> io::Result<()>
         ensures { self.new.written ≡ self.old.written }
     {
-        match &mut self.place {
-            Place::Replacement(replacement) => replacement.put_in_place(self.rt),
+        match &mut self.destination {
+            Destination::Replacement(replacement) => replacement.put_in_place(self.rt),
             _ => Ok(()),
         }
     }
@@ -177,9 +177,9 @@ impl<R: Files> OutputFile<'_, R> {
     pub(crate) fn put_for_now(&mut self) -> io::Result<()>
         ensures { self.new.written ≡ self.old.written }
     {
-        match &mut self.place {
-            Place::Replacement(replacement) => replacement.put_beside_old(self.rt),
-            Place::New(path) => {
+        match &mut self.destination {
+            Destination::Replacement(replacement) => replacement.put_beside_old(self.rt),
+            Destination::New(path) => {
                 sync_folder(self.rt, path.as_str());
                 Ok(())
             }
@@ -191,7 +191,7 @@ impl<R: Files> OutputFile<'_, R> {
     pub(crate) fn forget_old(&mut self)
         ensures { self.new.written ≡ self.old.written }
     {
-        if let Place::Replacement(replacement) = &mut self.place {
+        if let Destination::Replacement(replacement) = &mut self.destination {
             replacement.remove_old(self.rt);
         }
     }
@@ -200,12 +200,12 @@ impl<R: Files> OutputFile<'_, R> {
     pub(crate) fn restore(&mut self)
         ensures { self.new.written ≡ self.old.written }
     {
-        match &mut self.place {
-            Place::Replacement(replacement) => {
+        match &mut self.destination {
+            Destination::Replacement(replacement) => {
                 replacement.remove_new(self.rt);
                 replacement.restore_old(self.rt);
             }
-            Place::New(path) => {
+            Destination::New(path) => {
                 if self.file.is_some() {
                     let _ = fs::remove_file(self.rt, path.as_str());
                 }
@@ -218,7 +218,7 @@ impl<R: Files> OutputFile<'_, R> {
     pub(crate) fn discard(&mut self)
         ensures { self.new.written ≡ self.old.written }
     {
-        if let Place::Replacement(replacement) = &mut self.place {
+        if let Destination::Replacement(replacement) = &mut self.destination {
             replacement.remove_new(self.rt);
         }
     }
@@ -230,12 +230,12 @@ impl<R: Files> OutputFile<'_, R> {
         if let Some(file) = self.file.take() {
             return Ok(file);
         }
-        match &mut self.place {
-            Place::Replacement(replacement) => replacement.open(self.rt),
-            Place::New(path) => File::create_new(self.rt, path.as_str()),
-            Place::Descriptor(descriptor) => descriptor.open(self.rt, self.path),
-            Place::Existing => open_existing(self.rt, self.path),
-            Place::Emptied => File::create(self.rt, self.path),
+        match &mut self.destination {
+            Destination::Replacement(replacement) => replacement.open(self.rt),
+            Destination::New(path) => File::create_new(self.rt, path.as_str()),
+            Destination::Descriptor(descriptor) => descriptor.open(self.rt, self.path),
+            Destination::Existing => open_existing(self.rt, self.path),
+            Destination::Emptied => File::create(self.rt, self.path),
         }
     }
 }
@@ -254,12 +254,12 @@ impl<R: Files> Write for OutputFile<'_, R> {
         ensures bound { WritesAtMost result bytes.now }
         ensures bytes { WriteAppends None None result bytes.now }
         ensures open { OnOk result (IsSome self.new.file) }
-        ensures counted { Counts result self.old.written self.new.written }
+        ensures counted { CountsWritten result self.old.written self.new.written }
     {
         let mut file = self.opened()?;
         let answer = file.write(bytes);
         self.file = Some(file);
-        self.is_unread = is_broken_pipe(&answer);
+        self.is_pipe_closed = is_broken_pipe(&answer);
         if let Ok(count) = answer {
             self.written = self.written.saturating_add(count as u64);
         }

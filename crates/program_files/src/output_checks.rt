@@ -74,7 +74,7 @@ pub fn check_no_bank<R: Files + AllocGlobal>(rt: &R, output: &str) -> Result<(),
 }
 
 fn is_one_file<R: Files + AllocGlobal>(rt: &R, one: &str, other: &str) -> Result<bool, AllocError> {
-    match (place_of(rt, one), place_of(rt, other)) {
+    match (identity_of(rt, one), identity_of(rt, other)) {
         (Some(one), Some(other)) => Ok(one == other && !one.is_character_device),
         (None, None) => is_one_new_file(rt, one, other),
         _ => Ok(false),
@@ -100,7 +100,7 @@ fn is_one_new_file<R: Files + AllocGlobal>(
 
 /// Whether two paths lead to the same existing folder.
 fn is_one_folder<R: Files>(rt: &R, one: &str, other: &str) -> bool {
-    match (place_of(rt, one), place_of(rt, other)) {
+    match (identity_of(rt, one), identity_of(rt, other)) {
         (Some(one), Some(other)) => one == other,
         _ => false,
     }
@@ -108,15 +108,15 @@ fn is_one_folder<R: Files>(rt: &R, one: &str, other: &str) -> bool {
 
 /// The identity of a file: the same for each of its names.
 #[derive(Clone, Copy, PartialEq, Eq)]
-struct FilePlace {
+struct FileIdentity {
     device: u64,
     number: u64,
     is_character_device: bool,
 }
 
-fn place_of<R: Files>(rt: &R, path: &str) -> Option<FilePlace> {
+fn identity_of<R: Files>(rt: &R, path: &str) -> Option<FileIdentity> {
     match fs::metadata(rt, path) {
-        Ok(found) => Some(FilePlace {
+        Ok(found) => Some(FileIdentity {
             device: found.dev(),
             number: found.ino(),
             is_character_device: found.mode() & TYPE_BITS == CHARACTER_DEVICE,

@@ -116,7 +116,7 @@ impl From<Failure<NoteFault>> for RunFault {
 }
 
 impl From<WaveFault> for RunFault {
-    ghost from_gives = { λ fault told. told ≡ Recording fault };
+    ghost from_gives = { λ fault reported. reported ≡ Recording fault };
 
     fn from(fault: WaveFault) -> RunFault {
         RunFault::Recording(fault)

@@ -42,10 +42,10 @@ impl<R: Files, O: Write> Sink<'_, '_, R, O> {
     }
 
     /// Whether the last write to a file failed because nothing reads the other end of the pipe.
-    pub fn is_unread(&self) -> bool {
+    pub fn is_pipe_closed(&self) -> bool {
         match self {
             Sink::Output(_) => false,
-            Sink::File(file) => file.is_unread(),
+            Sink::File(file) => file.is_pipe_closed(),
         }
     }
 }

@@ -32,8 +32,8 @@ pub(crate) fn target_of<R: Files + AllocGlobal>(rt: &R, path: &str) -> Result<Ta
     let mut path = String::from_str(rt.alloc(), path)?;
     for _ in 0..MOST_LINKS {
         match look_at(rt, path)? {
-            Sight::Target(target) => return Ok(target),
-            Sight::LinkTo(next) => path = next,
+            Lookup::Target(target) => return Ok(target),
+            Lookup::LinkTo(next) => path = next,
         }
     }
     Ok(Target::Other)
@@ -41,40 +41,40 @@ pub(crate) fn target_of<R: Files + AllocGlobal>(rt: &R, path: &str) -> Result<Ta
 
 /// One step of resolving a path: a link to another path, or the target.
 #[derive(Drop)]
-enum Sight {
+enum Lookup {
     LinkTo(String),
     Target(Target),
 }
 
-fn look_at<R: Files + AllocGlobal>(rt: &R, path: String) -> Result<Sight, AllocError> {
+fn look_at<R: Files + AllocGlobal>(rt: &R, path: String) -> Result<Lookup, AllocError> {
     if let Some(folder) = real_path(rt, folder_of(path.as_str()))? {
         if is_below_proc(folder.as_str()) {
-            return Ok(Sight::Target(in_proc(rt, folder.as_str(), path.as_str())?));
+            return Ok(Lookup::Target(in_proc(rt, folder.as_str(), path.as_str())?));
         }
     }
     match fs::symlink_metadata(rt, path.as_str()) {
         Ok(found) if found.is_symlink() => link_at(rt, path.as_str()),
-        Ok(found) if found.is_file() => Ok(Sight::Target(Target::Regular(path))),
+        Ok(found) if found.is_file() => Ok(Lookup::Target(Target::Regular(path))),
         Err(error) if error.kind() == ErrorKind::NotFound => {
-            Ok(Sight::Target(Target::Nothing(path)))
+            Ok(Lookup::Target(Target::Nothing(path)))
         }
-        _ => Ok(Sight::Target(Target::Other)),
+        _ => Ok(Lookup::Target(Target::Other)),
     }
 }
 
 /// Reads the link at a path.
-fn link_at<R: Files + AllocGlobal>(rt: &R, path: &str) -> Result<Sight, AllocError> {
+fn link_at<R: Files + AllocGlobal>(rt: &R, path: &str) -> Result<Lookup, AllocError> {
     let Some(link) = if_found(fs::read_link(rt, path))? else {
-        return Ok(Sight::Target(Target::Other));
+        return Ok(Lookup::Target(Target::Other));
     };
     let link = link.into_string();
     if link.as_str().starts_with('/') {
-        return Ok(Sight::LinkTo(link));
+        return Ok(Lookup::LinkTo(link));
     }
     let mut next = String::from_str(rt.alloc(), folder_of(path))?;
     next.push_str("/")?;
     next.push_str(link.as_str())?;
-    Ok(Sight::LinkTo(next))
+    Ok(Lookup::LinkTo(next))
 }
 
 /// Resolves a path in a folder below /proc: a descriptor of this process, or anything else.

@@ -62,7 +62,7 @@ const CLEARED: &str = "\r\x1b[K";
 /// Shows the progress of long work on a terminal, in a line that is overwritten, and cleared at the end. On anything
 /// else, and for short work, it writes nothing.
 #[derive(Drop)]
-pub struct Meter<'a, C: Clock, O: Write> {
+pub struct ProgressMeter<'a, C: Clock, O: Write> {
     clock: &'a C,
     output: O,
     is_terminal: bool,
@@ -73,13 +73,13 @@ pub struct Meter<'a, C: Clock, O: Write> {
     // When the work began, if the clock can be read.
     began: Option<Instant>,
     // The percentage shown last.
-    told: Option<u64>,
+    reported: Option<u64>,
 }
 
-impl<'a, C: Clock, O: Write> Meter<'a, C, O> {
+impl<'a, C: Clock, O: Write> ProgressMeter<'a, C, O> {
     /// A meter of no work yet, which writes to `output`.
-    pub fn new(clock: &'a C, output: O, is_terminal: bool) -> Meter<'a, C, O> {
-        Meter {
+    pub fn new(clock: &'a C, output: O, is_terminal: bool) -> ProgressMeter<'a, C, O> {
+        ProgressMeter {
             clock,
             output,
             is_terminal,
@@ -87,7 +87,7 @@ impl<'a, C: Clock, O: Write> Meter<'a, C, O> {
             count: 0,
             done: 0,
             began: None,
-            told: None,
+            reported: None,
         }
     }
 
@@ -109,10 +109,10 @@ impl<'a, C: Clock, O: Write> Meter<'a, C, O> {
         }
     }
 
-    fn tell(&mut self) {
+    fn report(&mut self) {
         let hundredths = hundredths_of(self.done, self.count);
-        if self.told != Some(hundredths) && self.is_long() {
-            self.told = Some(hundredths);
+        if self.reported != Some(hundredths) && self.is_long() {
+            self.reported = Some(hundredths);
             let _ = write!(self.output, "{CLEARED}{hundredths} %");
             let _ = self.output.flush();
         }
@@ -127,25 +127,25 @@ fn hundredths_of(done: u64, count: u64) -> u64 {
     }
 }
 
-impl<'a, C: Clock, O: Write> Progress for Meter<'a, C, O> {
+impl<'a, C: Clock, O: Write> Progress for ProgressMeter<'a, C, O> {
     fn begin(&mut self, work: Work, count: u64) {
         self.work = work;
         self.count = count;
         self.done = 0;
         self.began = Instant::now(self.clock).ok();
-        self.told = None;
+        self.reported = None;
     }
 
     fn advance(&mut self, count: u64) {
         self.done = self.done.saturating_add(count);
         if self.is_terminal {
-            self.tell();
+            self.report();
         }
     }
 
     fn end(&mut self) {
-        if self.told.is_some() {
-            self.told = None;
+        if self.reported.is_some() {
+            self.reported = None;
             let _ = put_all(&mut self.output, CLEARED.as_bytes());
         }
     }

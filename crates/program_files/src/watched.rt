@@ -10,7 +10,7 @@ use std::io::{ErrorKind, Write};
 #[derive(Drop)]
 pub struct Watched<'a, O: Write> {
     output: &'a mut O,
-    is_unread: bool,
+    is_pipe_closed: bool,
 }
 
 impl<'a, O: Write> Watched<'a, O> {
@@ -18,15 +18,15 @@ impl<'a, O: Write> Watched<'a, O> {
     pub fn new(output: &'a mut O) -> Watched<'a, O> {
         Watched {
             output,
-            is_unread: false,
+            is_pipe_closed: false,
         }
     }
 
     /// Whether the last write or flush failed for that reason.
-    pub fn is_unread(&self) -> bool
-        ensures { result ≡ self.now.is_unread }
+    pub fn is_pipe_closed(&self) -> bool
+        ensures { result ≡ self.now.is_pipe_closed }
     {
-        self.is_unread
+        self.is_pipe_closed
     }
 }
 
@@ -36,7 +36,7 @@ impl<O: Write> Write for Watched<'_, O> {
         ensures bytes { WriteAppends None None result bytes.now }
     {
         let result = self.output.write(bytes);
-        self.is_unread = is_broken_pipe(&result);
+        self.is_pipe_closed = is_broken_pipe(&result);
         result
     }
 
@@ -44,7 +44,7 @@ impl<O: Write> Write for Watched<'_, O> {
         ensures { Keeps None None }
     {
         let result = self.output.flush();
-        self.is_unread = is_broken_pipe(&result);
+        self.is_pipe_closed = is_broken_pipe(&result);
         result
     }
 }

@@ -10,13 +10,13 @@ use Rattle.std.proofs.lemmas.List.Quantifiers.{position-Some}
 use Rattle.std.proofs.lemmas.Slice.Eq.{bytes_eq-Decides}
 use Rattle.riff_chunks.specs.Walk.{Chunk}
 use Rattle.riff_chunks.specs.Finding.{first_body}
-use Rattle.riff_chunks.specs.First.{place_of, Kept, kept_at, AreFirst, AreFirstSoFar, Takes}
+use Rattle.riff_chunks.specs.First.{index_of, KeptBodies, kept_at, AreFirst, AreFirstSoFar, KeepsFirst}
 
 -- The id at the index of an id is that id.
-at_place : (ids : List (List ℕ)) (id : List ℕ) (place : ℕ) → place_of id ids ≡ Some place → get_or ids place [] ≡ id
-at_place ids id place h =
-    (bytes_eq-Decides (get_or ids place []) id).0
-    ((position-Some (λ (other : List ℕ). bytes_eq other id) ids place [] h).1)
+at_index : (ids : List (List ℕ)) (id : List ℕ) (id_index : ℕ) → index_of id ids ≡ Some id_index → get_or ids id_index [] ≡ id
+at_index ids id id_index h =
+    (bytes_eq-Decides (get_or ids id_index []) id).0
+    ((position-Some (λ (other : List ℕ). bytes_eq other id) ids id_index [] h).1)
 
 -- A single chunk.
 alone : (id : List ℕ) (c : Chunk) → c.id ≡ id → first_body id (c ∷ []) ≡ Some c.body
@@ -37,29 +37,29 @@ none_there None h = refl
 none_there (Some x) h = absurd cc
 
 -- The first chunk of an id is kept at the index of the id.
-pub put_first : (ids : List (List ℕ)) (bodies : Kept) (id : List ℕ) (place : ℕ) (body : Bor (List ℕ))
-    → place_of id ids ≡ Some place → length bodies ≡ 9 → place < 9 → get_or bodies place None ≡ None
-    → Takes ids bodies (set bodies place (Some body)) (record { id = id; body = body.now })
-put_first ids bodies id place body here long lt none other at h within =
-    elim (cases_eq at place) [
-      | inl same ↦ (let now : get_or (set bodies place (Some body)) at None
-          ≡ Some body = rw same (get_or-set_same bodies place (Some body) None (omega (arith, long, lt))) in
+pub put_first : (ids : List (List ℕ)) (bodies : KeptBodies) (id : List ℕ) (id_index : ℕ) (body : Bor (List ℕ))
+    → index_of id ids ≡ Some id_index → length bodies ≡ 9 → id_index < 9 → get_or bodies id_index None ≡ None
+    → KeepsFirst ids bodies (set bodies id_index (Some body)) (record { id = id; body = body.now })
+put_first ids bodies id id_index body here long lt none other at h within =
+    elim (cases_eq at id_index) [
+      | inl same ↦ (let now : get_or (set bodies id_index (Some body)) at None
+          ≡ Some body = rw same (get_or-set_same bodies id_index (Some body) None (omega (arith, long, lt))) in
           let before : get_or bodies at None ≡ None = rw same none in
           let is : id ≡ other =
-          sym (at_place ids id place here) ∙ ap (λ (k : ℕ). get_or ids k []) (sym same)
-          ∙ at_place ids other at h in
+          sym (at_index ids id id_index here) ∙ ap (λ (k : ℕ). get_or ids k []) (sym same)
+          ∙ at_index ids other at h in
           ap option_copied now ∙ sym (rw before (alone other (record { id = id; body = body.now }) is)))
-      | inr apart ↦ (let now : get_or (set bodies place (Some body)) at None
-          ≡ get_or bodies at None = get_or-set_other bodies place at (Some body) None apart in
-          let differs : id ≢ other = (λ e. apart (cc_place ids id other place at e here h)) in
+      | inr apart ↦ (let now : get_or (set bodies id_index (Some body)) at None
+          ≡ get_or bodies at None = get_or-set_other bodies id_index at (Some body) None apart in
+          let differs : id ≢ other = (λ e. apart (cc_place ids id other id_index at e here h)) in
           ap option_copied now ∙ or_none (kept_at bodies at) ∙ sym
           (ap (option_or (kept_at bodies at)) (not_alone other (record { id = id; body = body.now }) differs)))
     ]
   where
-    cc_place : (ids : List (List ℕ)) (id other : List ℕ) (place at : ℕ) → id ≡ other → place_of id ids ≡ Some place
-        → place_of other ids ≡ Some at → at ≡ place
-    cc_place ids id other place at e h k =
-        let both : place_of id ids ≡ place_of other ids = ap (λ (i : List ℕ). place_of i ids) e in cc
+    cc_place : (ids : List (List ℕ)) (id other : List ℕ) (id_index at : ℕ) → id ≡ other → index_of id ids ≡ Some id_index
+        → index_of other ids ≡ Some at → at ≡ id_index
+    cc_place ids id other id_index at e h k =
+        let both : index_of id ids ≡ index_of other ids = ap (λ (i : List ℕ). index_of i ids) e in cc
 
 -- ---- one chunk after another
 
@@ -74,15 +74,15 @@ first_or_later id c cs = elim (cases_Bool (bytes_eq c.id id)) [
   | inr other ↦ rw other refl
 ]
 
-pub first_more : (ids : List (List ℕ)) (old new : Kept) (c : Chunk) (rest all : List Chunk)
-    → AreFirstSoFar ids old (c ∷ rest) all → Takes ids old new c → AreFirstSoFar ids new rest all
-first_more ids old new c rest all held takes id place h lt =
-    ap (λ (o : Option (List ℕ)). option_or o (first_body id rest)) (takes id place h lt)
-    ∙ or_more (kept_at old place) (first_body id (c ∷ [])) (first_body id rest)
-    ∙ ap (option_or (kept_at old place)) (sym (first_or_later id c rest))
-    ∙ held id place h lt
+pub first_more : (ids : List (List ℕ)) (old new : KeptBodies) (c : Chunk) (rest all : List Chunk)
+    → AreFirstSoFar ids old (c ∷ rest) all → KeepsFirst ids old new c → AreFirstSoFar ids new rest all
+first_more ids old new c rest all held takes id id_index h lt =
+    ap (λ (o : Option (List ℕ)). option_or o (first_body id rest)) (takes id id_index h lt)
+    ∙ or_more (kept_at old id_index) (first_body id (c ∷ [])) (first_body id rest)
+    ∙ ap (option_or (kept_at old id_index)) (sym (first_or_later id c rest))
+    ∙ held id id_index h lt
 
 -- At the end of the walk.
-pub first_all : (ids : List (List ℕ)) (bodies : Kept) (all : List Chunk) → AreFirstSoFar ids bodies [] all
+pub first_all : (ids : List (List ℕ)) (bodies : KeptBodies) (all : List Chunk) → AreFirstSoFar ids bodies [] all
     → AreFirst ids bodies all
-first_all ids bodies all held id place h within = or_none (kept_at bodies place) ∙ held id place h within
+first_all ids bodies all held id id_index h within = or_none (kept_at bodies id_index) ∙ held id id_index h within

@@ -1,3 +1,3 @@
 pub mod FirstLaws
 pub mod WalkLaws
-pub mod SpellingLaws
+pub mod EncodingLaws

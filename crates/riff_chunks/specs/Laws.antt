@@ -3,23 +3,23 @@ use Rattle.std.specs.Prelude.{◌≡◌, ◌≢◌, ◌↔◌, ◌<◌, ◌+◌,
 use Rattle.std.specs.List.{AllByRecursion}
 use Rattle.riff_chunks.specs.Walk.{Chunk, Item, LIST, truncated, Walks, walk}
 use Rattle.riff_chunks.specs.Finding.{chunks_in, is_whole}
-use Rattle.riff_chunks.specs.Spelling.{chunk_head, spell, FitsChunk}
+use Rattle.riff_chunks.specs.Encoding.{chunk_head, encode, FitsChunk}
 
 -- These are the items of the window if and only if `walk` returns them.
-abbrev pub WalkIsTheOne : Type 0
-WalkIsTheOne = (w : List ℕ) (items : List Item) → Walks w items ↔ (items ≡ walk w)
+abbrev pub WalkIsUnique : Type 0
+WalkIsUnique = (w : List ℕ) (items : List Item) → Walks w items ↔ (items ≡ walk w)
 
 -- Encoded chunks are the first items of a window, whatever follows them.
-abbrev pub SpelledAreFound : Type 0
-SpelledAreFound =
+abbrev pub EncodedAreFound : Type 0
+EncodedAreFound =
     (cs : List Chunk) (rest : List ℕ) → AllByRecursion FitsChunk cs
-    → walk (spell cs ++ rest) ≡ map Ok cs ++ walk rest
+    → walk (encode cs ++ rest) ≡ map Ok cs ++ walk rest
 
 -- A window of encoded chunks has these chunks and nothing else.
-abbrev pub SpelledReadBack : Type 0
-SpelledReadBack =
+abbrev pub EncodedReadBack : Type 0
+EncodedReadBack =
     (cs : List Chunk) → AllByRecursion FitsChunk cs
-    → (chunks_in (walk (spell cs)) ≡ cs) × (is_whole (walk (spell cs)) ≡ true)
+    → (chunks_in (walk (encode cs)) ≡ cs) × (is_whole (walk (encode cs)) ≡ true)
 
 -- The items of a window with an id, a size, and then this body alone.
 abbrev pub walk_headed : List ℕ → ℕ → List ℕ → List Item

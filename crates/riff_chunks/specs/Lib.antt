@@ -1,5 +1,5 @@
 pub mod Walk
 pub mod Finding
 pub mod First
-pub mod Spelling
+pub mod Encoding
 pub mod Laws

@@ -19,8 +19,8 @@ abbrev pub Item : Type 0
 Item = Result Chunk Truncated
 
 -- The item that the walk returns as an id and a slice, or the fault.
-abbrev pub lent : Result (List ℕ × Bor (List ℕ)) Truncated → Item
-lent r = result_map_both (λ c. record { id = c.0; body = c.1.now }) (λ e. e) r
+abbrev pub borrowed_item : Result (List ℕ × Bor (List ℕ)) Truncated → Item
+borrowed_item r = result_map_both (λ c. record { id = c.0; body = c.1.now }) (λ e. e) r
 
 -- The id of a list.
 unfoldable pub LIST : List ℕ

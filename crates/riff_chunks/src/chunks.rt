@@ -1,7 +1,7 @@
 //! Walking the chunks of a window.
 ghost use Rattle.std.specs.Prelude.{◌≡◌, ◌≤◌, length, take};
 ghost use Rattle.std.specs.Iterator.{YieldsFirstBy, item_count};
-ghost use Rattle.riff_chunks.specs.Walk.{Walks, walk, lent, body_fits};
+ghost use Rattle.riff_chunks.specs.Walk.{Walks, walk, borrowed_item, body_fits};
 
 use sf_base::{part_of, rest_from, u32_at};
 use std::iter::FusedIterator;
@@ -26,7 +26,7 @@ pub struct Truncated;
 /// window, and is then one byte shorter.
 #[derive(Debug, Drop)]
 pub struct Chunks<'a> {
-    left: &'a [u8],
+    unread: &'a [u8],
 }
 
 impl<'a> Model for Chunks<'a> {
@@ -35,7 +35,7 @@ impl<'a> Model for Chunks<'a> {
 
     ghost Value = { List Item };
 
-    ghost view = { λ chunks. walk chunks.left.now };
+    ghost view = { λ chunks. walk chunks.unread.now };
 }
 
 impl<'a> Chunks<'a> {
@@ -44,29 +44,29 @@ impl<'a> Chunks<'a> {
         ensures walks { Walks window.now result }
         ensures value { result ≡ walk window.now }
     {
-        Chunks { left: window }
+        Chunks { unread: window }
     }
 }
 
 impl<'a> Iterator for Chunks<'a> {
     type Item = Result<([u8; 4], &'a [u8]), Truncated>;
 
-    ghost next_gives = { YieldsFirstBy lent (λ rest. rest) };
+    ghost next_gives = { YieldsFirstBy borrowed_item (λ rest. rest) };
 
     ghost remaining = { item_count (λ rest. rest) };
 
     fn next(&mut self) -> Option<Result<([u8; 4], &'a [u8]), Truncated>> {
-        let window = self.left;
+        let window = self.unread;
         if window.len() < HEAD_LENGTH {
             return None;
         }
         if !body_fits(window) {
-            self.left = &[];
+            self.unread = &[];
             return Some(Err(Truncated));
         }
         let size = u32_at(window, 4) as usize;
         let body = part_of(window, HEAD_LENGTH, size);
-        self.left = rest_from(window, HEAD_LENGTH + size + size % 2);
+        self.unread = rest_from(window, HEAD_LENGTH + size + size % 2);
         Some(Ok((front_id(window), body)))
     }
 }

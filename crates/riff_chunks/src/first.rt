@@ -3,7 +3,7 @@ ghost use Rattle.std.specs.Prelude.{◌≡◌, is_ok, IfOk};
 ghost use Rattle.std.specs.Option.{option_copied};
 ghost use Rattle.riff_chunks.specs.Walk.{walk};
 ghost use Rattle.riff_chunks.specs.Finding.{chunks_in, is_whole, first_body};
-ghost use Rattle.riff_chunks.specs.First.{place_of, Takes};
+ghost use Rattle.riff_chunks.specs.First.{index_of, KeepsFirst};
 
 use crate::chunks::{Chunks, Truncated};
 use crate::finding::body_of;
@@ -43,7 +43,7 @@ impl<'a> FirstChunks<'a> {
         let mut bodies = [None; MOST_KEPT];
         for item in Chunks::over(window) {
             let chunk = item?;
-            take_first(ids, &mut bodies, chunk.0, chunk.1);
+            keep_first(ids, &mut bodies, chunk.0, chunk.1);
         }
         Ok(FirstChunks {
             window,
@@ -56,28 +56,28 @@ impl<'a> FirstChunks<'a> {
     pub fn body_of(&self, id: [u8; 4]) -> Option<&'a [u8]>
         ensures { option_copied result ≡ first_body id self.now }
     {
-        match place_of(self.ids, id) {
-            Some(place) if place < MOST_KEPT => self.bodies[place],
+        match index_of(self.ids, id) {
+            Some(id_index) if id_index < MOST_KEPT => self.bodies[id_index],
             _ => body_of(self.window, id),
         }
     }
 }
 
 // Keeps the body of a chunk if its id is one of these and has no body yet.
-fn take_first<'a>(ids: &[[u8; 4]], bodies: &mut [Option<&'a [u8]>; 9], id: [u8; 4], body: &'a [u8])
-    ensures { Takes ids.now bodies.old bodies.new (record { id = id; body = body.now }) }
+fn keep_first<'a>(ids: &[[u8; 4]], bodies: &mut [Option<&'a [u8]>; 9], id: [u8; 4], body: &'a [u8])
+    ensures { KeepsFirst ids.now bodies.old bodies.new (record { id = id; body = body.now }) }
 {
-    let Some(place) = place_of(ids, id) else {
+    let Some(id_index) = index_of(ids, id) else {
         return;
     };
-    if place < MOST_KEPT && bodies[place].is_none() {
-        bodies[place] = Some(body);
+    if id_index < MOST_KEPT && bodies[id_index].is_none() {
+        bodies[id_index] = Some(body);
     }
 }
 
 // The index of an id.
-fn place_of(ids: &[[u8; 4]], id: [u8; 4]) -> Option<usize>
-    ensures { result ≡ place_of id ids.now }
+fn index_of(ids: &[[u8; 4]], id: [u8; 4]) -> Option<usize>
+    ensures { result ≡ index_of id ids.now }
 {
     ids.iter().position(|other| *other == id)
 }

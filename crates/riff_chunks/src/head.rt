@@ -1,7 +1,7 @@
 //! Writing chunks: the header of a chunk, its id and size, and its body.
 ghost use Rattle.std.specs.Prelude.{◌≡◌};
 ghost use Rattle.base_outputs.specs.Output.{Puts};
-ghost use Rattle.riff_chunks.specs.Spelling.{chunk_head};
+ghost use Rattle.riff_chunks.specs.Encoding.{chunk_head};
 
 use base_outputs::Output;
 use byteorder::{ByteOrder, LittleEndian};

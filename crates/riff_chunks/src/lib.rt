@@ -14,4 +14,4 @@ pub use chunks::{Chunks, LIST_ID, Truncated};
 pub use finding::{is_whole, list_of};
 pub use first::FirstChunks;
 pub use head::ChunkWriter;
-pub use laws::{spelled_chunks_are_found, unpadded_chunks_are_found, walk_is_the_one_list};
+pub use laws::{encoded_chunks_are_found, unpadded_chunks_are_found, walk_is_unique};

@@ -1,5 +1,5 @@
 pub mod WordLaws
 pub mod RunLaws
 pub mod PieceLaws
-mod PlaceLaws
-mod CutLaws
+mod PositionLaws
+mod CopyLaws

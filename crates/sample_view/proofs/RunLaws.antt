@@ -6,20 +6,20 @@ use Rattle.sample_view.specs.Runs.{IsRunAround}
 use Rattle.sample_view.proofs.WordLaws.{length-words, get_or-words}
 
 -- Two points of a slice are as far apart as in the list.
-pub get_or-run : (points bytes : List ℕ) (index place k : ℕ) → IsRunAround points index bytes place
+pub get_or-run : (points bytes : List ℕ) (index position k : ℕ) → IsRunAround points index bytes position
     → 2 * k + 1 < length bytes
-    → get_or (words bytes) k 0 ≡ get_or points (index - place + k) 0
-get_or-run points bytes index place k run h =
+    → get_or (words bytes) k 0 ≡ get_or points (index - position + k) 0
+get_or-run points bytes index position k run h =
     let n = length (words bytes) in
-    let first = index - place in
+    let first = index - position in
     let in_words : k < n = omega (arith, length-words bytes) in
     ap (λ t. get_or t k 0) run.run ∙ get_or-take n (drop first points) k 0 in_words ∙ get_or-drop first points k 0
 
 -- The point at its own position.
-pub get_or-run_here : (points bytes : List ℕ) (index place : ℕ) → IsRunAround points index bytes place
-    → get_or points index 0 ≡ get_or bytes (2 * place) 0 + 256 * get_or bytes (2 * place + 1) 0
-get_or-run_here points bytes index place run =
+pub get_or-run_here : (points bytes : List ℕ) (index position : ℕ) → IsRunAround points index bytes position
+    → get_or points index 0 ≡ get_or bytes (2 * position) 0 + 256 * get_or bytes (2 * position + 1) 0
+get_or-run_here points bytes index position run =
     let begins = run.begins in
-    let here : index - place + place ≡ index = omega (arith, begins) in
-    sym (get_or-run points bytes index place place run run.inside ∙ ap (λ k. get_or points k 0) here)
-    ∙ get_or-words (2 * place) place bytes refl run.inside
+    let here : index - position + position ≡ index = omega (arith, begins) in
+    sym (get_or-run points bytes index position position run run.inside ∙ ap (λ k. get_or points k 0) here)
+    ∙ get_or-words (2 * position) position bytes refl run.inside

@@ -3,8 +3,8 @@ use Rattle.std.specs.Prelude.{◌≡◌, ℕ, ◌+◌, ◌-◌, ◌*◌, ◌%◌
 use Rattle.sample_view.specs.Words.{words}
 
 -- The bytes are whole consecutive points of the list, and the point with this index is at this position in them.
-pub record IsRunAround (points : List ℕ) (index : ℕ) (bytes : List ℕ) (place : ℕ) : Type 0 where
-  pub begins : place ≤ index
-  pub inside : 2 * place + 1 < length bytes
+pub record IsRunAround (points : List ℕ) (index : ℕ) (bytes : List ℕ) (position : ℕ) : Type 0 where
+  pub begins : position ≤ index
+  pub inside : 2 * position + 1 < length bytes
   pub even : length bytes % 2 ≡ 0
-  pub run : words bytes ≡ take (length (words bytes)) (drop (index - place) points)
+  pub run : words bytes ≡ take (length (words bytes)) (drop (index - position) points)

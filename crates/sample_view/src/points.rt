@@ -102,14 +102,14 @@ impl<'a> Points<'a> {
         ensures point { slice_index self.now index
             ≡ slice_index result.0.now (2 * result.1) + 256 * slice_index result.0.now (2 * result.1 + 1) }
     {
-        let mut place = index;
+        let mut position = index;
         for piece in self.pieces() {
             let bytes = *piece;
             let count = bytes.len() / 2;
-            if place < count {
-                return (bytes, place);
+            if position < count {
+                return (bytes, position);
             }
-            place -= count;
+            position -= count;
         }
         unreachable!()
     }
@@ -119,8 +119,8 @@ impl<'a> Points<'a> {
         requires { index < length self.now }
         ensures { result ≡ cast_signed w16 (slice_index self.now index) }
     {
-        let (bytes, place) = self.slice_at(index);
-        i16::from_le_bytes([bytes[2 * place], bytes[2 * place + 1]])
+        let (bytes, position) = self.slice_at(index);
+        i16::from_le_bytes([bytes[2 * position], bytes[2 * position + 1]])
     }
 
     /// The slices in order, each of at least one point. Their concatenated bytes are the bytes of the points.
@@ -160,9 +160,9 @@ impl<'a> Points<'a> {
         let pieces = self.pieces();
         let len = self.len();
         let end = len - back;
-        let first = cut(alloc, pieces, 0, front)?;
-        let middle = cut(alloc, pieces, front, end)?;
-        let last = cut(alloc, pieces, end, len)?;
+        let first = copy_range(alloc, pieces, 0, front)?;
+        let middle = copy_range(alloc, pieces, front, end)?;
+        let last = copy_range(alloc, pieces, end, len)?;
         *self = middle;
         Ok((first, last))
     }
@@ -192,7 +192,7 @@ impl<'a> Points<'a> {
 }
 
 // The points of these slices from index `from` up to, but not including, `to`.
-fn cut<'a>(
+fn copy_range<'a>(
     alloc: Global,
     pieces: &[&'a [u8]],
     from: usize,
@@ -205,15 +205,15 @@ fn cut<'a>(
 {
     let mut kept: SmallVec<&'a [u8], 1> = SmallVec::new(alloc);
     let mut skip = from;
-    let mut left = to - from;
+    let mut remaining = to - from;
     for piece in pieces {
         let bytes = *piece;
         let count = bytes.len() / 2;
         let start = skip.min(count);
-        let room = left.min(count - start);
-        keep(&mut kept, part(bytes, start, room))?;
+        let room = remaining.min(count - start);
+        push_piece(&mut kept, part(bytes, start, room))?;
         skip -= start;
-        left -= room;
+        remaining -= room;
     }
     Ok(Points {
         pieces: kept,
@@ -231,7 +231,7 @@ fn part(bytes: &[u8], start: usize, count: usize) -> &[u8]
 }
 
 // Appends a slice of points, unless it is empty.
-fn keep<'a>(kept: &mut SmallVec<&'a [u8], 1>, bytes: &'a [u8]) -> Result<(), OutOfMemory>
+fn push_piece<'a>(kept: &mut SmallVec<&'a [u8], 1>, bytes: &'a [u8]) -> Result<(), OutOfMemory>
     requires whole { All IsPiece kept.old.items }
     requires even { length bytes.now % 2 ≡ 0 }
     ensures whole { OnOk result (All IsPiece kept.new.items) }

@@ -15,11 +15,11 @@ use Rattle.bank_zone_ranges.specs.declared.axes.Axis.{Axis}
 use Rattle.bank_zone_ranges.specs.declared.axes.Axis.TheVariants as axis
 use Rattle.bank_zone_ranges.specs.declared.axes.Keep.{Keep}
 use Rattle.bank_zone_ranges.specs.declared.axes.Keep.TheVariants as keep
-use Rattle.script_tokens.specs.declared.cursor.Said.{Said}
-use Rattle.script_tokens.specs.Parts.{most_word, most_double_word}
-use Rattle.script_tokens.specs.Spelling.{WritesSigned, IsWithin}
-use Rattle.script_grammar.specs.Operands.{Operand, Fixed, Number, Signed, Amount, Range, Name, Text, Points, Says}
-use Rattle.script_grammar.specs.Operands.{AllSay}
+use Rattle.script_tokens.specs.declared.cursor.TokenValue.{TokenValue}
+use Rattle.script_tokens.specs.Parsers.{most_word, most_double_word}
+use Rattle.script_tokens.specs.TextForm.{WritesSigned, IsWithin}
+use Rattle.script_grammar.specs.Operands.{Operand, Fixed, Number, Signed, Amount, Range, Name, Text, Points, Encodes}
+use Rattle.script_grammar.specs.Operands.{AllEncode}
 use Rattle.script_grammar.specs.Samples.{kind_operands, loop_operands, tune_operands, head_operands, body_operands}
 use Rattle.script_grammar.specs.Texts.{id_word}
 use Rattle.script_grammar.specs.Ranges.{axis_word, keep_word}
@@ -56,7 +56,7 @@ words_fit [] h = tt
 words_fit (b ∷ []) h = tt
 words_fit (a ∷ b ∷ bytes) h = (let x = h.0 in let y = h.1.0 in omega (arith, x, y), words_fit bytes h.1.1)
 
-ranged : (s : Said) (o : Operand) → Says s o → Ranged o
+ranged : (s : TokenValue) (o : Operand) → Encodes s o → Ranged o
 ranged s (Fixed w) h = tt
 ranged s (Number limit n) h = h.2.within
 ranged s (Signed limit z) h = signed_within limit h.0 z h.2
@@ -69,15 +69,15 @@ ranged s (Points ps) h = subst (AllByRecursion (λ p. p < 2 ^ 16)) (sym h.4) (wo
 abbrev pub AllRanged : List Operand → Type 0
 AllRanged os = AllByRecursion Ranged os
 
-pub all_ranged : (said : List Said) (os : List Operand) → AllSay said os → AllRanged os
+pub all_ranged : (said : List TokenValue) (os : List Operand) → AllEncode said os → AllRanged os
 all_ranged [] [] h = tt
 all_ranged [] (o ∷ os) h = absurd h
 all_ranged (s ∷ said) [] h = absurd h
 all_ranged (s ∷ said) (o ∷ os) h = (ranged s o h.0, all_ranged said os h.1)
 
-pub behind : (os more : List Operand) → AllRanged (os ++ more) → AllRanged os × AllRanged more
-behind [] more h = (tt, h)
-behind (o ∷ os) more h = let k = behind os more h.1 in ((h.0, k.0), k.1)
+pub following : (os more : List Operand) → AllRanged (os ++ more) → AllRanged os × AllRanged more
+following [] more h = (tt, h)
+following (o ∷ os) more h = let k = following os more h.1 in ((h.0, k.0), k.1)
 
 -- ---- its value fits
 
@@ -102,9 +102,9 @@ tune_fits rate key correction h =
 
 pub sample_fits : (s : Sample) → AllRanged (body_operands s) → FitsSample s
 sample_fits s h =
-    let b = behind (head_operands s) (Points s.points ∷ []) h in
-    let t = behind (tune_operands s.rate s.key s.correction) (kind_operands s.kind ++ loop_operands s.looped) b.0.1 in
-    let k = behind (kind_operands s.kind) (loop_operands s.looped) t.1 in
+    let b = following (head_operands s) (Points s.points ∷ []) h in
+    let t = following (tune_operands s.rate s.key s.correction) (kind_operands s.kind ++ loop_operands s.looped) b.0.1 in
+    let k = following (kind_operands s.kind) (loop_operands s.looped) t.1 in
     let tune = tune_fits s.rate s.key s.correction t.0 in record {
       name = b.0.0;
       points = b.1.0;

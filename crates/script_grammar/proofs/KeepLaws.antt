@@ -4,14 +4,14 @@ use Rattle.std.proofs.Common.{arith}
 use Rattle.std.specs.Str.{bytes_eq}
 use Rattle.bank_parts.specs.declared.parts.Zone.{Zone}
 use Rattle.script_tokens.specs.declared.fault.LineFault.TheVariants as faults
-use Rattle.script_tokens.specs.Parts.{◌>>=◌, pure, is_next, word, literal, most_word, most_double_word, name}
+use Rattle.script_tokens.specs.Parsers.{◌>>=◌, pure, is_next, word, literal, most_word, most_double_word, name}
 use Rattle.script_tokens.proofs.ReadLaws.{literal_is}
 use Rattle.script_grammar.specs.Names.{next_named}
-use Rattle.script_grammar.specs.Samples.{kind_behind, kind, loop_behind, looped, points, tune, body}
+use Rattle.script_grammar.specs.Samples.{kind_after_word, kind, loop_after_word, looped, points, tune, body}
 use Rattle.script_grammar.specs.Texts.{id_word, ids, info_id}
 use Rattle.script_grammar.specs.Items.{items, no_content}
-use Rattle.script_grammar.specs.Zones.{opened, zone_behind, zone, is_end, with_zone, zones_left, global_zones}
-use Rattle.script_grammar.specs.Zones.{global_behind, first_behind, zones_behind, zones}
+use Rattle.script_grammar.specs.Zones.{opened, zone_after_brace, zone, is_end, with_zone, remaining_zones, global_zones}
+use Rattle.script_grammar.specs.Zones.{global_after_brace, first_zone_after_brace, zones_after_brace, zones}
 use Rattle.script_grammar.proofs.RepeatedLaws.{Keeps, shortens_keeps, pure_keeps, fault_keeps, then_keeps}
 use Rattle.script_grammar.proofs.RepeatedLaws.{either_keeps, word_shortens, repeated_keeps}
 use Rattle.script_grammar.proofs.ItemLaws.{number_keeps, signed_keeps, items_keeps, zone_behind_keeps}
@@ -38,8 +38,8 @@ pub points_keep : Keeps points
 unfolding points
 points_keep = then_keeps literal _ literal_keeps (λ bytes. fault_keeps _ _)
 
-kind_behind_keeps : (w : List ℕ) → Keeps (kind_behind w)
-unfolding kind_behind
+kind_behind_keeps : (w : List ℕ) → Keeps (kind_after_word w)
+unfolding kind_after_word
 kind_behind_keeps w =
     either_keeps (bytes_eq w (codes "mono")) _ _ (pure_keeps _)
     (either_keeps (bytes_eq w (codes "right")) _ _ (then_keeps _ _ (number_keeps most_word) (λ link. pure_keeps _))
@@ -49,10 +49,10 @@ kind_behind_keeps w =
 
 pub kind_keeps : Keeps kind
 unfolding kind
-kind_keeps = then_keeps word kind_behind word_keeps kind_behind_keeps
+kind_keeps = then_keeps word kind_after_word word_keeps kind_behind_keeps
 
-loop_behind_keeps : (w : List ℕ) → Keeps (loop_behind w)
-unfolding loop_behind
+loop_behind_keeps : (w : List ℕ) → Keeps (loop_after_word w)
+unfolding loop_after_word
 loop_behind_keeps w =
     either_keeps (bytes_eq w (codes "noloop")) _ _ (pure_keeps _)
     (either_keeps (bytes_eq w (codes "loop")) _ _
@@ -62,7 +62,7 @@ loop_behind_keeps w =
 
 pub looped_keeps : Keeps looped
 unfolding looped
-looped_keeps = then_keeps word loop_behind word_keeps loop_behind_keeps
+looped_keeps = then_keeps word loop_after_word word_keeps loop_behind_keeps
 
 pub tune_keeps : Keeps tune
 unfolding tune
@@ -91,30 +91,30 @@ id_keeps = named_keeps id_word ids
 pub zone_keeps : Keeps zone
 zone_keeps = shortens_keeps zone zone_shortens
 
-left_keep : (zs : List Zone) → Keeps (zones_left zs)
-unfolding zones_left
+left_keep : (zs : List Zone) → Keeps (remaining_zones zs)
+unfolding remaining_zones
 left_keep zs line t e = repeated_keeps is_end pure zone with_zone (λ zs. pure_keeps zs) zone_keeps zs line t e
 
-global_keeps : Keeps global_behind
-unfolding global_behind global_zones
+global_keeps : Keeps global_after_brace
+unfolding global_after_brace global_zones
 global_keeps =
     then_keeps word _ word_keeps
-    (λ w. then_keeps items _ items_keeps (λ g. then_keeps (zones_left []) _ (left_keep []) (λ zs. pure_keeps _)))
+    (λ w. then_keeps items _ items_keeps (λ g. then_keeps (remaining_zones []) _ (left_keep []) (λ zs. pure_keeps _)))
 
-first_keeps : Keeps first_behind
-unfolding first_behind
+first_keeps : Keeps first_zone_after_brace
+unfolding first_zone_after_brace
 first_keeps =
-    then_keeps zone_behind _ zone_behind_keeps
-    (λ z. then_keeps (zones_left (z ∷ [])) _ (left_keep (z ∷ [])) (λ zs. pure_keeps _))
+    then_keeps zone_after_brace _ zone_behind_keeps
+    (λ z. then_keeps (remaining_zones (z ∷ [])) _ (left_keep (z ∷ [])) (λ zs. pure_keeps _))
 
-behind_keeps : Keeps zones_behind
+behind_keeps : Keeps zones_after_brace
 behind_keeps line t e = from (is_next (codes "global") line) refl
   where
     from : (b : Bool) → is_next (codes "global") line ≡ b → length t.rest ≤ length line
     from true k = global_keeps line t (sym (global_first line k) ∙ e)
     from false k = first_keeps line t (sym (zone_first line k) ∙ e)
 
-some_keep : Keeps (opened >>= λ o. zones_behind)
+some_keep : Keeps (opened >>= λ o. zones_after_brace)
 some_keep = then_keeps opened _ (shortens_keeps opened (fixed_shortens (codes "{"))) (λ o. behind_keeps)
 
 pub zones_keep : Keeps zones

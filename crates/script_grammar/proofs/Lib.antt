@@ -1,13 +1,13 @@
 pub mod NameLaws
 pub mod OperandLaws
 pub mod PutLaws
-pub mod SpellLaws
+pub mod CompletenessLaws
 pub mod ReadLaws
 pub mod FitLaws
 pub mod RepeatedLaws
 pub mod ItemLaws
 pub mod MemoryLaws
-pub mod ZoneSpellLaws
+pub mod ZoneCompletenessLaws
 pub mod ZoneReadLaws
 pub mod ZoneFitLaws
 pub mod ZonePutLaws

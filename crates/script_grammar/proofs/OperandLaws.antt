@@ -10,13 +10,13 @@ use Rattle.sf_base.specs.Names.{IsName}
 use Rattle.sample_view.specs.Words.{word_bytes}
 use Rattle.sample_view.proofs.WordLaws.{words_of_bytes}
 use Rattle.bank_parts.specs.Fits.{FitsText}
-use Rattle.script_tokens.specs.Spelling.{is_word, IsWithin}
+use Rattle.script_tokens.specs.TextForm.{is_word, IsWithin}
 use Rattle.script_tokens.proofs.TestLaws.{not_feed}
 use Rattle.script_tokens.proofs.PieceLaws.{meant, Spoken, AllSpoken, writes, writes_signed, writes_range, range_text}
 use Rattle.script_tokens.proofs.PieceLaws.{spoken_number, spoken_signed, spoken_range, spoken_word, spoken_name}
 use Rattle.script_tokens.proofs.PieceLaws.{spoken_bytes, spoken_hex, are_bytes}
-use Rattle.script_grammar.specs.Operands.{Operand, Fixed, Number, Signed, Amount, Range, Name, Text, Points, Says}
-use Rattle.script_grammar.specs.Operands.{AllSay, piece_of, pieces_of}
+use Rattle.script_grammar.specs.Operands.{Operand, Fixed, Number, Signed, Amount, Range, Name, Text, Points, Encodes}
+use Rattle.script_grammar.specs.Operands.{AllEncode, piece_of, pieces_of}
 
 -- a word that can be on a line
 abbrev pub IsFixed : List ℕ → Type 0
@@ -70,7 +70,7 @@ operand_spoken (Text bytes) h = spoken_bytes bytes (are_bytes bytes h)
 operand_spoken (Points ps) h =
     spoken_hex (flat_map word_bytes ps) (are_bytes (flat_map word_bytes ps) (points_text ps h))
 
-operand_says : (o : Operand) → FitsOperand o → Says (meant (piece_of o)) o
+operand_says : (o : Operand) → FitsOperand o → Encodes (meant (piece_of o)) o
 operand_says (Fixed w) h = refl
 operand_says (Number limit n) h = (decimal n, refl, writes limit n h.0 h.1)
 operand_says (Signed limit z) h = (signed_decimal z, refl, writes_signed limit z h.0 h.1)
@@ -92,7 +92,7 @@ pub all_spoken : (os : List Operand) → AllFit os → AllSpoken (pieces_of os)
 all_spoken [] h = tt
 all_spoken (o ∷ os) h = (operand_spoken o h.0, all_spoken os h.1)
 
-pub all_say : (os : List Operand) → AllFit os → AllSay (map meant (pieces_of os)) os
+pub all_say : (os : List Operand) → AllFit os → AllEncode (map meant (pieces_of os)) os
 all_say [] h = tt
 all_say (o ∷ os) h = (operand_says o h.0, all_say os h.1)
 

@@ -1,24 +1,24 @@
 -- A repeated part: how many tokens it consumes, how it continues, and how it ends.
 use Rattle.std.proofs.Common.{◌≡◌, ◌≤◌, ◌<◌, ℕ, zero, suc, Bool, true, false, cond, List, ◌∷◌, length, Option}
 use Rattle.std.proofs.Common.{Result, Ok, Err, refl, sym, ap, ◌∙◌, arith}
-use Rattle.script_tokens.specs.declared.cursor.Said.{Said}
-use Rattle.script_tokens.specs.declared.cursor.Said.TheVariants.{Word}
+use Rattle.script_tokens.specs.declared.cursor.TokenValue.{TokenValue}
+use Rattle.script_tokens.specs.declared.cursor.TokenValue.TheVariants.{Word}
 use Rattle.script_tokens.specs.declared.fault.LineFault.{LineFault}
-use Rattle.script_tokens.specs.Parts.{Took, Part, and_then, ◌>>=◌, pure, or_fault, word, number, signed, range}
+use Rattle.script_tokens.specs.Parsers.{Parsed, Parser, and_then, ◌>>=◌, pure, or_fault, word, number, signed, range}
 use Rattle.script_tokens.proofs.ReadLaws.{AllHoldBytes, both, or_fault_is, word_is, number_is, signed_is, range_is}
 use Rattle.script_grammar.specs.Repeated.{repeated_within, repeated}
 
 -- ---- consumed tokens
 
 -- the parser leaves no more tokens than there were
-abbrev pub Keeps : {X : Type 0} → Part X → Type 0
-Keeps {X} p = (line : List Said) (t : Took X) → p line ≡ Ok t → length t.rest ≤ length line
+abbrev pub Keeps : {X : Type 0} → Parser X → Type 0
+Keeps {X} p = (line : List TokenValue) (t : Parsed X) → p line ≡ Ok t → length t.rest ≤ length line
 
 -- the parser leaves fewer tokens than there were
-abbrev pub Shortens : {X : Type 0} → Part X → Type 0
-Shortens {X} p = (line : List Said) (t : Took X) → p line ≡ Ok t → length t.rest < length line
+abbrev pub Shortens : {X : Type 0} → Parser X → Type 0
+Shortens {X} p = (line : List TokenValue) (t : Parsed X) → p line ≡ Ok t → length t.rest < length line
 
-pub shortens_keeps : {X : Type 0} (p : Part X) → Shortens p → Keeps p
+pub shortens_keeps : {X : Type 0} (p : Parser X) → Shortens p → Keeps p
 shortens_keeps p h line t e = let l = h line t e in omega (arith, l)
 
 pub pure_keeps : {X : Type 0} (x : X) → Keeps (pure x)
@@ -27,14 +27,14 @@ pure_keeps x line t e = let k : line ≡ t.rest = cc in omega (arith, ap length 
 pub fault_keeps : {X : Type 0} (d : LineFault) (o : Option X) → Keeps (or_fault d o)
 fault_keeps d o line t e = let k = or_fault_is d o line t e in omega (arith, ap length k.1)
 
-pub then_keeps : {X Y : Type 0} (p : Part X) (f : X → Part Y) → Keeps p → ((x : X) → Keeps (f x)) → Keeps (p >>= f)
+pub then_keeps : {X Y : Type 0} (p : Parser X) (f : X → Parser Y) → Keeps p → ((x : X) → Keeps (f x)) → Keeps (p >>= f)
 then_keeps p f h k line t e =
     let b = both (p line) f t e in
     let l = h line b.first b.is in
     let m = k b.first.value b.first.rest t b.second in
     omega (arith, l, m)
 
-pub then_shortens : {X Y : Type 0} (p : Part X) (f : X → Part Y) → Shortens p → ((x : X) → Keeps (f x))
+pub then_shortens : {X Y : Type 0} (p : Parser X) (f : X → Parser Y) → Shortens p → ((x : X) → Keeps (f x))
     → Shortens (p >>= f)
 then_shortens p f h k line t e =
     let b = both (p line) f t e in
@@ -42,11 +42,11 @@ then_shortens p f h k line t e =
     let m = k b.first.value b.first.rest t b.second in
     omega (arith, l, m)
 
-pub either_keeps : {X : Type 0} (b : Bool) (p q : Part X) → Keeps p → Keeps q → Keeps (cond b p q)
+pub either_keeps : {X : Type 0} (b : Bool) (p q : Parser X) → Keeps p → Keeps q → Keeps (cond b p q)
 either_keeps true p q h k = h
 either_keeps false p q h k = k
 
-first_taken : (s : Said) (line rest : List Said) → line ≡ s ∷ rest → length rest < length line
+first_taken : (s : TokenValue) (line rest : List TokenValue) → line ≡ s ∷ rest → length rest < length line
 first_taken s line rest e = omega (arith, ap length e)
 
 pub word_shortens : Shortens word
@@ -63,25 +63,25 @@ range_shortens line t e = let k = range_is line t e in first_taken (Word k.digit
 
 -- ---- a repeated part
 
-then_alike : {X Y : Type 0} (r : Result (Took X) LineFault) (f g : X → Part Y)
-    → ((t : Took X) → r ≡ Ok t → f t.value t.rest ≡ g t.value t.rest) → and_then r f ≡ and_then r g
+then_alike : {X Y : Type 0} (r : Result (Parsed X) LineFault) (f g : X → Parser Y)
+    → ((t : Parsed X) → r ≡ Ok t → f t.value t.rest ≡ g t.value t.rest) → and_then r f ≡ and_then r g
 then_alike (Ok t) f g h = h t refl
 then_alike (Err e) f g h = refl
 
-module _ {X Y : Type 0} (ends : List Said → Bool) (last : Y → Part Y) (part : Part X) (with : Y → X → Y) where
-  pub within_ends : (n : ℕ) (y : Y) (line : List Said) → ends line ≡ true
+module _ {X Y : Type 0} (ends : List TokenValue → Bool) (last : Y → Parser Y) (part : Parser X) (with : Y → X → Y) where
+  pub within_ends : (n : ℕ) (y : Y) (line : List TokenValue) → ends line ≡ true
       → repeated_within ends last part with (suc n) y line ≡ last y line
   unfolding repeated_within
   within_ends n y line e = rw e refl
 
-  pub within_goes_on : (n : ℕ) (y : Y) (line : List Said) → ends line ≡ false
+  pub within_goes_on : (n : ℕ) (y : Y) (line : List TokenValue) → ends line ≡ false
       → repeated_within ends last part with (suc n) y line
       ≡ and_then (part line) (λ x. repeated_within ends last part with n (with y x))
   unfolding repeated_within
   within_goes_on n y line e = rw e refl
 
   -- a bound above the number of tokens changes nothing
-  enough : Shortens part → (n m : ℕ) (y : Y) (line : List Said) → length line < n → length line < m
+  enough : Shortens part → (n m : ℕ) (y : Y) (line : List TokenValue) → length line < n → length line < m
       → repeated_within ends last part with n y line ≡ repeated_within ends last part with m y line
   enough h zero m y line l k = absurd (omega (arith, l))
   enough h (suc n) zero y line l k = absurd (omega (arith, k))
@@ -92,7 +92,7 @@ module _ {X Y : Type 0} (ends : List Said → Bool) (last : Y → Part Y) (part 
       (ends line) refl
     where
       from :
-          ((t : Took X) → part line ≡ Ok t
+          ((t : Parsed X) → part line ≡ Ok t
           → repeated_within ends last part with n (with y t.value) t.rest
           ≡ repeated_within ends last part with m (with y t.value) t.rest)
           → (b : Bool) → ends line ≡ b
@@ -104,26 +104,26 @@ module _ {X Y : Type 0} (ends : List Said → Bool) (last : Y → Part Y) (part 
           (λ x. repeated_within ends last part with m (with y x)) on
           ∙ sym (within_goes_on m y line e)
 
-  pub repeated_ends : (y : Y) (line : List Said) → ends line ≡ true → repeated ends last part with y line ≡ last y line
+  pub repeated_ends : (y : Y) (line : List TokenValue) → ends line ≡ true → repeated ends last part with y line ≡ last y line
   repeated_ends y line e = within_ends (length line) y line e
 
-  pub repeated_goes_on : Shortens part → (y : Y) (line : List Said) (t : Took X) → ends line ≡ false
+  pub repeated_goes_on : Shortens part → (y : Y) (line : List TokenValue) (t : Parsed X) → ends line ≡ false
       → part line ≡ Ok t → repeated ends last part with y line ≡ repeated ends last part with (with y t.value) t.rest
   repeated_goes_on h y line t e i =
       let s = h line t i in
       within_goes_on (length line) y line e
       ∙ ap
-      (λ (r : Result (Took X) LineFault).
+      (λ (r : Result (Parsed X) LineFault).
       and_then r (λ x. repeated_within ends last part with (length line) (with y x)))
       i
       ∙ enough h (length line) (suc (length t.rest)) (with y t.value) t.rest s (omega arith)
 
-  pub repeated_fails : (y : Y) (line : List Said) (d : LineFault) → ends line ≡ false → part line ≡ Err d
+  pub repeated_fails : (y : Y) (line : List TokenValue) (d : LineFault) → ends line ≡ false → part line ≡ Err d
       → repeated ends last part with y line ≡ Err d
   repeated_fails y line d e i =
       within_goes_on (length line) y line e
       ∙ ap
-      (λ (r : Result (Took X) LineFault).
+      (λ (r : Result (Parsed X) LineFault).
       and_then r (λ x. repeated_within ends last part with (length line) (with y x)))
       i
 
@@ -144,20 +144,20 @@ module _ {X Y : Type 0} (ends : List Said → Bool) (last : Y → Part Y) (part 
   repeated_keeps h k y line t e = within_keeps h k (suc (length line)) y line t e
 
   -- induction over the parts that are read: the base holds at the end, and the step for each part
-  module _ (Reads : Y → List Said → Took Y → Type 0)
-      (over : (y : Y) (line : List Said) (t : Took Y) → AllHoldBytes line → ends line ≡ true → last y line ≡ Ok t
+  module _ (Reads : Y → List TokenValue → Parsed Y → Type 0)
+      (over : (y : Y) (line : List TokenValue) (t : Parsed Y) → AllHoldBytes line → ends line ≡ true → last y line ≡ Ok t
       → Reads y line t)
-      (more : (y : Y) (line : List Said) (x : Took X) (t : Took Y) → AllHoldBytes line → part line ≡ Ok x
+      (more : (y : Y) (line : List TokenValue) (x : Parsed X) (t : Parsed Y) → AllHoldBytes line → part line ≡ Ok x
       → (AllHoldBytes x.rest → Reads (with y x.value) x.rest t) → Reads y line t)
     where
-      within_reads : (n : ℕ) (y : Y) (line : List Said) (t : Took Y) → AllHoldBytes line
+      within_reads : (n : ℕ) (y : Y) (line : List TokenValue) (t : Parsed Y) → AllHoldBytes line
           → repeated_within ends last part with n y line ≡ Ok t → Reads y line t
       unfolding repeated_within
       within_reads zero y line t h e = cc
       within_reads (suc n) y line t h e = from (λ x. within_reads n (with y x)) (ends line) refl
         where
           from :
-              ((x : X) (rest : List Said) (u : Took Y) → AllHoldBytes rest
+              ((x : X) (rest : List TokenValue) (u : Parsed Y) → AllHoldBytes rest
               → repeated_within ends last part with n (with y x) rest ≡ Ok u → Reads (with y x) rest u)
               → (b : Bool) → ends line ≡ b → Reads y line t
           from on true i = over y line t h i (sym (within_ends n y line i) ∙ e)
@@ -167,6 +167,6 @@ module _ {X Y : Type 0} (ends : List Said → Bool) (last : Y → Part Y) (part 
               (sym (within_goes_on n y line i) ∙ e) in
               more y line x.first t h x.is (λ holds. on x.first.value x.first.rest t holds x.second)
 
-      pub repeated_reads : (y : Y) (line : List Said) (t : Took Y) → AllHoldBytes line
+      pub repeated_reads : (y : Y) (line : List TokenValue) (t : Parsed Y) → AllHoldBytes line
           → repeated ends last part with y line ≡ Ok t → Reads y line t
       repeated_reads y line t h e = within_reads (suc (length line)) y line t h e

@@ -23,8 +23,8 @@ use Rattle.modulators.specs.Modulators.{FitsModulator}
 use Rattle.bank_parts.specs.declared.parts.GlobalZone.{GlobalZone}
 use Rattle.bank_parts.specs.declared.parts.Zone.{Zone}
 use Rattle.bank_parts.specs.Fits.{FitsGlobal, FitsZone}
-use Rattle.script_tokens.specs.Parts.{most_word}
-use Rattle.script_tokens.specs.Spelling.{IsWithin}
+use Rattle.script_tokens.specs.Parsers.{most_word}
+use Rattle.script_tokens.specs.TextForm.{IsWithin}
 use Rattle.script_grammar.specs.declared.items.Item.{Item}
 use Rattle.script_grammar.specs.declared.items.Item.TheVariants as item
 use Rattle.script_grammar.specs.Operands.{Amount, Range}
@@ -34,7 +34,7 @@ use Rattle.script_grammar.specs.Zones.{Written, WrittenZone, zone_operands, glob
 use Rattle.script_grammar.specs.Zones.{zone_of, zone_in, global_in, zones_in, items_of, global_of, written_zone}
 use Rattle.script_grammar.specs.Zones.{written_of}
 use Rattle.script_grammar.proofs.OperandLaws.{FitsOperand, AllFit, both_fit}
-use Rattle.script_grammar.proofs.FitLaws.{Ranged, AllRanged, behind, word16}
+use Rattle.script_grammar.proofs.FitLaws.{Ranged, AllRanged, following, word16}
 
 -- ---- the operands that are printed for zones have the zones' value
 
@@ -168,14 +168,14 @@ items_fit_on : (is : List Item) (content : GlobalZone) → FitsGlobal content �
     → FitsGlobal (with_items content is)
 items_fit_on [] content f h = f
 items_fit_on (i ∷ is) content f h =
-    let b = behind (item_operands i) (flat_map item_operands is) h in
+    let b = following (item_operands i) (flat_map item_operands is) h in
     items_fit_on is (with_item content i) (item_fits content i f b.0) b.1
 
 none_fits : FitsGlobal no_content
 none_fits = record { gens = All-no_gens FitsEntry; mods = tt }
 
 items_fit : (is : List Item) → AllRanged (items_operands is) → FitsGlobal (content_of is)
-items_fit is h = items_fit_on is no_content none_fits (behind (flat_map item_operands is) _ h).0
+items_fit is h = items_fit_on is no_content none_fits (following (flat_map item_operands is) _ h).0
 
 pub zone_fits : (z : WrittenZone) → AllRanged (zone_operands z) → FitsZone (zone_in z)
 zone_fits z h =
@@ -183,7 +183,7 @@ zone_fits z h =
 
 all_fit : (ws : List WrittenZone) → AllRanged (flat_map zone_operands ws) → AllByRecursion FitsZone (map zone_in ws)
 all_fit [] h = tt
-all_fit (w ∷ ws) h = let b = behind (zone_operands w) (flat_map zone_operands ws) h in (zone_fits w b.0, all_fit ws b.1)
+all_fit (w ∷ ws) h = let b = following (zone_operands w) (flat_map zone_operands ws) h in (zone_fits w b.0, all_fit ws b.1)
 
 global_fits : (g : Option (List Item)) → AllRanged (global_operands g) → FitsGlobal (global_in g)
 global_fits None h = none_fits
@@ -192,7 +192,7 @@ global_fits (Some is) h = items_fit is h.1.1
 pub zones_ranged : (w : Written) → AllRanged (written_operands w)
     → FitsGlobal (global_in w.global) × AllByRecursion FitsZone (map zone_in w.zones)
 zones_ranged w h =
-    let b = behind (global_operands w.global) (flat_map zone_operands w.zones) h in
+    let b = following (global_operands w.global) (flat_map zone_operands w.zones) h in
     (global_fits w.global b.0, all_fit w.zones b.1)
 
 -- ---- zones that fit can be encoded

@@ -10,7 +10,7 @@ use Rattle.base_outputs.proofs.OutputLaws.{puts_as, Putting, putting_member}
 use Rattle.modulators.specs.declared.modulator.Modulator.{Modulator}
 use Rattle.bank_parts.specs.declared.parts.GlobalZone.{GlobalZone}
 use Rattle.bank_parts.specs.declared.parts.Zone.{Zone}
-use Rattle.script_tokens.specs.Parts.{most_word}
+use Rattle.script_tokens.specs.Parsers.{most_word}
 use Rattle.script_grammar.specs.declared.items.Item.{Item}
 use Rattle.script_grammar.specs.declared.items.Item.TheVariants as item
 use Rattle.script_grammar.specs.Operands.{Operand, Fixed, Number}

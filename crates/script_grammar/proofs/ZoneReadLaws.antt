@@ -10,20 +10,20 @@ use Rattle.generators.specs.Ranges.{is_range_operator}
 use Rattle.modulators.specs.declared.modulator.Modulator.{Modulator}
 use Rattle.bank_parts.specs.declared.parts.GlobalZone.{GlobalZone}
 use Rattle.bank_parts.specs.declared.parts.Zone.{Zone}
-use Rattle.script_tokens.specs.declared.cursor.Said.{Said}
-use Rattle.script_tokens.specs.declared.cursor.Said.TheVariants.{Word}
+use Rattle.script_tokens.specs.declared.cursor.TokenValue.{TokenValue}
+use Rattle.script_tokens.specs.declared.cursor.TokenValue.TheVariants.{Word}
 use Rattle.script_tokens.specs.declared.fault.LineFault.TheVariants as faults
-use Rattle.script_tokens.specs.Parts.{Took, ◌>>=◌, pure, or_fault, is_next, word, most_word, number, signed, range}
+use Rattle.script_tokens.specs.Parsers.{Parsed, ◌>>=◌, pure, or_fault, is_next, word, most_word, number, signed, range}
 use Rattle.script_tokens.proofs.ReadLaws.{AllHoldBytes, both, word_is, signed_is, range_is}
 use Rattle.script_grammar.specs.declared.items.Item.{Item}
 use Rattle.script_grammar.specs.declared.items.Item.TheVariants as item
 use Rattle.script_grammar.specs.Operands.{Operand, Fixed, Number, Signed, Amount, Range}
 use Rattle.script_grammar.specs.Items.{amount_operand, generator_operands, modulator_operands, item_operands}
 use Rattle.script_grammar.specs.Items.{items_operands, no_content, with_item, with_items, amount, generator}
-use Rattle.script_grammar.specs.Items.{modulator_of, modulator, item_behind, an_item, closed, items_on, items}
+use Rattle.script_grammar.specs.Items.{modulator_of, modulator, item_after_word, an_item, closed, items_on, items}
 use Rattle.script_grammar.specs.Zones.{Written, WrittenZone, zone_operands, written_operands, zone_of, zone_in}
-use Rattle.script_grammar.specs.Zones.{zones_in, opened, zone_behind, zone, is_end, with_zone, zones_left}
-use Rattle.script_grammar.specs.Zones.{global_zones, global_behind, first_behind, zones_behind, zones}
+use Rattle.script_grammar.specs.Zones.{zones_in, opened, zone_after_brace, zone, is_end, with_zone, remaining_zones}
+use Rattle.script_grammar.specs.Zones.{global_zones, global_after_brace, first_zone_after_brace, zones_after_brace, zones}
 use Rattle.script_grammar.proofs.ReadLaws.{Fronts, front, then, made, word_front, fixed_front, number_front}
 use Rattle.script_grammar.proofs.ReadLaws.{signed_front}
 use Rattle.script_grammar.proofs.RepeatedLaws.{repeated_reads}
@@ -37,7 +37,7 @@ low_of low high h = omega (arith, h)
 high_of : (low high : ℕ) → low ≤ 255 → (low + 256 * high) / 256 ≡ high
 high_of low high h = omega (arith, h)
 
-amount_front : (operator : ℕ) (line : List Said) (t : Took ℕ) → AllHoldBytes line → amount operator line ≡ Ok t
+amount_front : (operator : ℕ) (line : List TokenValue) (t : Parsed ℕ) → AllHoldBytes line → amount operator line ≡ Ok t
     → Fronts line t.rest (amount_operand operator t.value ∷ [])
 unfolding amount
 amount_front operator line t h e = from (is_range_operator operator) e
@@ -54,7 +54,7 @@ amount_front operator line t h e = from (is_range_operator operator) e
         let high = r.first.value.1 in
         let within = f.writes.writes_low.within in
         let same : record { value = low + 256 * high; rest = r.first.rest } ≡ t = made _ r.first.rest t r.second in
-        subst (λ (u : Took ℕ). Fronts line u.rest (Range (u.value % 256) (u.value / 256) ∷ [])) same
+        subst (λ (u : Parsed ℕ). Fronts line u.rest (Range (u.value % 256) (u.value / 256) ∷ [])) same
         (subst (λ (n : ℕ). Fronts line r.first.rest (Range n ((low + 256 * high) / 256) ∷ []))
         (sym (low_of low high within))
         (subst (λ (n : ℕ). Fronts line r.first.rest (Range low n ∷ [])) (sym (high_of low high within))
@@ -64,13 +64,13 @@ amount_front operator line t h e = from (is_range_operator operator) e
         let f = signed_is 32767 line z.first z.is in
         let same : record { value = cast_unsigned w16 z.first.value; rest = z.first.rest } ≡ t =
         made _ z.first.rest t z.second in
-        subst (λ (u : Took ℕ). Fronts line u.rest (Amount u.value ∷ [])) same
+        subst (λ (u : Parsed ℕ). Fronts line u.rest (Amount u.value ∷ [])) same
         (front line z.first.rest (Word f.digits) (Amount (cast_unsigned w16 z.first.value)) h f.parts
         (f.digits, z.first.value, refl, f.writes, refl))
 
 -- ---- items
 
-pub generator_front : (line : List Said) (t : Took (ℕ × ℕ)) → AllHoldBytes line → generator line ≡ Ok t
+pub generator_front : (line : List TokenValue) (t : Parsed (ℕ × ℕ)) → AllHoldBytes line → generator line ≡ Ok t
     → Fronts line t.rest (generator_operands t.value.0 t.value.1)
 unfolding generator
 generator_front line t h e =
@@ -80,10 +80,10 @@ generator_front line t h e =
     let g = amount_front o.first.value o.first.rest a.first f.holds a.is in
     let same : record { value = (o.first.value, a.first.value); rest = a.first.rest } ≡ t =
     made _ a.first.rest t a.second in
-    subst (λ (u : Took (ℕ × ℕ)). Fronts line u.rest (generator_operands u.value.0 u.value.1)) same
+    subst (λ (u : Parsed (ℕ × ℕ)). Fronts line u.rest (generator_operands u.value.0 u.value.1)) same
     (then (Number most_word o.first.value ∷ []) (amount_operand o.first.value a.first.value ∷ []) f g)
 
-pub modulator_front : (line : List Said) (t : Took Modulator) → AllHoldBytes line → modulator line ≡ Ok t
+pub modulator_front : (line : List TokenValue) (t : Parsed Modulator) → AllHoldBytes line → modulator line ≡ Ok t
     → Fronts line t.rest (modulator_operands t.value)
 unfolding modulator
 modulator_front line t h e =
@@ -130,43 +130,43 @@ modulator_front line t h e =
     }
     ≡ t =
     made _ y.first.rest t y.second in
-    subst (λ (u : Took Modulator). Fronts line u.rest (modulator_operands u.value)) same
+    subst (λ (u : Parsed Modulator). Fronts line u.rest (modulator_operands u.value)) same
     (then ss (ds ++ (ms ++ (xs ++ ys))) sf (then ds (ms ++ (xs ++ ys)) df (then ms (xs ++ ys) af (then xs ys xf yf))))
 
-pub item_front : (line : List Said) (t : Took Item) → AllHoldBytes line → an_item line ≡ Ok t
+pub item_front : (line : List TokenValue) (t : Parsed Item) → AllHoldBytes line → an_item line ≡ Ok t
     → Fronts line t.rest (item_operands t.value)
-unfolding an_item item_behind
+unfolding an_item item_after_word
 item_front line t h e =
-    let w = both (word line) item_behind t e in
+    let w = both (word line) item_after_word t e in
     let g = word_front line w.first h w.is in
     from w.first.value w.first.rest g (bytes_eq w.first.value (codes "g")) (bytes_eq w.first.value (codes "m")) refl
     refl w.second
   where
-    at : (v c : List ℕ) (rest : List Said) → Fronts line rest (Fixed v ∷ []) → bytes_eq v c ≡ true
+    at : (v c : List ℕ) (rest : List TokenValue) → Fronts line rest (Fixed v ∷ []) → bytes_eq v c ≡ true
         → Fronts line rest (Fixed c ∷ [])
     at v c rest g k = subst (λ (x : List ℕ). Fronts line rest (Fixed x ∷ [])) ((bytes_eq-Decides v c).0 k) g
 
-    set : (rest : List Said) → Fronts line rest (Fixed (codes "g") ∷ [])
+    set : (rest : List TokenValue) → Fronts line rest (Fixed (codes "g") ∷ [])
         → (generator >>= λ e. pure (item.Generator e.0 e.1)) rest ≡ Ok t → Fronts line t.rest (item_operands t.value)
     set rest g k =
         let x = both (generator rest) (λ e. pure (item.Generator e.0 e.1)) t k in
         let f = generator_front rest x.first g.holds x.is in
         let same : record { value = item.Generator x.first.value.0 x.first.value.1; rest = x.first.rest } ≡ t =
         made _ x.first.rest t x.second in
-        subst (λ (u : Took Item). Fronts line u.rest (item_operands u.value)) same
+        subst (λ (u : Parsed Item). Fronts line u.rest (item_operands u.value)) same
         (then (Fixed (codes "g") ∷ []) (generator_operands x.first.value.0 x.first.value.1) g f)
 
-    added : (rest : List Said) → Fronts line rest (Fixed (codes "m") ∷ [])
+    added : (rest : List TokenValue) → Fronts line rest (Fixed (codes "m") ∷ [])
         → (modulator >>= λ m. pure (item.Modulator m)) rest ≡ Ok t → Fronts line t.rest (item_operands t.value)
     added rest g k =
         let x = both (modulator rest) (λ m. pure (item.Modulator m)) t k in
         let f = modulator_front rest x.first g.holds x.is in
         let same : record { value = item.Modulator x.first.value; rest = x.first.rest } ≡ t =
         made _ x.first.rest t x.second in
-        subst (λ (u : Took Item). Fronts line u.rest (item_operands u.value)) same
+        subst (λ (u : Parsed Item). Fronts line u.rest (item_operands u.value)) same
         (then (Fixed (codes "m") ∷ []) (modulator_operands x.first.value) g f)
 
-    from : (v : List ℕ) (rest : List Said) → Fronts line rest (Fixed v ∷ []) → (a b : Bool)
+    from : (v : List ℕ) (rest : List TokenValue) → Fronts line rest (Fixed v ∷ []) → (a b : Bool)
         → bytes_eq v (codes "g") ≡ a → bytes_eq v (codes "m") ≡ b
         → cond a (generator >>= λ e. pure (item.Generator e.0 e.1))
         (cond b (modulator >>= λ m. pure (item.Modulator m)) (or_fault faults.Syntax None)) rest
@@ -177,17 +177,17 @@ item_front line t h e =
     from v rest g false false p q k = cc
 
 -- items on a line, and the content to which they are added
-pub record SaidItems (content : GlobalZone) (line : List Said) (t : Took GlobalZone) : Type 0 where
+pub record SaidItems (content : GlobalZone) (line : List TokenValue) (t : Parsed GlobalZone) : Type 0 where
   pub said : List Item
   pub fronts : Fronts line t.rest (items_operands said)
   pub stands : with_items content said ≡ t.value
 
 -- the next word
-pub next_is : (c : List ℕ) (line : List Said) (t : Took (List ℕ)) → word line ≡ Ok t → is_next c line ≡ true
+pub next_is : (c : List ℕ) (line : List TokenValue) (t : Parsed (List ℕ)) → word line ≡ Ok t → is_next c line ≡ true
     → t.value ≡ c
 next_is c line t e k = (bytes_eq-Decides t.value c).0 (sym (ap (is_next c) (word_is line t e)) ∙ k)
 
-closed_front : (content : GlobalZone) (line : List Said) (t : Took GlobalZone) → AllHoldBytes line
+closed_front : (content : GlobalZone) (line : List TokenValue) (t : Parsed GlobalZone) → AllHoldBytes line
     → is_next (codes "}") line ≡ true → closed content line ≡ Ok t → SaidItems content line t
 unfolding closed
 closed_front content line t h k e =
@@ -204,7 +204,7 @@ closed_front content line t h k e =
       stands = refl;
     })
 
-more_items : (content : GlobalZone) (line : List Said) (x : Took Item) (t : Took GlobalZone)
+more_items : (content : GlobalZone) (line : List TokenValue) (x : Parsed Item) (t : Parsed GlobalZone)
     → Fronts line x.rest (item_operands x.value) → SaidItems (with_item content x.value) x.rest t
     → SaidItems content line t
 more_items content line x t f s = record {
@@ -216,7 +216,7 @@ more_items content line x t f s = record {
   stands = s.stands;
 }
 
-pub items_front : (line : List Said) (t : Took GlobalZone) → AllHoldBytes line → items line ≡ Ok t
+pub items_front : (line : List TokenValue) (t : Parsed GlobalZone) → AllHoldBytes line → items line ≡ Ok t
     → SaidItems no_content line t
 unfolding items items_on
 items_front line t h e =
@@ -227,19 +227,19 @@ items_front line t h e =
 -- ---- zones
 
 -- the operands of a zone after its brace
-record SaidBehind (line : List Said) (t : Took Zone) : Type 0 where
+record SaidBehind (line : List TokenValue) (t : Parsed Zone) : Type 0 where
   pub said : WrittenZone
   pub fronts : Fronts line t.rest (Number most_word said.target ∷ items_operands said.items)
   pub stands : zone_in said ≡ t.value
 
 -- the operands of a zone
-pub record SaidZone (line : List Said) (t : Took Zone) : Type 0 where
+pub record SaidZone (line : List TokenValue) (t : Parsed Zone) : Type 0 where
   pub said : WrittenZone
   pub fronts : Fronts line t.rest (zone_operands said)
   pub stands : zone_in said ≡ t.value
 
-zone_behind_front : (line : List Said) (t : Took Zone) → AllHoldBytes line → zone_behind line ≡ Ok t → SaidBehind line t
-unfolding zone_behind
+zone_behind_front : (line : List TokenValue) (t : Parsed Zone) → AllHoldBytes line → zone_after_brace line ≡ Ok t → SaidBehind line t
+unfolding zone_after_brace
 zone_behind_front line t h e =
     let n = both (number most_word line) (λ target. items >>= λ content. pure (zone_of target content)) t e in
     let f = number_front most_word line n.first h n.is in
@@ -253,10 +253,10 @@ zone_behind_front line t h e =
       stands = ap (zone_of n.first.value) s.stands;
     })
 
-pub zone_front : (line : List Said) (t : Took Zone) → AllHoldBytes line → zone line ≡ Ok t → SaidZone line t
+pub zone_front : (line : List TokenValue) (t : Parsed Zone) → AllHoldBytes line → zone line ≡ Ok t → SaidZone line t
 unfolding zone
 zone_front line t h e =
-    let o = both (opened line) (λ o. zone_behind) t e in
+    let o = both (opened line) (λ o. zone_after_brace) t e in
     let f = fixed_front (codes "{") line o.first h o.is in
     let s = zone_behind_front o.first.rest t f.holds o.second in
     record {
@@ -270,19 +270,19 @@ zone_front line t h e =
     }
 
 -- the remaining zones
-record SaidLeft (zs : List Zone) (line : List Said) (t : Took (List Zone)) : Type 0 where
+record SaidLeft (zs : List Zone) (line : List TokenValue) (t : Parsed (List Zone)) : Type 0 where
   pub said : List WrittenZone
   pub fronts : Fronts line t.rest (flat_map zone_operands said)
   pub stands : zs ++ map zone_in said ≡ t.value
 
-no_more : (zs : List Zone) (line : List Said) (t : Took (List Zone)) → AllHoldBytes line → pure zs line ≡ Ok t
+no_more : (zs : List Zone) (line : List TokenValue) (t : Parsed (List Zone)) → AllHoldBytes line → pure zs line ≡ Ok t
     → SaidLeft zs line t
 no_more zs line t h e =
     let same : record { value = zs; rest = line } ≡ t = made zs line t e in
     subst (SaidLeft zs line) same
     (record { said = []; fronts = record { says = λ more k. k; holds = h }; stands = append-nil zs })
 
-more_zones : (zs : List Zone) (line : List Said) (x : Took Zone) (t : Took (List Zone)) → SaidZone line x
+more_zones : (zs : List Zone) (line : List TokenValue) (x : Parsed Zone) (t : Parsed (List Zone)) → SaidZone line x
     → SaidLeft (with_zone zs x.value) x.rest t → SaidLeft zs line t
 more_zones zs line x t z s = record {
   said = z.said ∷ s.said;
@@ -292,9 +292,9 @@ more_zones zs line x t z s = record {
       ∙ sym (append_assoc zs (x.value ∷ []) (map zone_in s.said)) ∙ s.stands;
 }
 
-left_front : (zs : List Zone) (line : List Said) (t : Took (List Zone)) → AllHoldBytes line
-    → zones_left zs line ≡ Ok t → SaidLeft zs line t
-unfolding zones_left
+left_front : (zs : List Zone) (line : List TokenValue) (t : Parsed (List Zone)) → AllHoldBytes line
+    → remaining_zones zs line ≡ Ok t → SaidLeft zs line t
+unfolding remaining_zones
 left_front zs line t h e =
     repeated_reads is_end pure zone with_zone SaidLeft (λ zs line t h over e. no_more zs line t h e)
     (λ zs line x t h e on. let f = zone_front line x h e in more_zones zs line x t f (on f.fronts.holds)) zs line t h e
@@ -302,28 +302,28 @@ left_front zs line t h e =
 -- ---- all of them
 
 -- the operands of zones on a line
-pub record SaidZones (line : List Said) (t : Took (GlobalZone × List Zone)) : Type 0 where
+pub record SaidZones (line : List TokenValue) (t : Parsed (GlobalZone × List Zone)) : Type 0 where
   pub written : Written
   pub fronts : Fronts line t.rest (written_operands written)
   pub stands : zones_in written ≡ t.value
 
 -- the same after the first brace
-record SaidAfter (line : List Said) (t : Took (GlobalZone × List Zone)) : Type 0 where
+record SaidAfter (line : List TokenValue) (t : Parsed (GlobalZone × List Zone)) : Type 0 where
   pub written : Written
   pub after : List Operand
   pub parts : written_operands written ≡ Fixed (codes "{") ∷ after
   pub fronts : Fronts line t.rest after
   pub stands : zones_in written ≡ t.value
 
-global_front : (line : List Said) (t : Took (GlobalZone × List Zone)) → AllHoldBytes line
-    → is_next (codes "global") line ≡ true → global_behind line ≡ Ok t → SaidAfter line t
-unfolding global_behind global_zones
+global_front : (line : List TokenValue) (t : Parsed (GlobalZone × List Zone)) → AllHoldBytes line
+    → is_next (codes "global") line ≡ true → global_after_brace line ≡ Ok t → SaidAfter line t
+unfolding global_after_brace global_zones
 global_front line t h k e =
-    let w = both (word line) (λ w. items >>= λ g. zones_left [] >>= λ zs. pure (g, zs)) t e in
+    let w = both (word line) (λ w. items >>= λ g. remaining_zones [] >>= λ zs. pure (g, zs)) t e in
     let wf = word_front line w.first h w.is in
-    let g = both (items w.first.rest) (λ g. zones_left [] >>= λ zs. pure (g, zs)) t w.second in
+    let g = both (items w.first.rest) (λ g. remaining_zones [] >>= λ zs. pure (g, zs)) t w.second in
     let gs = items_front w.first.rest g.first wf.holds g.is in
-    let z = both (zones_left [] g.first.rest) (λ zs. pure (g.first.value, zs)) t g.second in
+    let z = both (remaining_zones [] g.first.rest) (λ zs. pure (g.first.value, zs)) t g.second in
     let zs = left_front [] g.first.rest z.first gs.fronts.holds z.is in
     let same : record { value = (g.first.value, z.first.value); rest = z.first.rest } ≡ t =
     made _ z.first.rest t z.second in
@@ -340,13 +340,13 @@ global_front line t h k e =
       stands = cc (gs.stands, zs.stands);
     })
 
-first_front : (line : List Said) (t : Took (GlobalZone × List Zone)) → AllHoldBytes line → first_behind line ≡ Ok t
+first_front : (line : List TokenValue) (t : Parsed (GlobalZone × List Zone)) → AllHoldBytes line → first_zone_after_brace line ≡ Ok t
     → SaidAfter line t
-unfolding first_behind
+unfolding first_zone_after_brace
 first_front line t h e =
-    let x = both (zone_behind line) (λ z. zones_left (z ∷ []) >>= λ zs. pure (no_content, zs)) t e in
+    let x = both (zone_after_brace line) (λ z. remaining_zones (z ∷ []) >>= λ zs. pure (no_content, zs)) t e in
     let xs = zone_behind_front line x.first h x.is in
-    let z = both (zones_left (x.first.value ∷ []) x.first.rest) (λ zs. pure (no_content, zs)) t x.second in
+    let z = both (remaining_zones (x.first.value ∷ []) x.first.rest) (λ zs. pure (no_content, zs)) t x.second in
     let zs = left_front (x.first.value ∷ []) x.first.rest z.first xs.fronts.holds z.is in
     let same : record { value = (no_content, z.first.value); rest = z.first.rest } ≡ t =
     made _ z.first.rest t z.second in
@@ -362,7 +362,7 @@ first_front line t h e =
           (ap (λ (y : Zone). y ∷ map zone_in zs.said) xs.stands ∙ zs.stands);
     })
 
-behind_front : (line : List Said) (t : Took (GlobalZone × List Zone)) → AllHoldBytes line → zones_behind line ≡ Ok t
+behind_front : (line : List TokenValue) (t : Parsed (GlobalZone × List Zone)) → AllHoldBytes line → zones_after_brace line ≡ Ok t
     → SaidAfter line t
 behind_front line t h e = from (is_next (codes "global") line) refl
   where
@@ -370,10 +370,10 @@ behind_front line t h e = from (is_next (codes "global") line) refl
     from true k = global_front line t h k (sym (global_first line k) ∙ e)
     from false k = first_front line t h (sym (zone_first line k) ∙ e)
 
-some_front : (line : List Said) (t : Took (GlobalZone × List Zone)) → AllHoldBytes line
-    → (opened >>= λ o. zones_behind) line ≡ Ok t → SaidZones line t
+some_front : (line : List TokenValue) (t : Parsed (GlobalZone × List Zone)) → AllHoldBytes line
+    → (opened >>= λ o. zones_after_brace) line ≡ Ok t → SaidZones line t
 some_front line t h e =
-    let o = both (opened line) (λ o. zones_behind) t e in
+    let o = both (opened line) (λ o. zones_after_brace) t e in
     let f = fixed_front (codes "{") line o.first h o.is in
     let s = behind_front o.first.rest t f.holds o.second in
     record {
@@ -385,7 +385,7 @@ some_front line t h e =
           s.stands;
     }
 
-none_front : (line : List Said) (t : Took (GlobalZone × List Zone)) → AllHoldBytes line
+none_front : (line : List TokenValue) (t : Parsed (GlobalZone × List Zone)) → AllHoldBytes line
     → pure (no_content, []) line ≡ Ok t → SaidZones line t
 none_front line t h e =
     let same : record { value = (no_content, []); rest = line } ≡ t = made (no_content, []) line t e in
@@ -398,7 +398,7 @@ none_front line t h e =
       stands = refl;
     })
 
-pub zones_front : (line : List Said) (t : Took (GlobalZone × List Zone)) → AllHoldBytes line → zones line ≡ Ok t
+pub zones_front : (line : List TokenValue) (t : Parsed (GlobalZone × List Zone)) → AllHoldBytes line → zones line ≡ Ok t
     → SaidZones line t
 zones_front line t h e = from (is_end line) refl
   where

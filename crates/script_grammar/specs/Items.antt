@@ -9,7 +9,7 @@ use Rattle.generators.specs.Ranges.{is_range_operator}
 use Rattle.modulators.specs.declared.modulator.Modulator.{Modulator}
 use Rattle.bank_parts.specs.declared.parts.GlobalZone.{GlobalZone}
 use Rattle.script_tokens.specs.declared.fault.LineFault.TheVariants as faults
-use Rattle.script_tokens.specs.Parts.{Part, ◌>>=◌, pure, or_fault, is_next, word, most_word, number, signed, range}
+use Rattle.script_tokens.specs.Parsers.{Parser, ◌>>=◌, pure, or_fault, is_next, word, most_word, number, signed, range}
 use Rattle.script_grammar.specs.declared.items.Item.{Item}
 use Rattle.script_grammar.specs.declared.items.Item.TheVariants as item
 use Rattle.script_grammar.specs.Repeated.{repeated}
@@ -64,13 +64,13 @@ content_of items = with_items no_content items
 -- ---- parsers
 
 -- the amount of an operator, as a WORD of 16 bits
-unfoldable pub amount : ℕ → Part ℕ
+unfoldable pub amount : ℕ → Parser ℕ
 amount operator =
     if is_range_operator operator then (range >>= λ ends. pure (ends.0 + 256 * ends.1))
     else (signed 32767 >>= λ z. pure (cast_unsigned w16 z))
 
 -- `OPERATOR AMOUNT`
-unfoldable pub generator : Part (ℕ × ℕ)
+unfoldable pub generator : Parser (ℕ × ℕ)
 generator = do
   operator ← number most_word
   a ← amount operator
@@ -81,7 +81,7 @@ modulator_of source dest amount amount_source transform =
     record { source = source; dest = dest; amount = amount; amount_source = amount_source; transform = transform }
 
 -- `SOURCE DEST AMOUNT ASOURCE TRANSFORM`
-unfoldable pub modulator : Part Modulator
+unfoldable pub modulator : Parser Modulator
 modulator = do
   source ← number most_word
   dest ← number most_word
@@ -91,26 +91,26 @@ modulator = do
   pure (modulator_of source dest amount amount_source transform)
 
 -- an item after its first word
-unfoldable pub item_behind : List ℕ → Part Item
-item_behind w =
+unfoldable pub item_after_word : List ℕ → Parser Item
+item_after_word w =
     if bytes_eq w (codes "g") then (generator >>= λ e. pure (item.Generator e.0 e.1))
     else if bytes_eq w (codes "m") then (modulator >>= λ m. pure (item.Modulator m))
     else or_fault faults.Syntax None
 
 -- `g OPERATOR AMOUNT` or `m MOD`
-unfoldable pub an_item : Part Item
-an_item = word >>= item_behind
+unfoldable pub an_item : Parser Item
+an_item = word >>= item_after_word
 
 -- the brace that closes items
-unfoldable pub closed : {X : Type 0} → X → Part X
+unfoldable pub closed : {X : Type 0} → X → Parser X
 closed x = do
   w ← word
   pure x
 
 -- items up to the closing brace, added to a content
-unfoldable pub items_on : GlobalZone → Part GlobalZone
+unfoldable pub items_on : GlobalZone → Parser GlobalZone
 items_on content line = repeated (is_next (codes "}")) closed an_item with_item content line
 
 -- `ITEM* }`
-unfoldable pub items : Part GlobalZone
+unfoldable pub items : Parser GlobalZone
 items = items_on no_content

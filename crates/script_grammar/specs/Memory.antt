@@ -3,13 +3,13 @@ use Rattle.std.specs.Prelude.{◌≡◌, Result, Ok, Err}
 use Rattle.sf_base.specs.declared.memory.Failure.{Failure}
 use Rattle.sf_base.specs.declared.memory.Failure.TheVariants.{Fault, OutOfMemory}
 use Rattle.script_tokens.specs.declared.fault.LineFault.{LineFault}
-use Rattle.script_tokens.specs.Said as saying
-use Rattle.script_tokens.specs.Parts.{Part}
+use Rattle.script_tokens.specs.TokenValue as saying
+use Rattle.script_tokens.specs.Parsers.{Parser}
 
 -- the contract of a function that implements such a parser; a failed allocation may replace any result
-abbrev pub ReadsOrWants : {X Y : Type 0} → (X → Y) → Part Y → saying.Left → saying.Left
+abbrev pub ReadsOrOutOfMemory : {X Y : Type 0} → (X → Y) → Parser Y → saying.Left → saying.Left
     → Result X (Failure LineFault) → Type 0
-ReadsOrWants view part old new (Ok x) =
+ReadsOrOutOfMemory view part old new (Ok x) =
     (part old.said ≡ Ok (record { value = view x; rest = new.said })) × (new.pool ≡ old.pool)
-ReadsOrWants view part old new (Err (Fault e)) = part old.said ≡ Err e
-ReadsOrWants view part old new (Err OutOfMemory) = Unit {0}
+ReadsOrOutOfMemory view part old new (Err (Fault e)) = part old.said ≡ Err e
+ReadsOrOutOfMemory view part old new (Err OutOfMemory) = Unit {0}

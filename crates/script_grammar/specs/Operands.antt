@@ -5,11 +5,11 @@ use Rattle.std.specs.List.{flat_map}
 use Rattle.sf_base.specs.Names.{IsName}
 use Rattle.sample_view.specs.Words.{words, word_bytes}
 use Rattle.bank_parts.specs.Fits.{FitsText}
-use Rattle.script_tokens.specs.declared.cursor.Said.{Said}
-use Rattle.script_tokens.specs.declared.cursor.Said.TheVariants.{Word, Literal}
+use Rattle.script_tokens.specs.declared.cursor.TokenValue.{TokenValue}
+use Rattle.script_tokens.specs.declared.cursor.TokenValue.TheVariants.{Word, Literal}
 use Rattle.script_tokens.specs.declared.printing.Piece.{Piece}
 use Rattle.script_tokens.specs.declared.printing.Piece.TheVariants as piece
-use Rattle.script_tokens.specs.Spelling.{Writes, WritesSigned, WritesRange}
+use Rattle.script_tokens.specs.TextForm.{Writes, WritesSigned, WritesRange}
 
 -- an operand: a fixed word, a number up to a limit, a signed number from minus the limit minus 1 up to the
 -- limit, a signed number of 16 bits as its WORD, the ends of a range, a name, a text, points as WORDs of 16
@@ -25,23 +25,23 @@ pub data Operand : Type 0 where
   Points : List ℕ → Operand
 
 -- a token's value encodes this operand
-abbrev pub Says : Said → Operand → Type 0
-Says s (Fixed w) = s ≡ Word w
-Says s (Number limit n) = (w : List ℕ) × (s ≡ Word w) × Writes limit w n
-Says s (Signed limit z) = (w : List ℕ) × (s ≡ Word w) × WritesSigned limit w z
-Says s (Amount amount) = (w : List ℕ) × (z : ℤ) × (s ≡ Word w) × WritesSigned 32767 w z × (amount ≡ cast_unsigned w16 z)
-Says s (Range low high) = (w : List ℕ) × (s ≡ Word w) × WritesRange w low high
-Says s (Name bytes) = (s ≡ Literal bytes) × IsName bytes
-Says s (Text bytes) = (s ≡ Literal bytes) × FitsText bytes
-Says s (Points ps) =
+abbrev pub Encodes : TokenValue → Operand → Type 0
+Encodes s (Fixed w) = s ≡ Word w
+Encodes s (Number limit n) = (w : List ℕ) × (s ≡ Word w) × Writes limit w n
+Encodes s (Signed limit z) = (w : List ℕ) × (s ≡ Word w) × WritesSigned limit w z
+Encodes s (Amount amount) = (w : List ℕ) × (z : ℤ) × (s ≡ Word w) × WritesSigned 32767 w z × (amount ≡ cast_unsigned w16 z)
+Encodes s (Range low high) = (w : List ℕ) × (s ≡ Word w) × WritesRange w low high
+Encodes s (Name bytes) = (s ≡ Literal bytes) × IsName bytes
+Encodes s (Text bytes) = (s ≡ Literal bytes) × FitsText bytes
+Encodes s (Points ps) =
     (bytes : List ℕ) × (s ≡ Literal bytes) × FitsText bytes × (length bytes % 2 ≡ 0) × (ps ≡ words bytes)
 
 -- the values of tokens encode these operands, one by one
-abbrev pub AllSay : List Said → List Operand → Type 0
-AllSay [] [] = Unit {0}
-AllSay [] (o ∷ os) = ⊥
-AllSay (s ∷ said) [] = ⊥
-AllSay (s ∷ said) (o ∷ os) = Says s o × AllSay said os
+abbrev pub AllEncode : List TokenValue → List Operand → Type 0
+AllEncode [] [] = Unit {0}
+AllEncode [] (o ∷ os) = ⊥
+AllEncode (s ∷ said) [] = ⊥
+AllEncode (s ∷ said) (o ∷ os) = Encodes s o × AllEncode said os
 
 -- the piece that is printed for an operand
 abbrev pub piece_of : Operand → Piece

@@ -6,8 +6,8 @@ use Rattle.bank_parts.specs.declared.parts.Kind.{Kind}
 use Rattle.bank_parts.specs.declared.parts.Kind.TheVariants.{Mono, Right, Left, Linked}
 use Rattle.bank_parts.specs.declared.parts.Sample.{Sample}
 use Rattle.script_tokens.specs.declared.fault.LineFault.TheVariants as faults
-use Rattle.script_tokens.specs.Parts.{Part, ◌>>=◌, pure, or_fault, word, literal, number, signed, name}
-use Rattle.script_tokens.specs.Parts.{most_word, most_double_word}
+use Rattle.script_tokens.specs.Parsers.{Parser, ◌>>=◌, pure, or_fault, word, literal, number, signed, name}
+use Rattle.script_tokens.specs.Parsers.{most_word, most_double_word}
 use Rattle.script_grammar.specs.Operands.{Operand, Fixed, Number, Signed, Name, Points}
 
 -- ---- the operands on a line
@@ -41,8 +41,8 @@ body_operands s = head_operands s ++ Points s.points ∷ []
 -- ---- parsers
 
 -- a kind after its first word
-unfoldable pub kind_behind : List ℕ → Part Kind
-kind_behind w =
+unfoldable pub kind_after_word : List ℕ → Parser Kind
+kind_after_word w =
     if bytes_eq w (codes "mono") then pure Mono
     else if bytes_eq w (codes "right") then (number most_word >>= λ link. pure (Right link))
     else if bytes_eq w (codes "left") then (number most_word >>= λ link. pure (Left link))
@@ -50,33 +50,33 @@ kind_behind w =
     else or_fault faults.Syntax None
 
 -- `mono`, `right N`, `left N` or `linked N`
-unfoldable pub kind : Part Kind
-kind = word >>= kind_behind
+unfoldable pub kind : Parser Kind
+kind = word >>= kind_after_word
 
 -- a loop after its first word
-unfoldable pub loop_behind : List ℕ → Part (Option (ℕ × ℕ))
-loop_behind w =
+unfoldable pub loop_after_word : List ℕ → Parser (Option (ℕ × ℕ))
+loop_after_word w =
     if bytes_eq w (codes "noloop") then pure None
     else if bytes_eq w (codes "loop")
     then (number most_double_word >>= λ a. number most_double_word >>= λ b. pure (Some (a, b)))
     else or_fault faults.Syntax None
 
 -- `noloop` or `loop A B`
-unfoldable pub looped : Part (Option (ℕ × ℕ))
-looped = word >>= loop_behind
+unfoldable pub looped : Parser (Option (ℕ × ℕ))
+looped = word >>= loop_after_word
 
 -- two bytes for each point
 unfoldable pub points_of : List ℕ → Option (List ℕ)
 points_of bytes = if length bytes % 2 == 0 then Some (words bytes) else None
 
 -- a literal of whole points
-unfoldable pub points : Part (List ℕ)
+unfoldable pub points : Parser (List ℕ)
 points = do
   bytes ← literal
   or_fault faults.Literal (points_of bytes)
 
 -- `RATE KEY CORR`
-unfoldable pub tune : Part (ℕ × ℕ × ℤ)
+unfoldable pub tune : Parser (ℕ × ℕ × ℤ)
 tune = do
   rate ← number most_double_word
   key ← number 255
@@ -98,7 +98,7 @@ sample_of name tune kind looped points =
     }
 
 -- `NAME RATE KEY CORR KIND LOOP POINTS`
-unfoldable pub body : Part Sample
+unfoldable pub body : Parser Sample
 body = do
   n ← name
   t ← tune

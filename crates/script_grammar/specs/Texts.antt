@@ -3,7 +3,7 @@ use Rattle.std.specs.Prelude.{ℕ, List, [], ◌∷◌, codes}
 use Rattle.bank_parts.specs.declared.texts.InfoId.{InfoId}
 use Rattle.bank_parts.specs.declared.texts.InfoId.TheVariants.{Engine, Name, Date, Engineers, Product, Copyright}
 use Rattle.bank_parts.specs.declared.texts.InfoId.TheVariants.{Comment, Software}
-use Rattle.script_tokens.specs.Parts.{Part}
+use Rattle.script_tokens.specs.Parsers.{Parser}
 use Rattle.script_grammar.specs.Names.{next_named}
 
 -- the id of a text's chunk
@@ -22,5 +22,5 @@ abbrev pub ids : List InfoId
 ids = Engine ∷ Name ∷ Date ∷ Engineers ∷ Product ∷ Copyright ∷ Comment ∷ Software ∷ []
 
 -- the id of a text
-unfoldable pub info_id : Part InfoId
+unfoldable pub info_id : Parser InfoId
 info_id = next_named id_word ids

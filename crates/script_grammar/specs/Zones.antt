@@ -7,8 +7,8 @@ use Rattle.modulators.specs.declared.modulator.Modulator.{Modulator}
 use Rattle.generators.specs.Gens.{Gens}
 use Rattle.bank_parts.specs.declared.parts.GlobalZone.{GlobalZone}
 use Rattle.bank_parts.specs.declared.parts.Zone.{Zone}
-use Rattle.script_tokens.specs.declared.cursor.Said.{Said}
-use Rattle.script_tokens.specs.Parts.{Part, ◌>>=◌, pure, is_next, word, most_word, number}
+use Rattle.script_tokens.specs.declared.cursor.TokenValue.{TokenValue}
+use Rattle.script_tokens.specs.Parsers.{Parser, ◌>>=◌, pure, is_next, word, most_word, number}
 use Rattle.script_grammar.specs.declared.items.Item.{Item}
 use Rattle.script_grammar.specs.declared.items.Item.TheVariants as item
 use Rattle.script_grammar.specs.Repeated.{repeated}
@@ -86,24 +86,24 @@ written_of g zs = record { global = global_of g; zones = map written_zone zs }
 -- ---- parsers
 
 -- the brace that opens a zone
-abbrev pub opened : Part (Unit {0})
+abbrev pub opened : Parser (Unit {0})
 opened = fixed (codes "{")
 
 -- `TARGET ITEM* }`
-unfoldable pub zone_behind : Part Zone
-zone_behind = do
+unfoldable pub zone_after_brace : Parser Zone
+zone_after_brace = do
   target ← number most_word
   content ← items
   pure (zone_of target content)
 
 -- `{ TARGET ITEM* }`
-unfoldable pub zone : Part Zone
+unfoldable pub zone : Parser Zone
 zone = do
   o ← opened
-  zone_behind
+  zone_after_brace
 
 -- whether no token remains, or the next token closes the braces around the zones
-abbrev pub is_end : List Said → Bool
+abbrev pub is_end : List TokenValue → Bool
 is_end [] = true
 is_end (s ∷ line) = is_next (codes "}") (s ∷ line)
 
@@ -112,33 +112,33 @@ abbrev pub with_zone : List Zone → Zone → List Zone
 with_zone zs z = zs ++ z ∷ []
 
 -- zones up to their end, each appended
-unfoldable pub zones_left : List Zone → Part (List Zone)
-zones_left zs line = repeated is_end pure zone with_zone zs line
+unfoldable pub remaining_zones : List Zone → Parser (List Zone)
+remaining_zones zs line = repeated is_end pure zone with_zone zs line
 
 -- the items of the global zone, and the zones
-unfoldable pub global_zones : Part (GlobalZone × List Zone)
+unfoldable pub global_zones : Parser (GlobalZone × List Zone)
 global_zones = do
   g ← items
-  zs ← zones_left []
+  zs ← remaining_zones []
   pure (g, zs)
 
 -- `global ITEM* }`, and the zones
-unfoldable pub global_behind : Part (GlobalZone × List Zone)
-global_behind = do
+unfoldable pub global_after_brace : Parser (GlobalZone × List Zone)
+global_after_brace = do
   w ← word
   global_zones
 
 -- the first zone after its brace, without a global zone, and the other zones
-unfoldable pub first_behind : Part (GlobalZone × List Zone)
-first_behind = do
-  z ← zone_behind
-  zs ← zones_left (z ∷ [])
+unfoldable pub first_zone_after_brace : Parser (GlobalZone × List Zone)
+first_zone_after_brace = do
+  z ← zone_after_brace
+  zs ← remaining_zones (z ∷ [])
   pure (no_content, zs)
 
 -- only the first brace can be the global zone's
-unfoldable pub zones_behind : Part (GlobalZone × List Zone)
-zones_behind line = if is_next (codes "global") line then global_behind line else first_behind line
+unfoldable pub zones_after_brace : Parser (GlobalZone × List Zone)
+zones_after_brace line = if is_next (codes "global") line then global_after_brace line else first_zone_after_brace line
 
 -- `GLOBAL? ZONE*`, up to their end
-unfoldable pub zones : Part (GlobalZone × List Zone)
-zones line = if is_end line then pure (no_content, []) line else (opened >>= λ o. zones_behind) line
+unfoldable pub zones : Parser (GlobalZone × List Zone)
+zones line = if is_end line then pure (no_content, []) line else (opened >>= λ o. zones_after_brace) line

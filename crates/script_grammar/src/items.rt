@@ -1,8 +1,8 @@
 //! Reads the items of a zone: generators and modulators.
 ghost use Rattle.std.specs.Prelude.{◌≡◌, OnOk};
-ghost use Rattle.script_tokens.specs.Parts.{Reads};
-ghost use Rattle.script_grammar.specs.Items.{an_item, item_behind, amount, generator, modulator, items, with_item, no_content};
-ghost use Rattle.script_grammar.specs.Memory.{ReadsOrWants};
+ghost use Rattle.script_tokens.specs.Parsers.{Reads};
+ghost use Rattle.script_grammar.specs.Items.{an_item, item_after_word, amount, generator, modulator, items, with_item, no_content};
+ghost use Rattle.script_grammar.specs.Memory.{ReadsOrOutOfMemory};
 
 use crate::names::says;
 use bank_parts::GlobalZone;
@@ -28,7 +28,7 @@ pub(crate) fn items(
     alloc: Global,
     line: &mut Cursor<'_, '_>,
 ) -> Result<GlobalZone, Failure<LineFault>>
-    ensures { ReadsOrWants (λ z. z) items line.old line.new result }
+    ensures { ReadsOrOutOfMemory (λ z. z) items line.old line.new result }
 {
     let mut content = no_content(alloc);
     while !line.is_next(b"}") {
@@ -65,7 +65,7 @@ fn add_item(content: &mut GlobalZone, item: Item) -> Result<(), OutOfMemory>
 }
 
 // `g OPERATOR AMOUNT` or `m MOD`
-#[tactic(auto, unfolding(crate::specs::Items::an_item, crate::specs::Items::item_behind))]
+#[tactic(auto, unfolding(crate::specs::Items::an_item, crate::specs::Items::item_after_word))]
 fn an_item(line: &mut Cursor<'_, '_>) -> Result<Item, LineFault>
     ensures { Reads (λ i. i) an_item line.old line.new result }
 {

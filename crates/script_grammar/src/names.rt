@@ -1,7 +1,7 @@
 //! Values that a word of the script names.
 ghost use Rattle.std.specs.Prelude.{◌≡◌};
 ghost use Rattle.std.specs.Str.{bytes_eq};
-ghost use Rattle.script_tokens.specs.Parts.{Reads};
+ghost use Rattle.script_tokens.specs.Parsers.{Reads};
 ghost use Rattle.script_grammar.specs.Names.{named, next_named, fixed};
 
 use script_tokens::{Cursor, LineFault};

@@ -2,7 +2,7 @@
 ghost use Rattle.std.specs.Prelude.{◌≡◌, ◌∷◌, []};
 ghost use Rattle.std.specs.List.{flat_map};
 ghost use Rattle.base_outputs.specs.Output.{Puts};
-ghost use Rattle.script_tokens.specs.Parts.{most_word, Reads};
+ghost use Rattle.script_tokens.specs.Parsers.{most_word, Reads};
 ghost use Rattle.script_tokens.specs.Printing.{spaced};
 ghost use Rattle.script_grammar.specs.Operands as operand;
 ghost use Rattle.script_grammar.specs.Operands.{pieces_of};
@@ -13,7 +13,7 @@ use bank_parts::{Kind, Sample};
 use base_outputs::Output;
 use sample_view::Points;
 use script_tokens::{Cursor, Joined, LineFault, Piece, put_pieces};
-use sf_base::{Lent, Name20};
+use sf_base::{BorrowedBytes, Name20};
 use std::alloc::Global;
 use std::io::Write;
 
@@ -54,7 +54,7 @@ pub fn tune(line: &mut Cursor<'_, '_>) -> Result<(u32, u8, i8), LineFault>
 
 /// Reads a sample's kind: `mono`, `right N`, `left N` or `linked N`, where N is the number of the linked
 /// sample, up to 65,535; `Syntax` for another word.
-#[tactic(auto, unfolding(crate::specs::Samples::kind, crate::specs::Samples::kind_behind))]
+#[tactic(auto, unfolding(crate::specs::Samples::kind, crate::specs::Samples::kind_after_word))]
 pub fn kind(line: &mut Cursor<'_, '_>) -> Result<Kind, LineFault>
     ensures { Reads (λ k. k) kind line.old line.new result }
 {
@@ -74,7 +74,7 @@ pub fn kind(line: &mut Cursor<'_, '_>) -> Result<Kind, LineFault>
 
 /// Reads a sample's loop: `noloop`, or `loop A B` with the first point A and the point after the last, B;
 /// `Syntax` for another word.
-#[tactic(auto, unfolding(crate::specs::Samples::looped, crate::specs::Samples::loop_behind))]
+#[tactic(auto, unfolding(crate::specs::Samples::looped, crate::specs::Samples::loop_after_word))]
 pub fn looped(line: &mut Cursor<'_, '_>) -> Result<Option<(u32, u32)>, LineFault>
     ensures { Reads (λ l. l) looped line.old line.new result }
 {
@@ -123,7 +123,7 @@ pub fn put_sample_head<W: Write>(sample: &Sample<'_>, output: &mut Output<'_, W>
 pub fn put_name<W: Write>(name: &Name20, output: &mut Output<'_, W>)
     ensures { Puts W.contents output.old output.new (flat_map spaced (pieces_of (operand.Name name.now ∷ []))) }
 {
-    put_pieces(&[Piece::Name(Lent::new(name.bytes()))], output);
+    put_pieces(&[Piece::Name(BorrowedBytes::new(name.bytes()))], output);
 }
 
 /// Writes `RATE KEY CORR`, each token after a space.
@@ -141,7 +141,7 @@ pub fn put_kind<W: Write>(kind: Kind, output: &mut Output<'_, W>)
     ensures { Puts W.contents output.old output.new (flat_map spaced (pieces_of (kind_operands kind))) }
 {
     match kind {
-        Kind::Mono => put_pieces(&[Piece::Word(Lent::new(b"mono"))], output),
+        Kind::Mono => put_pieces(&[Piece::Word(BorrowedBytes::new(b"mono"))], output),
         Kind::Right(link) => put_link(b"right", link, output),
         Kind::Left(link) => put_link(b"left", link, output),
         Kind::Linked(link) => put_link(b"linked", link, output),
@@ -152,7 +152,7 @@ fn put_link<W: Write>(word: &[u8], link: u16, output: &mut Output<'_, W>)
     ensures { Puts W.contents output.old output.new (flat_map spaced (pieces_of (operand.Fixed word.now ∷ operand.Number most_word link ∷ []))) }
 {
     let link = Piece::Number(u64::from(link));
-    put_pieces(&[Piece::Word(Lent::new(word)), link], output);
+    put_pieces(&[Piece::Word(BorrowedBytes::new(word)), link], output);
 }
 
 /// Writes a sample's loop, each token after a space.
@@ -160,9 +160,9 @@ pub fn put_loop<W: Write>(looped: Option<(u32, u32)>, output: &mut Output<'_, W>
     ensures { Puts W.contents output.old output.new (flat_map spaced (pieces_of (loop_operands looped))) }
 {
     match looped {
-        None => put_pieces(&[Piece::Word(Lent::new(b"noloop"))], output),
+        None => put_pieces(&[Piece::Word(BorrowedBytes::new(b"noloop"))], output),
         Some((start, end)) => {
-            let word = Piece::Word(Lent::new(b"loop"));
+            let word = Piece::Word(BorrowedBytes::new(b"loop"));
             let start = Piece::Number(u64::from(start));
             let end = Piece::Number(u64::from(end));
             put_pieces(&[word, start, end], output);

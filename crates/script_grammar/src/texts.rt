@@ -1,6 +1,6 @@
 //! Reads the id of one of a bank's texts.
 ghost use Rattle.std.specs.Prelude.{◌≡◌};
-ghost use Rattle.script_tokens.specs.Parts.{Reads};
+ghost use Rattle.script_tokens.specs.Parsers.{Reads};
 ghost use Rattle.script_grammar.specs.Texts.{id_word, ids, info_id};
 
 use crate::names::{HasWord, next_named};

@@ -16,7 +16,7 @@ use base_outputs::Output;
 use generators::{Range, is_range_operator};
 use modulators::Modulator;
 use script_tokens::{Piece, put_pieces};
-use sf_base::Lent;
+use sf_base::BorrowedBytes;
 use std::io::Write;
 
 /// Writes `GLOBAL? ZONE*`, each token after a space: no `GLOBAL` where the global zone is empty, and in each
@@ -35,8 +35,8 @@ fn put_global<W: Write>(global: &GlobalZone, output: &mut Output<'_, W>)
     if !global.is_empty() {
         put_pieces(
             &[
-                Piece::Word(Lent::new(b"{")),
-                Piece::Word(Lent::new(b"global")),
+                Piece::Word(BorrowedBytes::new(b"{")),
+                Piece::Word(BorrowedBytes::new(b"global")),
             ],
             output,
         );
@@ -58,7 +58,7 @@ pub fn put_zone<W: Write>(zone: &Zone, output: &mut Output<'_, W>)
     ensures { Puts W.contents output.old output.new (flat_map spaced (pieces_of (zone_operands (written_zone zone.now)))) }
 {
     let target = Piece::Number(u64::from(zone.target));
-    put_pieces(&[Piece::Word(Lent::new(b"{")), target], output);
+    put_pieces(&[Piece::Word(BorrowedBytes::new(b"{")), target], output);
     put_items(zone.gens.entries(), zone.mods.as_slice(), output);
 }
 
@@ -68,7 +68,7 @@ pub fn put_items<W: Write>(entries: &[(u16, u16)], mods: &[Modulator], output: &
 {
     put_generators(entries, output);
     put_modulators(mods, output);
-    put_pieces(&[Piece::Word(Lent::new(b"}"))], output);
+    put_pieces(&[Piece::Word(BorrowedBytes::new(b"}"))], output);
 }
 
 fn put_generators<W: Write>(entries: &[(u16, u16)], output: &mut Output<'_, W>)
@@ -83,7 +83,7 @@ fn put_generators<W: Write>(entries: &[(u16, u16)], output: &mut Output<'_, W>)
 fn put_generator_item<W: Write>(operator: u16, amount: u16, output: &mut Output<'_, W>)
     ensures { Puts W.contents output.old output.new (flat_map spaced (pieces_of (item_operands (item.Generator operator amount)))) }
 {
-    put_pieces(&[Piece::Word(Lent::new(b"g"))], output);
+    put_pieces(&[Piece::Word(BorrowedBytes::new(b"g"))], output);
     put_generator(operator, amount, output);
 }
 
@@ -119,7 +119,7 @@ fn put_modulators<W: Write>(mods: &[Modulator], output: &mut Output<'_, W>)
 fn put_modulator_item<W: Write>(modulator: &Modulator, output: &mut Output<'_, W>)
     ensures { Puts W.contents output.old output.new (flat_map spaced (pieces_of (item_operands (item.Modulator modulator.now)))) }
 {
-    put_pieces(&[Piece::Word(Lent::new(b"m"))], output);
+    put_pieces(&[Piece::Word(BorrowedBytes::new(b"m"))], output);
     put_modulator(modulator, output);
 }
 

@@ -1,7 +1,7 @@
 //! Reads zones.
 ghost use Rattle.std.specs.Prelude.{◌≡◌, ◌++◌, ◌∷◌, []};
-ghost use Rattle.script_grammar.specs.Zones.{zone_behind, zone, zones_left, global_zones, global_behind, first_behind, zones_behind, is_end, zones};
-ghost use Rattle.script_grammar.specs.Memory.{ReadsOrWants};
+ghost use Rattle.script_grammar.specs.Zones.{zone_after_brace, zone, remaining_zones, global_zones, global_after_brace, first_zone_after_brace, zones_after_brace, is_end, zones};
+ghost use Rattle.script_grammar.specs.Memory.{ReadsOrOutOfMemory};
 
 use crate::items::{items, no_content};
 use crate::names::fixed;
@@ -20,35 +20,35 @@ pub fn zones(
     alloc: Global,
     line: &mut Cursor<'_, '_>,
 ) -> Result<(GlobalZone, NumberedList<Zone>), Failure<LineFault>>
-    ensures { ReadsOrWants (λ z. z) zones line.old line.new result }
+    ensures { ReadsOrOutOfMemory (λ z. z) zones line.old line.new result }
 {
     if is_end(line) {
         return Ok((no_content(alloc), NumberedList::new(alloc)));
     }
     fixed(line, b"{")?;
-    zones_behind(alloc, line)
+    zones_after_brace(alloc, line)
 }
 
 // Reads the zones after their first brace.
-fn zones_behind(
+fn zones_after_brace(
     alloc: Global,
     line: &mut Cursor<'_, '_>,
 ) -> Result<(GlobalZone, NumberedList<Zone>), Failure<LineFault>>
-    ensures { ReadsOrWants (λ z. z) zones_behind line.old line.new result }
+    ensures { ReadsOrOutOfMemory (λ z. z) zones_after_brace line.old line.new result }
 {
     if line.is_next(b"global") {
-        global_behind(alloc, line)
+        global_after_brace(alloc, line)
     } else {
-        first_behind(alloc, line)
+        first_zone_after_brace(alloc, line)
     }
 }
 
 // `global ITEM* }`, and the zones
-fn global_behind(
+fn global_after_brace(
     alloc: Global,
     line: &mut Cursor<'_, '_>,
 ) -> Result<(GlobalZone, NumberedList<Zone>), Failure<LineFault>>
-    ensures { ReadsOrWants (λ z. z) global_behind line.old line.new result }
+    ensures { ReadsOrOutOfMemory (λ z. z) global_after_brace line.old line.new result }
 {
     line.word()?;
     global_zones(alloc, line)
@@ -59,36 +59,36 @@ fn global_zones(
     alloc: Global,
     line: &mut Cursor<'_, '_>,
 ) -> Result<(GlobalZone, NumberedList<Zone>), Failure<LineFault>>
-    ensures { ReadsOrWants (λ z. z) global_zones line.old line.new result }
+    ensures { ReadsOrOutOfMemory (λ z. z) global_zones line.old line.new result }
 {
     let global = items(alloc, line)?;
-    let zones = zones_left(alloc, NumberedList::new(alloc), line)?;
+    let zones = remaining_zones(alloc, NumberedList::new(alloc), line)?;
     Ok((global, zones))
 }
 
 // Reads the first zone after its brace, and the other zones.
-fn first_behind(
+fn first_zone_after_brace(
     alloc: Global,
     line: &mut Cursor<'_, '_>,
 ) -> Result<(GlobalZone, NumberedList<Zone>), Failure<LineFault>>
-    ensures { ReadsOrWants (λ z. z) first_behind line.old line.new result }
+    ensures { ReadsOrOutOfMemory (λ z. z) first_zone_after_brace line.old line.new result }
 {
-    let zone = zone_behind(alloc, line)?;
+    let zone = zone_after_brace(alloc, line)?;
     let mut zones = NumberedList::new(alloc);
     if zones.push(zone).is_err() {
         return Err(Failure::OutOfMemory);
     }
-    let zones = zones_left(alloc, zones, line)?;
+    let zones = remaining_zones(alloc, zones, line)?;
     Ok((no_content(alloc), zones))
 }
 
 // Reads the remaining zones and appends them.
-fn zones_left(
+fn remaining_zones(
     alloc: Global,
     mut zones: NumberedList<Zone>,
     line: &mut Cursor<'_, '_>,
 ) -> Result<NumberedList<Zone>, Failure<LineFault>>
-    ensures { ReadsOrWants (λ zs. zs) (zones_left zones) line.old line.new result }
+    ensures { ReadsOrOutOfMemory (λ zs. zs) (remaining_zones zones) line.old line.new result }
 {
     while !is_end(line) {
         let zone = zone(alloc, line)?;
@@ -101,15 +101,15 @@ fn zones_left(
 
 /// Reads a zone: `{ TARGET ITEM* }`. `global` in place of the target is a fault of number.
 pub fn zone(alloc: Global, line: &mut Cursor<'_, '_>) -> Result<Zone, Failure<LineFault>>
-    ensures { ReadsOrWants (λ z. z) zone line.old line.new result }
+    ensures { ReadsOrOutOfMemory (λ z. z) zone line.old line.new result }
 {
     fixed(line, b"{")?;
-    zone_behind(alloc, line)
+    zone_after_brace(alloc, line)
 }
 
 // `TARGET ITEM* }`
-fn zone_behind(alloc: Global, line: &mut Cursor<'_, '_>) -> Result<Zone, Failure<LineFault>>
-    ensures { ReadsOrWants (λ z. z) zone_behind line.old line.new result }
+fn zone_after_brace(alloc: Global, line: &mut Cursor<'_, '_>) -> Result<Zone, Failure<LineFault>>
+    ensures { ReadsOrOutOfMemory (λ z. z) zone_after_brace line.old line.new result }
 {
     let target = line.number(u32::from(u16::MAX))? as u16;
     let content = items(alloc, line)?;

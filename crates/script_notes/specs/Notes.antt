@@ -1,10 +1,10 @@
 -- Notes, and the notes of a text or its first fault.
 use Rattle.std.specs.Prelude.{◌≤◌, ℕ, suc, ◌+◌, List, [], ◌∷◌, ◌++◌, length, Option, Some, None, Result, Ok, Err}
 use Rattle.std.specs.Prelude.{nat_le, ◌&&◌, if◌then◌else◌}
-use Rattle.script_tokens.specs.declared.cursor.Said.{Said}
+use Rattle.script_tokens.specs.declared.cursor.TokenValue.{TokenValue}
 use Rattle.script_tokens.specs.declared.fault.LineFault.{LineFault}
-use Rattle.script_tokens.specs.Said.{said_lines}
-use Rattle.script_tokens.specs.Parts.{Took, Part, ◌>>=◌, pure, most_word, most_double_word, number, ended}
+use Rattle.script_tokens.specs.TokenValue.{values_of_lines}
+use Rattle.script_tokens.specs.Parsers.{Parsed, Parser, ◌>>=◌, pure, most_word, most_double_word, number, ended}
 use Rattle.script_tokens.specs.Pool.{and_then}
 use Rattle.script_notes.specs.declared.limits.TheConstants.{MOST_NOTES, LAST_FRAME, HIGHEST_KEY, HIGHEST_VELOCITY}
 use Rattle.script_notes.specs.declared.fault.NoteFault.{NoteFault}
@@ -35,13 +35,13 @@ note_of n =
     && nat_le n.velocity HIGHEST_VELOCITY then Some n else None
 
 -- a value, or the first fault of a note list
-abbrev pub OrFault : Type 0 → Type 0
-OrFault X = Result X NoteFault
+abbrev pub NoteResult : Type 0 → Type 0
+NoteResult X = Result X NoteFault
 
 -- ---- the note of a line
 
 -- six numbers and the line's end: a note, or none if it ends too late
-unfoldable pub note : Part (Option Numbers)
+unfoldable pub note : Parser (Option Numbers)
 note = do
   s ← number most_double_word
   l ← number most_double_word
@@ -53,41 +53,41 @@ note = do
   pure (note_of (record { start = s; length = l; bank = b; number = n; key = k; velocity = v }))
 
 -- the note of line n, after k notes; a note that ends too late is a fault
-abbrev pub in_time : ℕ → ℕ → Option Numbers → OrFault Numbers
+abbrev pub in_time : ℕ → ℕ → Option Numbers → NoteResult Numbers
 in_time k n None = Err (faults.TooLong n)
 in_time k n (Some x) = if nat_le MOST_NOTES k then Err (faults.TooManyNotes n) else Ok x
 
 -- the note that is read from line n, after k notes, or the line's fault
-abbrev pub judged : ℕ → ℕ → Result (Took (Option Numbers)) LineFault → OrFault Numbers
-judged k n (Err e) = Err (faults.BadNote n)
-judged k n (Ok t) = in_time k n t.value
+abbrev pub note_of_line : ℕ → ℕ → Result (Parsed (Option Numbers)) LineFault → NoteResult Numbers
+note_of_line k n (Err e) = Err (faults.BadNote n)
+note_of_line k n (Ok t) = in_time k n t.value
 
 -- ---- the notes of a text
 
 -- a line with tokens, and its number
-pub record Spoken : Type 0 where
+pub record TokenLine : Type 0 where
   pub line : ℕ
-  pub said : List Said
+  pub said : List TokenValue
 
 -- the lines with tokens, of which the first line has the number n
-unfoldable pub spoken : ℕ → List (List Said) → List Spoken
-spoken n [] = []
-spoken n ([] ∷ lines) = spoken (suc n) lines
-spoken n ((s ∷ said) ∷ lines) = record { line = n; said = s ∷ said } ∷ spoken (suc n) lines
+unfoldable pub token_lines : ℕ → List (List TokenValue) → List TokenLine
+token_lines n [] = []
+token_lines n ([] ∷ lines) = token_lines (suc n) lines
+token_lines n ((s ∷ said) ∷ lines) = record { line = n; said = s ∷ said } ∷ token_lines (suc n) lines
 
 -- the notes of such lines, after k notes, or the first fault
-unfoldable pub notes_after : ℕ → List Spoken → OrFault (List Numbers)
+unfoldable pub notes_after : ℕ → List TokenLine → NoteResult (List Numbers)
 notes_after k [] = Ok []
 notes_after k (s ∷ lines) =
-    and_then (judged k s.line (note s.said)) (λ x. and_then (notes_after (suc k) lines) (λ xs. Ok (x ∷ xs)))
+    and_then (note_of_line k s.line (note s.said)) (λ x. and_then (notes_after (suc k) lines) (λ xs. Ok (x ∷ xs)))
 
 -- the notes of a text, one for each line with tokens, or the first fault
-unfoldable pub notes_of : List ℕ → OrFault (List Numbers)
-notes_of text = notes_after 0 (spoken 1 (said_lines text))
+unfoldable pub notes_of : List ℕ → NoteResult (List Numbers)
+notes_of text = notes_after 0 (token_lines 1 (values_of_lines text))
 
 -- ---- one more note
 
 -- the notes, and the note of line n if the line has tokens
-abbrev pub with_note : ℕ → List Said → List Numbers → OrFault (List Numbers)
+abbrev pub with_note : ℕ → List TokenValue → List Numbers → NoteResult (List Numbers)
 with_note n [] notes = Ok notes
-with_note n (s ∷ said) notes = and_then (judged (length notes) n (note (s ∷ said))) (λ x. Ok (notes ++ x ∷ []))
+with_note n (s ∷ said) notes = and_then (note_of_line (length notes) n (note (s ∷ said))) (λ x. Ok (notes ++ x ∷ []))

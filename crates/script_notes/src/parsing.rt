@@ -1,7 +1,7 @@
 //! Reads the notes of a text.
 ghost use Rattle.std.specs.Prelude.{◌≡◌, ◌≤◌, nat_le, length, IfOk};
-ghost use Rattle.script_tokens.specs.Parts.{Reads};
-ghost use Rattle.script_tokens.specs.Said.{said_in};
+ghost use Rattle.script_tokens.specs.Parsers.{Reads};
+ghost use Rattle.script_tokens.specs.TokenValue.{values_in};
 ghost use Rattle.script_tokens.specs.Pool.{Answers};
 ghost use Rattle.script_notes.specs.declared.limits.TheConstants.{MOST_NOTES};
 ghost use Rattle.script_notes.specs.Notes.{note, with_note, notes_of};
@@ -32,7 +32,7 @@ pub fn parse_notes(alloc: Global, text: &[u8]) -> Result<Vec<Note>, Failure<Note
 // Appends the note of a line, if the line has tokens.
 fn add_note(notes: &mut Vec<Note>, number: u64, line: &[u8]) -> Result<(), Failure<NoteFault>>
     requires { length notes.old.items ≤ MOST_NOTES }
-    ensures added { Answers (λ _. notes.new.items) result (with_note number (said_in line.now) notes.old.items) }
+    ensures added { Answers (λ _. notes.new.items) result (with_note number (values_in line.now) notes.old.items) }
     ensures few { IfOk result (λ _. length notes.new.items ≤ MOST_NOTES) }
 {
     // A note has no literals, so no line needs a pool.

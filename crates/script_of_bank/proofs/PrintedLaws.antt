@@ -6,26 +6,26 @@ use Rattle.bank_parts.specs.declared.parts.Parts.{Parts}
 use Rattle.bank_parts.specs.Sound.{IsSound}
 use Rattle.edit_forms.specs.declared.edit.Edit.{Edit}
 use Rattle.edit_refusals.specs.Edits.{raw}
-use Rattle.bank_edits.specs.Runs.{AllTaken, after_all}
+use Rattle.bank_edits.specs.Runs.{AllAccepted, after_all}
 use Rattle.script_tokens.specs.declared.fault.ScriptFault.{ScriptFault}
 use Rattle.script_tokens.specs.declared.printing.Piece.TheVariants.{Number}
 use Rattle.script_tokens.specs.Lines.{lines_of}
-use Rattle.script_tokens.specs.Parts.{digits_value}
-use Rattle.script_tokens.specs.Printing.{spelled}
+use Rattle.script_tokens.specs.Parsers.{digits_value}
+use Rattle.script_tokens.specs.Printing.{piece_text}
 use Rattle.script_tokens.proofs.PieceLaws.{line_first, spoken_number, writes}
 use Rattle.edit_script.specs.declared.parsing.Line.{Line}
 use Rattle.edit_script.specs.Script.{script_of}
 use Rattle.edit_script.specs.Printing.{AllFit, texts_of, numbered}
 use Rattle.edit_script.proofs.LineLaws.{printed_spell, printed_behind, edits_numbered}
 use Rattle.script_of_bank.specs.declared.samples.SamplePoints.TheVariants.{Kept}
-use Rattle.script_of_bank.specs.Listed.{empty, edits_of_bank}
-use Rattle.script_of_bank.specs.Whole.{Leads, edits_between}
-use Rattle.script_of_bank.specs.Printed.{first_line, bank_script, TextGivesBank, TextTellsBank, ReplacementLeads}
+use Rattle.script_of_bank.specs.BankEdits.{empty, edits_of_bank}
+use Rattle.script_of_bank.specs.LeadsTo.{Leads, edits_between}
+use Rattle.script_of_bank.specs.BankScript.{first_line, bank_script, TextGivesBank, TextDeterminesBank, ReplacementLeads}
 use Rattle.script_of_bank.proofs.Law.{whole, anywhere}
 
-taken_fit : (b : Parts) (es : List Edit) → AllTaken b es → AllFit es
-taken_fit b [] h = tt
-taken_fit b (e ∷ es) h = (h.0.fits, taken_fit (raw b e) es h.1)
+accepted_fit : (b : Parts) (es : List Edit) → AllAccepted b es → AllFit es
+accepted_fit b [] h = tt
+accepted_fit b (e ∷ es) h = (h.0.fits, accepted_fit (raw b e) es h.1)
 
 small : (b : Parts) → IsSound b → b.minor < 2 ^ 32
 small b s = let h = s.fits.minor in omega (arith, h)
@@ -37,7 +37,7 @@ unfolding bank_script first_line
 text_read b s =
     printed_behind (drop 1 (codes "# sfbank new --minor")) (Number b.minor ∷ []) (edits_of_bank b) refl
     (spoken_number b.minor (small b s), tt)
-    (taken_fit (empty b.minor) (edits_of_bank b) (whole b s).taken)
+    (accepted_fit (empty b.minor) (edits_of_bank b) (whole b s).is_accepted)
 
 pub text_gives : TextGivesBank
 text_gives b s = record {
@@ -73,7 +73,7 @@ unfolding first_or
 minor_read text = digits_value (drop 21 (first_or (lines_of text)))
 
 minor_of_text : (b : Parts) → IsSound b → minor_read (bank_script Kept b) ≡ b.minor
-unfolding minor_read first_or bank_script first_line spelled
+unfolding minor_read first_or bank_script first_line piece_text
 minor_of_text b s =
     ap (λ (ls : List (List ℕ)). digits_value (drop 21 (first_or ls)))
     (line_first (codes "# sfbank new --minor") (Number b.minor ∷ []) (texts_of (edits_of_bank b)) refl
@@ -81,8 +81,8 @@ minor_of_text b s =
     ∙ (ap digits_value (append-nil (decimal b.minor))
     ∙ (let h = s.fits.minor in writes 65535 b.minor (omega (arith, h)) (omega arith)).value)
 
-pub text_tells : TextTellsBank
-text_tells a b s r e =
+pub text_determines : TextDeterminesBank
+text_determines a b s r e =
     let m : a.minor ≡ b.minor = sym (minor_of_text a s) ∙ (ap minor_read e ∙ minor_of_text b r) in
     let same : edits_of_bank a ≡ edits_of_bank b = sym (edits_of_text a s) ∙ (ap edits_read e ∙ edits_of_text b r) in
     sym (whole a s).given ∙ ((λ i. after_all (empty (m i)) (same i)) ∙ (whole b r).given)
@@ -95,6 +95,6 @@ replaces a b s r m =
     let leads = anywhere a b s r m in
     record {
       lines = numbered 1 es;
-      read = printed_spell es (taken_fit a es leads.taken);
+      read = printed_spell es (accepted_fit a es leads.is_accepted);
       leads = subst (λ (es : List Edit). Leads a es b) (sym (edits_numbered 1 es)) leads;
     }

@@ -7,7 +7,7 @@ use Rattle.sf_base.specs.Names.{IsName}
 use Rattle.sf_base.specs.declared.limits.TheConstants.{SAMPLES, POINTS, ZERO_POINTS}
 use Rattle.bank_parts.specs.declared.texts.Texts.{Texts}
 use Rattle.bank_parts.specs.declared.parts.Head.{Head}
-use Rattle.bank_parts.specs.declared.parts.WithZones.{WithZones}
+use Rattle.bank_parts.specs.declared.parts.ZoneOwner.{ZoneOwner}
 use Rattle.bank_parts.specs.declared.parts.Sample.{Sample}
 use Rattle.bank_parts.specs.declared.parts.Parts.{Parts}
 use Rattle.bank_parts.specs.Valid.{IsWithin, IsPreset, IsInstrument, IsSample, AreTexts, zone_count, gen_count}
@@ -15,7 +15,7 @@ use Rattle.bank_parts.specs.Valid.{mod_count, point_total}
 use Rattle.bank_parts.specs.Fits.{FitTexts, FitsOwner, FitsHead, FitsSample}
 use Rattle.bank_parts.specs.Sound.{IsSound}
 use Rattle.bank_changes.proofs.Everywhere.{all_sent, sum_kept}
-use Rattle.script_of_bank.proofs.Fronts.{all_append, length_front, sum_front, all_front, all_rest}
+use Rattle.script_of_bank.proofs.PrefixLaws.{all_append, length_front, sum_front, all_front, all_rest}
 use Rattle.script_of_bank.proofs.Stages.{bank_of, mono}
 
 -- ---- samples
@@ -105,19 +105,19 @@ module _ (done rest whole : List Sample) (e : done ++ rest ≡ whole) (g : AreGo
 
 -- ---- banks
 
-abbrev zones_in : {H : Type 0} → WithZones H → ℕ
+abbrev zones_in : {H : Type 0} → ZoneOwner H → ℕ
 zones_in x = zone_count x.global x.zones
 
-abbrev gens_in : {H : Type 0} → WithZones H → ℕ
+abbrev gens_in : {H : Type 0} → ZoneOwner H → ℕ
 gens_in x = gen_count x.global x.zones
 
-abbrev mods_in : {H : Type 0} → WithZones H → ℕ
+abbrev mods_in : {H : Type 0} → ZoneOwner H → ℕ
 mods_in x = mod_count x.global x.zones
 
 -- the texts of one bank, and the first members of the lists of another
 module _ (b : Parts) (s : IsSound b) (t : Texts) (good : AreTexts t) (fit : FitTexts t)
-    (ps rest_ps : List (WithZones Head)) (ep : ps ++ rest_ps ≡ b.presets)
-    (is rest_is : List (WithZones (List ℕ))) (ei : is ++ rest_is ≡ b.instruments)
+    (ps rest_ps : List (ZoneOwner Head)) (ep : ps ++ rest_ps ≡ b.presets)
+    (is rest_is : List (ZoneOwner (List ℕ))) (ei : is ++ rest_is ≡ b.instruments)
     (ss : List Sample) (g : AreGood ss)
     (ps_valid : AllByRecursion (IsPreset (length is)) ps) (is_valid : AllByRecursion (IsInstrument (length ss)) is)
   where

@@ -10,20 +10,20 @@ use Rattle.bank_parts.specs.declared.texts.Texts.{Texts}
 use Rattle.bank_parts.specs.declared.parts.Kind.{Kind}
 use Rattle.bank_parts.specs.declared.parts.Kind.TheVariants.{Mono, Right, Left, Linked}
 use Rattle.bank_parts.specs.declared.parts.Head.{Head}
-use Rattle.bank_parts.specs.declared.parts.WithZones.{WithZones}
+use Rattle.bank_parts.specs.declared.parts.ZoneOwner.{ZoneOwner}
 use Rattle.bank_parts.specs.declared.parts.Sample.{Sample}
 use Rattle.bank_parts.specs.declared.parts.Parts.{Parts}
 use Rattle.bank_parts.specs.Renumbered.{sample_renumbered}
-use Rattle.bank_changes.specs.Points.{of_kind}
+use Rattle.bank_changes.specs.Points.{with_kind}
 use Rattle.bank_edits.specs.Runs.{after_all}
-use Rattle.script_of_bank.specs.Listed.{sample_edits, kind_edits, link_edits, instrument_edits, preset_edits}
+use Rattle.script_of_bank.specs.BankEdits.{sample_edits, kind_edits, link_edits, instrument_edits, preset_edits}
 
-abbrev pub bank_of : ℕ → Texts → List (WithZones Head) → List (WithZones (List ℕ)) → List Sample → Parts
+abbrev pub bank_of : ℕ → Texts → List (ZoneOwner Head) → List (ZoneOwner (List ℕ)) → List Sample → Parts
 bank_of minor texts presets instruments samples =
     record { minor = minor; texts = texts; presets = presets; instruments = instruments; samples = samples }
 
 abbrev pub mono : Sample → Sample
-mono s = of_kind Mono s
+mono s = with_kind Mono s
 
 -- ---- lists
 
@@ -70,13 +70,13 @@ module _ (minor : ℕ) (texts : Texts) where
   abbrev pub with_links : List Sample → List Sample → Parts
   with_links done rest = bank_of minor texts [] [] (done ++ map mono rest)
 
-  of_its_kind : (s : Sample) (kind : Kind) → s.kind ≡ kind → of_kind kind (mono s) ≡ s
+  of_its_kind : (s : Sample) (kind : Kind) → s.kind ≡ kind → with_kind kind (mono s) ≡ s
   of_its_kind s kind e = λ i. record s { kind = sym e i }
 
   pub linked : (done : List Sample) (s : Sample) (rest : List Sample) (kind : Kind) → s.kind ≡ kind
-      → changed (done ++ map mono (s ∷ rest)) (length done) (of_kind kind) ≡ (done ++ s ∷ []) ++ map mono rest
+      → changed (done ++ map mono (s ∷ rest)) (length done) (with_kind kind) ≡ (done ++ s ∷ []) ++ map mono rest
   linked done s rest kind e =
-      changes_next (of_kind kind) done (mono s) (map mono rest)
+      changes_next (with_kind kind) done (mono s) (map mono rest)
       ∙
       (ap (λ (t : Sample). done ++ t ∷ map mono rest) (of_its_kind s kind e)
       ∙ sym (append_assoc done (s ∷ []) (map mono rest)))
@@ -101,21 +101,21 @@ module _ (minor : ℕ) (texts : Texts) where
 -- ---- instruments, while there are no presets, and presets
 
 module _ (minor : ℕ) (texts : Texts) (samples : List Sample) where
-  abbrev pub with_instruments : List (WithZones (List ℕ)) → List (WithZones (List ℕ)) → Parts
+  abbrev pub with_instruments : List (ZoneOwner (List ℕ)) → List (ZoneOwner (List ℕ)) → Parts
   with_instruments done rest = bank_of minor texts [] done samples
 
-  pub instrument_added_last : (done : List (WithZones (List ℕ))) (x : WithZones (List ℕ))
-      (rest : List (WithZones (List ℕ)))
+  pub instrument_added_last : (done : List (ZoneOwner (List ℕ))) (x : ZoneOwner (List ℕ))
+      (rest : List (ZoneOwner (List ℕ)))
       → after_all (with_instruments done (x ∷ rest)) (instrument_edits (length done) x)
       ≡ with_instruments (done ++ x ∷ []) rest
   instrument_added_last done x rest =
-      ap (λ (xs : List (WithZones (List ℕ))). bank_of minor texts [] xs samples) (insert_end done x)
+      ap (λ (xs : List (ZoneOwner (List ℕ))). bank_of minor texts [] xs samples) (insert_end done x)
 
-  module _ (instruments : List (WithZones (List ℕ))) where
-    abbrev pub with_presets : List (WithZones Head) → List (WithZones Head) → Parts
+  module _ (instruments : List (ZoneOwner (List ℕ))) where
+    abbrev pub with_presets : List (ZoneOwner Head) → List (ZoneOwner Head) → Parts
     with_presets done rest = bank_of minor texts done instruments samples
 
-    pub preset_added_last : (done : List (WithZones Head)) (x : WithZones Head) (rest : List (WithZones Head))
+    pub preset_added_last : (done : List (ZoneOwner Head)) (x : ZoneOwner Head) (rest : List (ZoneOwner Head))
         → after_all (with_presets done (x ∷ rest)) (preset_edits (length done) x) ≡ with_presets (done ++ x ∷ []) rest
     preset_added_last done x rest =
-        ap (λ (xs : List (WithZones Head)). bank_of minor texts xs instruments samples) (insert_end done x)
+        ap (λ (xs : List (ZoneOwner Head)). bank_of minor texts xs instruments samples) (insert_end done x)

@@ -12,7 +12,7 @@ use Rattle.bank_parts.specs.declared.texts.InfoId.{InfoId}
 use Rattle.bank_parts.specs.declared.texts.InfoId.TheVariants.{Engine, Name, Date, Engineers, Product, Copyright}
 use Rattle.bank_parts.specs.declared.texts.InfoId.TheVariants.{Comment, Software}
 use Rattle.bank_parts.specs.declared.parts.Head.{Head}
-use Rattle.bank_parts.specs.declared.parts.WithZones.{WithZones}
+use Rattle.bank_parts.specs.declared.parts.ZoneOwner.{ZoneOwner}
 use Rattle.bank_parts.specs.declared.parts.Sample.{Sample}
 use Rattle.bank_parts.specs.declared.parts.Parts.{Parts}
 use Rattle.bank_parts.specs.Texts.{text_of}
@@ -25,10 +25,10 @@ use Rattle.edit_script.specs.Printing as printed
 use Rattle.edit_script.specs.Printing.{texts_of}
 use Rattle.script_of_bank.specs.declared.samples.SamplePoints.{SamplePoints}
 use Rattle.script_of_bank.specs.declared.samples.SamplePoints.TheVariants.{Kept, LeftOut}
-use Rattle.script_of_bank.specs.Listed.{in_turn, text_edits, texts_edits, sample_edits, link_edits, instrument_edits}
-use Rattle.script_of_bank.specs.Listed.{preset_edits, edits_of_bank}
+use Rattle.script_of_bank.specs.BankEdits.{in_turn, text_edits, texts_edits, sample_edits, link_edits, instrument_edits}
+use Rattle.script_of_bank.specs.BankEdits.{preset_edits, edits_of_bank}
 use Rattle.script_of_bank.specs.Lines.{owner_line, owner_lines}
-use Rattle.script_of_bank.specs.Printed.{told_sample, told_edits, with_points}
+use Rattle.script_of_bank.specs.BankScript.{selected_sample, selected_edits, with_points}
 use Rattle.std.specs.Prelude.{codes, Option}
 
 pub both_texts : (es fs : List Edit) → texts_of (es ++ fs) ≡ texts_of es ++ texts_of fs
@@ -61,14 +61,14 @@ turns_of edits fs f same n (x ∷ xs) = (λ i. same n x i ++ turns_of edits fs f
 
 -- ---- presets and instruments
 
-pub presets_lines : (n : ℕ) (xs : List (WithZones Head))
+pub presets_lines : (n : ℕ) (xs : List (ZoneOwner Head))
     → owner_lines (codes "add-preset") head_operands n xs ≡ texts_of (in_turn preset_edits n xs)
 unfolding printed.text_of
 presets_lines n [] = refl
 presets_lines n (x ∷ xs) =
     ap (λ (t : List ℕ). owner_line (codes "add-preset") head_operands n x ++ t) (presets_lines (suc n) xs)
 
-pub instruments_lines : (n : ℕ) (xs : List (WithZones (List ℕ)))
+pub instruments_lines : (n : ℕ) (xs : List (ZoneOwner (List ℕ)))
     → owner_lines (codes "add-inst") name_operands n xs ≡ texts_of (in_turn instrument_edits n xs)
 unfolding printed.text_of
 instruments_lines n [] = refl
@@ -76,12 +76,12 @@ instruments_lines n (x ∷ xs) =
     ap (λ (t : List ℕ). owner_line (codes "add-inst") name_operands n x ++ t) (instruments_lines (suc n) xs)
 
 -- the line of the next owner: its head and its zones
-pub owner_lines_next : {H : Type 0} (word : List ℕ) (head : H → List Operand) (xs : List (WithZones H)) (i : ℕ)
-    (x : WithZones H)
+pub owner_lines_next : {H : Type 0} (word : List ℕ) (head : H → List Operand) (xs : List (ZoneOwner H)) (i : ℕ)
+    (x : ZoneOwner H)
     → i < length xs → x ≡ get_or xs i x
     → owner_lines word head i (drop i xs) ≡ owner_line word head i x ++ owner_lines word head (i + 1) (drop (i + 1) xs)
 owner_lines_next {H} word head xs i x h e =
-    ap (owner_lines word head i) (drop-cons xs i x h ∙ ap (λ (y : WithZones H). y ∷ drop (suc i) xs) (sym e))
+    ap (owner_lines word head i) (drop-cons xs i x h ∙ ap (λ (y : ZoneOwner H). y ∷ drop (suc i) xs) (sym e))
     ∙ (let a : i + 1 ≡ suc i = omega arith in rw a refl)
 
 -- ---- the texts
@@ -118,36 +118,36 @@ texts_lines t =
 
 -- ---- points
 
-same_samples : (ss : List Sample) → map (told_sample Kept) ss ≡ ss
+same_samples : (ss : List Sample) → map (selected_sample Kept) ss ≡ ss
 same_samples [] = refl
 same_samples (s ∷ ss) = ap (λ (xs : List Sample). s ∷ xs) (same_samples ss)
 
 told_turns : (how : SamplePoints) (n : ℕ) (ss : List Sample)
-    → in_turn (told_edits how) n ss ≡ in_turn sample_edits n (map (told_sample how) ss)
-told_turns how n ss = turns_of (told_edits how) sample_edits (told_sample how) (λ n s. refl) n ss
+    → in_turn (selected_edits how) n ss ≡ in_turn sample_edits n (map (selected_sample how) ss)
+told_turns how n ss = turns_of (selected_edits how) sample_edits (selected_sample how) (λ n s. refl) n ss
 
 link_turns : (how : SamplePoints) (n : ℕ) (ss : List Sample)
-    → in_turn link_edits n ss ≡ in_turn link_edits n (map (told_sample how) ss)
-link_turns how n ss = turns_of link_edits link_edits (told_sample how) (λ n s. refl) n ss
+    → in_turn link_edits n ss ≡ in_turn link_edits n (map (selected_sample how) ss)
+link_turns how n ss = turns_of link_edits link_edits (selected_sample how) (λ n s. refl) n ss
 
-told_parts : (how : SamplePoints) (b : Parts)
-    → record b { samples = map (told_sample how) b.samples } ≡ with_points how b
-told_parts Kept b = ap (λ (ss : List Sample). record b { samples = ss }) (same_samples b.samples)
-told_parts LeftOut b = refl
+selected_parts : (how : SamplePoints) (b : Parts)
+    → record b { samples = map (selected_sample how) b.samples } ≡ with_points how b
+selected_parts Kept b = ap (λ (ss : List Sample). record b { samples = ss }) (same_samples b.samples)
+selected_parts LeftOut b = refl
 
 -- all lines of a bank
 pub bank_lines : (how : SamplePoints) (b : Parts)
     → texts_of (texts_edits b.texts)
-    ++ (texts_of (in_turn (told_edits how) 0 b.samples)
+    ++ (texts_of (in_turn (selected_edits how) 0 b.samples)
     ++ (texts_of (in_turn link_edits 0 b.samples)
     ++ (owner_lines (codes "add-inst") name_operands 0 b.instruments
     ++ owner_lines (codes "add-preset") head_operands 0 b.presets)))
     ≡ texts_of (edits_of_bank (with_points how b))
 bank_lines how b =
-    let told = record b { samples = map (told_sample how) b.samples } in
+    let selected = record b { samples = map (selected_sample how) b.samples } in
     let es0 = texts_edits b.texts in
-    let es1 = in_turn sample_edits 0 told.samples in
-    let es2 = in_turn link_edits 0 told.samples in
+    let es1 = in_turn sample_edits 0 selected.samples in
+    let es2 = in_turn link_edits 0 selected.samples in
     let es3 = in_turn instrument_edits 0 b.instruments in
     let es4 = in_turn preset_edits 0 b.presets in
     (λ i.
@@ -160,4 +160,4 @@ bank_lines how b =
     ∙ sym
     (then_texts es0 (es1 ++ (es2 ++ (es3 ++ es4))) _
     (then_texts es1 (es2 ++ (es3 ++ es4)) _ (then_texts es2 (es3 ++ es4) _ (both_texts es3 es4))))
-    ∙ ap (λ (p : Parts). texts_of (edits_of_bank p)) (told_parts how b)
+    ∙ ap (λ (p : Parts). texts_of (edits_of_bank p)) (selected_parts how b)

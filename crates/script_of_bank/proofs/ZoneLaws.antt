@@ -15,7 +15,7 @@ use Rattle.base_outputs.specs.Output.{Puts}
 use Rattle.base_outputs.proofs.OutputLaws.{puts_nothing, Putting, putting_start, putting_step, putting_end}
 use Rattle.modulators.specs.declared.modulator.Modulator.{Modulator}
 use Rattle.bank_parts.specs.declared.parts.Zone.{Zone}
-use Rattle.bank_parts.specs.declared.parts.WithZones.{WithZones}
+use Rattle.bank_parts.specs.declared.parts.ZoneOwner.{ZoneOwner}
 use Rattle.bank_parts.specs.declared.owners.ZonePlace.TheVariants as place
 use Rattle.bank_parts.specs.Owners.{HasPlace, zone_count_at, zone_at, target_at, gens_at, entries_at, mods_at}
 use Rattle.script_grammar.specs.Operands.{Fixed, Number}
@@ -24,18 +24,18 @@ use Rattle.script_grammar.specs.Zones.{listed_items, global_of, global_operands,
 use Rattle.script_grammar.proofs.PutLaws.{spaced_out}
 use Rattle.script_grammar.proofs.ZonePutLaws.{zone_text, puts_zone, puts_global, puts_zones}
 
-abbrev global_text : {H : Type 0} → WithZones H → List ℕ
+abbrev global_text : {H : Type 0} → ZoneOwner H → List ℕ
 global_text x = spaced_out (global_operands (global_of x.global))
 
-abbrev zones_text : {H : Type 0} → WithZones H → List ℕ
+abbrev zones_text : {H : Type 0} → ZoneOwner H → List ℕ
 zones_text x = flat_map zone_text x.zones
 
-some_of : {H : Type 0} (found : Option (WithZones H)) (P : ℕ → Type 0)
-    → IsSomeAnd (option_map (λ x. length x.zones) found) P → (x : WithZones H) × (found ≡ Some x)
+some_of : {H : Type 0} (found : Option (ZoneOwner H)) (P : ℕ → Type 0)
+    → IsSomeAnd (option_map (λ x. length x.zones) found) P → (x : ZoneOwner H) × (found ≡ Some x)
 some_of None P has = absurd has
 some_of (Some x) P has = (x, refl)
 
-module _ {H : Type 0} (xs : List (WithZones H)) (i : ℕ) where
+module _ {H : Type 0} (xs : List (ZoneOwner H)) (i : ℕ) where
   -- ---- the global zone
 
   pub puts_no_global : {W : Type 0} (c : W → Option (List ℕ)) (o : Output W) (gens mods : ℕ) → i < length xs
@@ -73,7 +73,7 @@ module _ {H : Type 0} (xs : List (WithZones H)) (i : ℕ) where
 
   -- ---- the zones
 
-  member_of : (k : ℕ) → HasPlace xs i (place.Zone k) → (x : WithZones H) × (slice_get xs i ≡ Some x)
+  member_of : (k : ℕ) → HasPlace xs i (place.Zone k) → (x : ZoneOwner H) × (slice_get xs i ≡ Some x)
   member_of k has = some_of (slice_get xs i) (λ n. k < n) has
 
   pub puts_zone_of : {W : Type 0} {c : W → Option (List ℕ)} {o p q : Output W} (k target : ℕ) (es : List (ℕ × ℕ))

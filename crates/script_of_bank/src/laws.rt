@@ -1,6 +1,6 @@
 //! The laws of a bank as edits and as text.
-ghost use Rattle.script_of_bank.specs.Whole.{GivesBank, LeadsAnywhere};
-ghost use Rattle.script_of_bank.specs.Printed.{TextGivesBank, TextTellsBank, ReplacementLeads};
+ghost use Rattle.script_of_bank.specs.LeadsTo.{GivesBank, LeadsAnywhere};
+ghost use Rattle.script_of_bank.specs.BankScript.{TextGivesBank, TextDeterminesBank, ReplacementLeads};
 
 /// The edits that list a sound bank are accepted in order by the empty bank of its minor version, and lead to
 /// the bank.
@@ -19,8 +19,8 @@ pub fn text_gives_bank()
 {}
 
 /// Two different sound banks have different texts.
-pub fn text_tells_bank()
-    ensures { TextTellsBank }
+pub fn text_determines_bank()
+    ensures { TextDeterminesBank }
 {}
 
 /// The text that replaces a sound bank with another of its minor version is a script whose edits are accepted

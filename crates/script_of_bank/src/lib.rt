@@ -12,7 +12,7 @@ mod texts;
 mod zones;
 
 pub use laws::{
-    edits_give_bank, edits_lead_anywhere, replacement_leads, text_gives_bank, text_tells_bank,
+    edits_give_bank, edits_lead_anywhere, replacement_leads, text_determines_bank, text_gives_bank,
 };
 pub use replacement::put_replacement;
 pub use samples::SamplePoints;

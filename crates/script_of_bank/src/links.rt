@@ -5,7 +5,7 @@ ghost use Rattle.edit_forms.specs.declared.points.PointStep.TheVariants.{SetKind
 ghost use Rattle.edit_forms.specs.declared.step.Step.TheVariants as steps;
 ghost use Rattle.edit_forms.specs.declared.edit.Edit.TheVariants.{One};
 ghost use Rattle.edit_script.specs.Printing.{text_of, texts_of};
-ghost use Rattle.script_of_bank.specs.Listed.{in_turn, kind_edits, link_edits};
+ghost use Rattle.script_of_bank.specs.BankEdits.{in_turn, kind_edits, link_edits};
 
 use bank_core::{Kind, Sample};
 use base_outputs::Output;

@@ -12,7 +12,7 @@ use bank_parts::OwnerHead;
 use base_outputs::Output;
 use script_grammar::put_name;
 use script_tokens::{Piece, put_pieces};
-use sf_base::{Lent, Name20};
+use sf_base::{BorrowedBytes, Name20};
 use std::io::Write;
 
 /// The head of a preset or an instrument, on the line that adds the owner.
@@ -48,7 +48,7 @@ impl AddedHead for Head {
     }
 
     fn put_operands<W: Write>(&self, output: &mut Output<'_, W>) {
-        let name = Piece::Name(Lent::new(self.name.bytes()));
+        let name = Piece::Name(BorrowedBytes::new(self.name.bytes()));
         let number = Piece::Number(u64::from(self.number));
         let bank = Piece::Number(u64::from(self.bank));
         let library = Piece::Number(u64::from(self.library));

@@ -5,9 +5,9 @@ ghost use Rattle.base_outputs.specs.Output.{Puts};
 ghost use Rattle.bank_parts.specs.declared.texts.InfoId.{InfoId};
 ghost use Rattle.bank_parts.specs.Texts as info;
 ghost use Rattle.edit_script.specs.Printing.{texts_of};
-ghost use Rattle.script_of_bank.specs.Listed.{empty_texts};
-ghost use Rattle.script_of_bank.specs.Whole.{edits_between};
-ghost use Rattle.script_of_bank.specs.TakenDown.{in_reverse, mono_edits, unlink_edits, reset_edits, resets, taken_down, removal_lines};
+ghost use Rattle.script_of_bank.specs.BankEdits.{empty_texts};
+ghost use Rattle.script_of_bank.specs.LeadsTo.{edits_between};
+ghost use Rattle.script_of_bank.specs.BankRemoval.{in_reverse, mono_edits, unlink_edits, reset_edits, resets, removal_edits, removal_lines};
 
 use crate::links::put_set_kind;
 use crate::samples::SamplePoints;
@@ -24,13 +24,13 @@ use std::io::Write;
 pub fn put_replacement<W: Write>(from: &Bank<'_>, to: &Bank<'_>, output: &mut Output<'_, W>)
     ensures { Puts W.contents output.old output.new (texts_of (edits_between from.now to.now)) }
 {
-    put_taken_down(from, output);
+    put_removal_edits(from, output);
     put_parts(to, SamplePoints::Kept, output);
 }
 
 // Writes the lines that remove all parts of a bank.
-fn put_taken_down<W: Write>(bank: &Bank<'_>, output: &mut Output<'_, W>)
-    ensures puts { Puts W.contents output.old output.new (texts_of (taken_down bank.now)) }
+fn put_removal_edits<W: Write>(bank: &Bank<'_>, output: &mut Output<'_, W>)
+    ensures puts { Puts W.contents output.old output.new (texts_of (removal_edits bank.now)) }
     ensures engine { 0 < length bank.now.texts.engine }
 {
     put_removals(b"remove-preset", bank.presets().len(), output);

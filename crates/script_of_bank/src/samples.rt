@@ -3,7 +3,7 @@ ghost use Rattle.std.specs.Prelude.{◌≡◌, ◌∷◌, []};
 ghost use Rattle.std.specs.List.{flat_map};
 ghost use Rattle.base_outputs.specs.Output.{Puts};
 ghost use Rattle.bank_parts.specs.declared.parts.Kind.TheVariants.{Mono};
-ghost use Rattle.bank_changes.specs.Points.{of_kind};
+ghost use Rattle.bank_changes.specs.Points.{with_kind};
 ghost use Rattle.edit_forms.specs.declared.samples.SampleStep.TheVariants.{AddSample};
 ghost use Rattle.edit_forms.specs.declared.step.Step.TheVariants as steps;
 ghost use Rattle.edit_forms.specs.declared.edit.Edit.TheVariants.{One};
@@ -12,8 +12,8 @@ ghost use Rattle.script_grammar.specs.Operands as operand;
 ghost use Rattle.script_grammar.specs.Operands.{pieces_of};
 ghost use Rattle.script_grammar.specs.Samples.{head_operands};
 ghost use Rattle.edit_script.specs.Printing.{text_of, texts_of};
-ghost use Rattle.script_of_bank.specs.Listed.{in_turn};
-ghost use Rattle.script_of_bank.specs.Printed.{told_points, told_sample, told_edits};
+ghost use Rattle.script_of_bank.specs.BankEdits.{in_turn};
+ghost use Rattle.script_of_bank.specs.BankScript.{selected_points, selected_sample, selected_edits};
 
 use bank_core::{Kind, Sample};
 use base_outputs::Output;
@@ -38,7 +38,7 @@ pub(crate) fn put_samples<W: Write>(
     points: SamplePoints,
     output: &mut Output<'_, W>,
 )
-    ensures { Puts W.contents output.old output.new (texts_of (in_turn (told_edits points) 0 samples.now)) }
+    ensures { Puts W.contents output.old output.new (texts_of (in_turn (selected_edits points) 0 samples.now)) }
 {
     for (number, sample) in samples.iter().enumerate() {
         put_sample(number as u64, sample, points, output);
@@ -52,18 +52,18 @@ fn put_sample<W: Write>(
     points: SamplePoints,
     output: &mut Output<'_, W>,
 )
-    ensures { Puts W.contents output.old output.new (text_of (One (steps.Sample (AddSample number (of_kind Mono (told_sample points sample.now)))))) }
+    ensures { Puts W.contents output.old output.new (text_of (One (steps.Sample (AddSample number (with_kind Mono (selected_sample points sample.now)))))) }
 {
     output.put(b"add-sample");
     put_pieces(&[Piece::Number(number)], output);
     put_mono_head(sample, output);
-    put_told_points(&sample.points, points, output);
+    put_selected_points(&sample.points, points, output);
     output.put(b"\n");
 }
 
 // Writes a sample without its points, and as mono.
 fn put_mono_head<W: Write>(sample: &Sample<'_>, output: &mut Output<'_, W>)
-    ensures { Puts W.contents output.old output.new (flat_map spaced (pieces_of (head_operands (of_kind Mono sample.now)))) }
+    ensures { Puts W.contents output.old output.new (flat_map spaced (pieces_of (head_operands (with_kind Mono sample.now)))) }
 {
     put_name(&sample.name, output);
     put_tune(sample.rate, sample.key, sample.correction, output);
@@ -72,10 +72,14 @@ fn put_mono_head<W: Write>(sample: &Sample<'_>, output: &mut Output<'_, W>)
 }
 
 // Writes the points, or none.
-fn put_told_points<W: Write>(points: &Points<'_>, told: SamplePoints, output: &mut Output<'_, W>)
-    ensures { Puts W.contents output.old output.new (flat_map spaced (pieces_of (operand.Points (told_points told points.now) ∷ []))) }
+fn put_selected_points<W: Write>(
+    points: &Points<'_>,
+    selected: SamplePoints,
+    output: &mut Output<'_, W>,
+)
+    ensures { Puts W.contents output.old output.new (flat_map spaced (pieces_of (operand.Points (selected_points selected points.now) ∷ []))) }
 {
-    match told {
+    match selected {
         SamplePoints::Kept => put_points(points, output),
         SamplePoints::LeftOut => put_pieces(&[Piece::Hex(Joined::new(&[]))], output),
     }

@@ -2,8 +2,8 @@
 ghost use Rattle.std.specs.Prelude.{◌≡◌};
 ghost use Rattle.base_outputs.specs.Output.{Puts};
 ghost use Rattle.edit_script.specs.Printing.{texts_of};
-ghost use Rattle.script_of_bank.specs.Listed.{edits_of_bank};
-ghost use Rattle.script_of_bank.specs.Printed.{first_line, with_points, bank_script};
+ghost use Rattle.script_of_bank.specs.BankEdits.{edits_of_bank};
+ghost use Rattle.script_of_bank.specs.BankScript.{first_line, with_points, bank_script};
 
 use crate::links::put_links;
 use crate::owners::put_owners;
@@ -12,7 +12,7 @@ use crate::texts::put_texts;
 use bank_core::Bank;
 use base_outputs::Output;
 use script_tokens::{Piece, put_line};
-use sf_base::Lent;
+use sf_base::BorrowedBytes;
 use std::io::Write;
 
 /// Writes the script that creates a bank from the empty bank of its minor version: a comment with the command
@@ -35,7 +35,9 @@ fn put_first_line<W: Write>(points: SamplePoints, minor: u16, output: &mut Outpu
     match points {
         SamplePoints::Kept => put_line(command, &[minor], output),
         SamplePoints::LeftOut => {
-            let purpose = Piece::Word(Lent::new(b"without points: to read and compare alone"));
+            let purpose = Piece::Word(BorrowedBytes::new(
+                b"without points: to read and compare alone",
+            ));
             put_line(command, &[minor, purpose], output);
         }
     }

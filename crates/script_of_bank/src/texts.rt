@@ -8,13 +8,13 @@ ghost use Rattle.edit_forms.specs.declared.texts.TextStep.TheVariants.{SetInfo};
 ghost use Rattle.edit_forms.specs.declared.step.Step.TheVariants as steps;
 ghost use Rattle.edit_forms.specs.declared.edit.Edit.TheVariants.{One};
 ghost use Rattle.edit_script.specs.Printing.{text_of, texts_of};
-ghost use Rattle.script_of_bank.specs.Listed.{text_edits, texts_edits};
+ghost use Rattle.script_of_bank.specs.BankEdits.{text_edits, texts_edits};
 
 use bank_core::{Bank, InfoId};
 use base_outputs::Output;
 use script_grammar::HasWord;
 use script_tokens::{Piece, put_line};
-use sf_base::Lent;
+use sf_base::BorrowedBytes;
 use std::io::Write;
 
 // Writes a line for each text that is not empty.
@@ -48,6 +48,10 @@ fn put_text<W: Write>(id: InfoId, text: &[u8], output: &mut Output<'_, W>)
 pub(crate) fn put_set_info<W: Write>(id: InfoId, text: &[u8], output: &mut Output<'_, W>)
     ensures { Puts W.contents output.old output.new (text_of (One (steps.Text (SetInfo id text.now)))) }
 {
-    let id = Piece::Word(Lent::new(id.word()));
-    put_line(b"set-info", &[id, Piece::Name(Lent::new(text))], output);
+    let id = Piece::Word(BorrowedBytes::new(id.word()));
+    put_line(
+        b"set-info",
+        &[id, Piece::Name(BorrowedBytes::new(text))],
+        output,
+    );
 }

@@ -14,7 +14,7 @@ use bank_parts::OwnerHead;
 use base_outputs::Output;
 use script_grammar::put_items;
 use script_tokens::{Piece, put_pieces};
-use sf_base::Lent;
+use sf_base::BorrowedBytes;
 use std::io::Write;
 
 // Writes the global zone and the zones of owner `i`, each token after a space.
@@ -42,8 +42,11 @@ pub fn put_global_of<H: OwnerHead, W: Write>(
     let gens = owners.gen_count(i, ZonePlace::Global);
     let mods = owners.mod_count(i, ZonePlace::Global);
     if gens > 0 || mods > 0 {
-        let opened = Piece::Word(Lent::new(b"{"));
-        put_pieces(&[opened, Piece::Word(Lent::new(b"global"))], output);
+        let opened = Piece::Word(BorrowedBytes::new(b"{"));
+        put_pieces(
+            &[opened, Piece::Word(BorrowedBytes::new(b"global"))],
+            output,
+        );
         let entries = owners.entries(i, ZonePlace::Global);
         put_items(entries, owners.mods(i, ZonePlace::Global), output);
     }
@@ -70,7 +73,7 @@ pub fn put_zone_of<H: OwnerHead, W: Write>(
     ensures { IfSome (zone_at owners.now i k) (λ z. Puts W.contents output.old output.new (flat_map spaced (pieces_of (zone_operands (written_zone z))))) }
 {
     let target = Piece::Number(u64::from(owners.target(i, k)));
-    put_pieces(&[Piece::Word(Lent::new(b"{")), target], output);
+    put_pieces(&[Piece::Word(BorrowedBytes::new(b"{")), target], output);
     let entries = owners.entries(i, ZonePlace::Zone(k));
     put_items(entries, owners.mods(i, ZonePlace::Zone(k)), output);
 }

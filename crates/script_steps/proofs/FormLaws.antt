@@ -5,7 +5,7 @@ use Rattle.std.specs.Str.{bytes_eq}
 use Rattle.sf_base.specs.declared.memory.Failure.{Failure}
 use Rattle.edit_forms.specs.declared.step.Step.{Step}
 use Rattle.script_tokens.specs.declared.fault.LineFault.{LineFault}
-use Rattle.script_tokens.specs.Said as saying
+use Rattle.script_tokens.specs.TokenValue as saying
 use Rattle.script_steps.specs.Forms.{Form, form_word, form_in, ReadsForm}
 
 -- a form in the first of two lists is found in both; else the second is searched

@@ -6,12 +6,12 @@ use Rattle.std.specs.List.{AllByRecursion}
 use Rattle.sf_base.specs.Names.{IsName}
 use Rattle.modulators.specs.Modulators.{FitsModulator}
 use Rattle.bank_parts.specs.Fits.{FitsKind, FitsLoop, FitsSample, FitsText}
-use Rattle.script_tokens.specs.declared.cursor.Said.{Said}
+use Rattle.script_tokens.specs.declared.cursor.TokenValue.{TokenValue}
 use Rattle.script_tokens.specs.declared.fault.LineFault.{LineFault}
-use Rattle.script_tokens.specs.Parts.{Part, Took, ◌>>=◌, pure, and_then, literal, number, name}
-use Rattle.script_tokens.specs.Parts.{most_word, most_double_word}
+use Rattle.script_tokens.specs.Parsers.{Parser, Parsed, ◌>>=◌, pure, and_then, literal, number, name}
+use Rattle.script_tokens.specs.Parsers.{most_word, most_double_word}
 use Rattle.script_tokens.proofs.ReadLaws.{AllHoldBytes, both}
-use Rattle.script_grammar.specs.Operands.{Operand, Fixed, Number, Name, Text, Points, AllSay}
+use Rattle.script_grammar.specs.Operands.{Operand, Fixed, Number, Name, Text, Points, AllEncode}
 use Rattle.script_grammar.specs.Names.{named, next_named}
 use Rattle.script_grammar.specs.Ranges.{axis_word, axes, keep_word, keeps}
 use Rattle.script_grammar.specs.Samples.{kind_operands, loop_operands, tune_operands, body_operands, kind, looped}
@@ -19,10 +19,10 @@ use Rattle.script_grammar.specs.Samples.{points, tune, body}
 use Rattle.script_grammar.specs.Texts.{id_word, ids, info_id}
 use Rattle.script_grammar.specs.Items.{generator_operands, modulator_operands, generator, modulator}
 use Rattle.script_grammar.proofs.NameLaws.{id_named, axis_named, keep_named}
-use Rattle.script_grammar.proofs.SpellLaws as spell
-use Rattle.script_grammar.proofs.SpellLaws.{Gives, gives_pure, gives_named, gives_number, gives_name, gives_text}
-use Rattle.script_grammar.proofs.SpellLaws.{gives_points, gives_kind, gives_loop, gives_tune, gives_body}
-use Rattle.script_grammar.proofs.ZoneSpellLaws.{gives_generator, gives_modulator, as_other}
+use Rattle.script_grammar.proofs.CompletenessLaws as spell
+use Rattle.script_grammar.proofs.CompletenessLaws.{Gives, gives_pure, gives_named, gives_number, gives_name, gives_text}
+use Rattle.script_grammar.proofs.CompletenessLaws.{gives_points, gives_kind, gives_loop, gives_tune, gives_body}
+use Rattle.script_grammar.proofs.ZoneCompletenessLaws.{gives_generator, gives_modulator, as_other}
 use Rattle.script_grammar.proofs.ReadLaws as read
 use Rattle.script_grammar.proofs.ReadLaws.{Fronts, made, number_front, name_front, text_front, points_front}
 use Rattle.script_grammar.proofs.ReadLaws.{kind_front, loop_front, tune_front, body_front, next_named_front}
@@ -31,7 +31,7 @@ use Rattle.script_grammar.proofs.RepeatedLaws.{Keeps, pure_keeps, then_keeps}
 use Rattle.script_grammar.proofs.ItemLaws.{number_keeps, generator_keeps, modulator_keeps}
 use Rattle.script_grammar.proofs.KeepLaws.{literal_keeps, name_keeps, named_keeps, points_keep, kind_keeps}
 use Rattle.script_grammar.proofs.KeepLaws.{looped_keeps, tune_keeps, body_keeps}
-use Rattle.script_grammar.proofs.FitLaws.{AllRanged, behind, kind_fits, loop_fits, tune_fits, sample_fits, word32}
+use Rattle.script_grammar.proofs.FitLaws.{AllRanged, following, kind_fits, loop_fits, tune_fits, sample_fits, word32}
 use Rattle.script_grammar.proofs.FitLaws.{word16, kind_fit, loop_fit, tune_fit, body_fit, id_fixed, axis_fixed}
 use Rattle.script_grammar.proofs.FitLaws.{keep_fixed}
 use Rattle.script_grammar.proofs.ZoneFitLaws.{generator_fits, modulator_fits, generator_said, modulator_said}
@@ -39,12 +39,12 @@ use Rattle.script_grammar.proofs.OperandLaws.{IsFixed, AllFit, both_fit}
 use Rattle.script_steps.specs.Members.{place}
 
 -- the laws of a part with one text form, if these operands encode its values
-pub record IsLawful {X : Type 0} (part : Part X) (operands : X → List Operand) (Fits : X → Type 0) : Type 0 where
+pub record IsLawful {X : Type 0} (part : Parser X) (operands : X → List Operand) (Fits : X → Type 0) : Type 0 where
   -- operands of a value are read as that value
-  pub gives : (x : X) (line : List Said) (more : List Operand) → AllSay line (operands x ++ more)
+  pub gives : (x : X) (line : List TokenValue) (more : List Operand) → AllEncode line (operands x ++ more)
       → Gives part x line more
   -- a value that is read has its operands on the line
-  pub fronts : (line : List Said) (t : Took X) → AllHoldBytes line → part line ≡ Ok t
+  pub fronts : (line : List TokenValue) (t : Parsed X) → AllHoldBytes line → part line ≡ Ok t
       → Fronts line t.rest (operands t.value)
   -- no more tokens remain than there were
   pub keeps : Keeps part
@@ -54,44 +54,44 @@ pub record IsLawful {X : Type 0} (part : Part X) (operands : X → List Operand)
 
 -- ---- one part after another
 
-abbrev pub pair_part : {X Y : Type 0} → Part X → Part Y → Part (X × Y)
+abbrev pub pair_part : {X Y : Type 0} → Parser X → Parser Y → Parser (X × Y)
 pair_part p q = p >>= λ x. q >>= λ y. pure (x, y)
 
-module _ {X Y : Type 0} {p : Part X} {q : Part Y} {o : X → List Operand} {r : Y → List Operand} {F : X → Type 0}
+module _ {X Y : Type 0} {p : Parser X} {q : Parser Y} {o : X → List Operand} {r : Y → List Operand} {F : X → Type 0}
     {G : Y → Type 0} where
   infixr 20 ◌&◌
   pub ◌&◌ : IsLawful p o F → IsLawful q r G → IsLawful (pair_part p q) (λ a. o a.0 ++ r a.1) (λ a. F a.0 × G a.1)
   l & m = record {
     gives = λ a line more h.
         spell.then _ (l.gives a.0 line (r a.1 ++ more)
-        (subst (AllSay line) (append_assoc (o a.0) (r a.1) more) h)) (λ rest k.
+        (subst (AllEncode line) (append_assoc (o a.0) (r a.1) more) h)) (λ rest k.
         spell.then _ (m.gives a.1 rest more k) (λ rest k. gives_pure (a.0, a.1) rest more k));
     fronts = λ line t h e.
         let u = both (p line) (λ x. q >>= λ y. pure (x, y)) t e in
         let k = l.fronts line u.first h u.is in
         let v = both (q u.first.rest) (λ y. pure (u.first.value, y)) t u.second in
-        subst (λ (t : Took (X × Y)). Fronts line t.rest (o t.value.0 ++ r t.value.1))
+        subst (λ (t : Parsed (X × Y)). Fronts line t.rest (o t.value.0 ++ r t.value.1))
         (made (u.first.value, v.first.value) v.first.rest t v.second)
         (read.then (o u.first.value) (r v.first.value) k (m.fronts u.first.rest v.first k.holds v.is));
     keeps = then_keeps p _ l.keeps (λ x. then_keeps q _ m.keeps (λ y. pure_keeps (x, y)));
-    fits = λ a h. let k = behind (o a.0) (r a.1) h in (l.fits a.0 k.0, m.fits a.1 k.1);
+    fits = λ a h. let k = following (o a.0) (r a.1) h in (l.fits a.0 k.0, m.fits a.1 k.1);
     fit = λ a h. both_fit (o a.0) (r a.1) (l.fit a.0 h.0) (m.fit a.1 h.1);
   }
 
 -- the same parts, grouped differently
-pub regrouped : {X Y Z : Type 0} (s : Result (Took X) LineFault) (f : X → Part Y) (g : Y → Part Z)
+pub regrouped : {X Y Z : Type 0} (s : Result (Parsed X) LineFault) (f : X → Parser Y) (g : Y → Parser Z)
     → and_then (and_then s f) g ≡ and_then s (λ x. f x >>= g)
 regrouped (Err e) f g = refl
 regrouped (Ok t) f g = refl
 
-pub same_behind : {X Z : Type 0} {f g : X → Part Z} (s : Result (Took X) LineFault)
-    → ((x : X) (line : List Said) → f x line ≡ g x line) → and_then s f ≡ and_then s g
+pub same_behind : {X Z : Type 0} {f g : X → Parser Z} (s : Result (Parsed X) LineFault)
+    → ((x : X) (line : List TokenValue) → f x line ≡ g x line) → and_then s f ≡ and_then s g
 same_behind (Err e) h = refl
 same_behind (Ok t) h = h t.value t.rest
 
 -- a function of two values is a function of their pair
-module _ {X Y Z : Type 0} (p : Part X) (q : Part Y) (make : X → Y → Z) where
-  pub of_two : (line : List Said)
+module _ {X Y Z : Type 0} (p : Parser X) (q : Parser Y) (make : X → Y → Z) where
+  pub of_two : (line : List TokenValue)
       → (p >>= λ x. q >>= λ y. pure (make x y)) line ≡ (pair_part p q >>= λ a. pure (make a.0 a.1)) line
   of_two line =
       sym
@@ -99,25 +99,25 @@ module _ {X Y Z : Type 0} (p : Part X) (q : Part Y) (make : X → Y → Z) where
       ∙ same_behind (p line) (λ x line. regrouped (q line) (λ y. pure (x, y)) (λ a. pure (make a.0 a.1))))
 
 -- the same, where the second value is a pair itself, with laws of its own
-module _ {X Y Z : Type 0} (p : Part X) {q : Part Y} {r : Y → List Operand} {G : Y → Type 0} where
-  pub of_more : IsLawful q r G → (make : X → Y → Z) → {f : X → Part Z}
-      → ((x : X) (line : List Said) → f x line ≡ (q >>= λ y. pure (make x y)) line) → (line : List Said)
+module _ {X Y Z : Type 0} (p : Parser X) {q : Parser Y} {r : Y → List Operand} {G : Y → Type 0} where
+  pub of_more : IsLawful q r G → (make : X → Y → Z) → {f : X → Parser Z}
+      → ((x : X) (line : List TokenValue) → f x line ≡ (q >>= λ y. pure (make x y)) line) → (line : List TokenValue)
       → (p >>= f) line ≡ (pair_part p q >>= λ a. pure (make a.0 a.1)) line
   of_more m make h line = same_behind (p line) h ∙ of_two p q make line
 
 -- the image of a value under a function with a right inverse
-module _ {X Y : Type 0} {p : Part X} {o : X → List Operand} {F : X → Type 0} (l : IsLawful p o F) {q : Part Y}
+module _ {X Y : Type 0} {p : Parser X} {o : X → List Operand} {F : X → Type 0} (l : IsLawful p o F) {q : Parser Y}
     {r : Y → List Operand} {G : Y → Type 0} (make : X → Y) (back : Y → X) where
-  pub made_lawful : ((line : List Said) → q line ≡ (p >>= λ x. pure (make x)) line) → ((y : Y) → make (back y) ≡ y)
+  pub made_lawful : ((line : List TokenValue) → q line ≡ (p >>= λ x. pure (make x)) line) → ((y : Y) → make (back y) ≡ y)
       → ((x : X) → o x ≡ r (make x)) → ((x : X) → (F x → G (make x)) × (G (make x) → F x)) → IsLawful q r G
   made_lawful reads whole same so = record {
     gives =
         λ y line more h.
-        subst (λ (y : Y). AllSay line (r y ++ more) → Gives q y line more) (whole y)
+        subst (λ (y : Y). AllEncode line (r y ++ more) → Gives q y line more) (whole y)
         (λ h. of (back y) line more h) h;
     fronts = λ line t h e.
         let u = both (p line) (λ x. pure (make x)) t (sym (reads line) ∙ e) in
-        subst (λ (t : Took Y). Fronts line t.rest (r t.value)) (made (make u.first.value) u.first.rest t u.second)
+        subst (λ (t : Parsed Y). Fronts line t.rest (r t.value)) (made (make u.first.value) u.first.rest t u.second)
         (subst (Fronts line u.first.rest) (same u.first.value) (l.fronts line u.first h u.is));
     keeps = λ line t e. then_keeps p _ l.keeps (λ x. pure_keeps (make x)) line t (sym (reads line) ∙ e);
     fits =
@@ -130,12 +130,12 @@ module _ {X Y : Type 0} {p : Part X} {o : X → List Operand} {F : X → Type 0}
         (λ h. subst AllFit (same (back y)) (l.fit (back y) ((so (back y)).1 h)));
   }
     where
-      of : (x : X) (line : List Said) (more : List Operand) → AllSay line (r (make x) ++ more)
+      of : (x : X) (line : List TokenValue) (more : List Operand) → AllEncode line (r (make x) ++ more)
           → Gives q (make x) line more
       of x line more h =
           as_other (p >>= λ x. pure (make x)) q (make x) line more (reads line)
           (spell.then _
-          (l.gives x line more (subst (λ (os : List Operand). AllSay line (os ++ more)) (sym (same x)) h))
+          (l.gives x line more (subst (λ (os : List Operand). AllEncode line (os ++ more)) (sym (same x)) h))
           (λ rest k. gives_pure (make x) rest more k))
 
 -- ---- numbers

@@ -1,8 +1,8 @@
 pub mod PutLaws
-pub mod SaidLaws
+pub mod FrontLaws
 pub mod Lawful
 pub mod OwnerLaws
-pub mod Spelt
+pub mod TextFormLaws
 pub mod FormLaws
 pub mod Rows
 pub mod StepLaws

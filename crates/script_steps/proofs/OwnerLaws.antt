@@ -7,15 +7,15 @@ use Rattle.bank_changes.specs.declared.members.Owner.{Owner}
 use Rattle.bank_changes.specs.declared.members.Owner.TheVariants as owner
 use Rattle.bank_changes.specs.declared.members.Place.{Place}
 use Rattle.bank_changes.specs.declared.members.Place.TheVariants as there
-use Rattle.edit_forms.specs.Fits.{FitsNumberOf, FitsPlace}
-use Rattle.script_tokens.specs.declared.cursor.Said.{Said}
-use Rattle.script_tokens.specs.Parts.{Part, Took, ◌>>=◌, pure, is_next, word, most_word, most_double_word, number, name}
+use Rattle.edit_forms.specs.Fits.{FitsOwnerNumber, FitsPlace}
+use Rattle.script_tokens.specs.declared.cursor.TokenValue.{TokenValue}
+use Rattle.script_tokens.specs.Parsers.{Parser, Parsed, ◌>>=◌, pure, is_next, word, most_word, most_double_word, number, name}
 use Rattle.script_tokens.proofs.ReadLaws.{AllHoldBytes, both}
-use Rattle.script_grammar.specs.Operands.{Operand, Fixed, AllSay}
+use Rattle.script_grammar.specs.Operands.{Operand, Fixed, AllEncode}
 use Rattle.script_grammar.specs.Names.{named, next_named}
-use Rattle.script_grammar.proofs.SpellLaws as spell
-use Rattle.script_grammar.proofs.SpellLaws.{Gives, gives_pure, gives_word, gives_number}
-use Rattle.script_grammar.proofs.ZoneSpellLaws.{next_word, not_global, as_other}
+use Rattle.script_grammar.proofs.CompletenessLaws as spell
+use Rattle.script_grammar.proofs.CompletenessLaws.{Gives, gives_pure, gives_word, gives_number}
+use Rattle.script_grammar.proofs.ZoneCompletenessLaws.{next_word, not_global, as_other}
 use Rattle.script_grammar.proofs.ReadLaws.{Fronts, made, word_front, number_front}
 use Rattle.script_grammar.proofs.ZoneReadLaws.{next_is}
 use Rattle.script_grammar.proofs.RepeatedLaws.{shortens_keeps, pure_keeps, then_keeps, word_shortens}
@@ -24,7 +24,7 @@ use Rattle.script_grammar.proofs.FitLaws.{AllRanged, word32}
 use Rattle.script_grammar.proofs.OperandLaws.{IsFixed, AllFit}
 use Rattle.script_steps.specs.declared.owners.OwnerKind.{OwnerKind}
 use Rattle.script_steps.specs.declared.owners.OwnerKind.TheVariants as kind
-use Rattle.script_steps.specs.Members.{place, named_operands, moved_operands, naming, moving}
+use Rattle.script_steps.specs.Members.{place, named_operands, moved_operands, indexed_name, index_pair}
 use Rattle.script_steps.specs.Owners.{kind_word, kinds, kind_of, number_in, of_owner, at_place, of_zone, of_place}
 use Rattle.script_steps.specs.Owners.{owner_with, an_owner, a_place, owner_zone, owner_place}
 use Rattle.script_steps.specs.Presets.{head_operands, head_of, head, placed_head}
@@ -33,12 +33,12 @@ use Rattle.script_steps.proofs.Lawful.{a_name}
 
 -- ---- an index, and what follows it
 
-pub names : IsLawful naming (λ n. named_operands n.0 n.1) (λ n. (n.0 < 2 ^ 32) × IsName n.1)
-unfolding naming
+pub names : IsLawful indexed_name (λ n. named_operands n.0 n.1) (λ n. (n.0 < 2 ^ 32) × IsName n.1)
+unfolding indexed_name
 names = index & a_name
 
-pub moves : IsLawful moving (λ m. moved_operands m.0 m.1) (λ m. (m.0 < 2 ^ 32) × (m.1 < 2 ^ 32))
-unfolding moving
+pub moves : IsLawful index_pair (λ m. moved_operands m.0 m.1) (λ m. (m.0 < 2 ^ 32) × (m.1 < 2 ^ 32))
+unfolding index_pair
 moves = index & index
 
 -- ---- the head of a preset
@@ -94,12 +94,12 @@ owner_said kind.Preset n = refl
 owner_said kind.Instrument n = refl
 
 owner_fits : (k : OwnerKind) (n : ℕ)
-    → (Unit {0} × (n < 2 ^ 32) → FitsNumberOf (owner_with k n))
-    × (FitsNumberOf (owner_with k n) → Unit {0} × (n < 2 ^ 32))
+    → (Unit {0} × (n < 2 ^ 32) → FitsOwnerNumber (owner_with k n))
+    × (FitsOwnerNumber (owner_with k n) → Unit {0} × (n < 2 ^ 32))
 owner_fits kind.Preset n = (λ h. h.1, λ h. (tt, h))
 owner_fits kind.Instrument n = (λ h. h.1, λ h. (tt, h))
 
-pub owners : IsLawful an_owner of_owner FitsNumberOf
+pub owners : IsLawful an_owner of_owner FitsOwnerNumber
 unfolding an_owner
 owners =
     made_lawful (named_lawful kind_word kinds kind_named kind_fixed & index) (λ a. owner_with a.0 a.1)
@@ -108,10 +108,10 @@ owners =
 
 -- ---- a place in an owner
 
-global : Part Place
+global : Parser Place
 global = word >>= λ w. pure there.Global
 
-zone : Part Place
+zone : Parser Place
 zone = number most_double_word >>= λ k. pure (there.Zone k)
 
 pub places : IsLawful a_place (λ p. at_place p ∷ []) FitsPlace
@@ -128,7 +128,7 @@ places =
       fit = fit;
     }
   where
-    gives : (p : Place) (line : List Said) (more : List Operand) → AllSay line (at_place p ∷ more)
+    gives : (p : Place) (line : List TokenValue) (more : List Operand) → AllEncode line (at_place p ∷ more)
         → Gives a_place p line more
     gives there.Global line more h =
         as_other global a_place there.Global line more
@@ -138,21 +138,21 @@ places =
         as_other zone a_place (there.Zone z) line more (rw (not_global most_double_word z line more h) refl)
         (spell.then _ (gives_number most_double_word z line more h) (λ rest k. gives_pure (there.Zone z) rest more k))
 
-    fronts : (line : List Said) (t : Took Place) → AllHoldBytes line → (b : Bool) → is_next (codes "global") line ≡ b
+    fronts : (line : List TokenValue) (t : Parsed Place) → AllHoldBytes line → (b : Bool) → is_next (codes "global") line ≡ b
         → cond b (global line) (zone line) ≡ Ok t → Fronts line t.rest (at_place t.value ∷ [])
     fronts line t h true k e =
         let w = both (word line) (λ w. pure there.Global) t e in
-        subst (λ (t : Took Place). Fronts line t.rest (at_place t.value ∷ []))
+        subst (λ (t : Parsed Place). Fronts line t.rest (at_place t.value ∷ []))
         (made there.Global w.first.rest t w.second)
         (subst (λ (v : List ℕ). Fronts line w.first.rest (Fixed v ∷ []))
         (next_is (codes "global") line w.first w.is k) (word_front line w.first h w.is))
     fronts line t h false k e =
         let n = both (number most_double_word line) (λ k. pure (there.Zone k)) t e in
-        subst (λ (t : Took Place). Fronts line t.rest (at_place t.value ∷ []))
+        subst (λ (t : Parsed Place). Fronts line t.rest (at_place t.value ∷ []))
         (made (there.Zone n.first.value) n.first.rest t n.second)
         (number_front most_double_word line n.first h n.is)
 
-    keeps : (line : List Said) (t : Took Place) → (b : Bool) → cond b (global line) (zone line) ≡ Ok t
+    keeps : (line : List TokenValue) (t : Parsed Place) → (b : Bool) → cond b (global line) (zone line) ≡ Ok t
         → length t.rest ≤ length line
     keeps line t true e = then_keeps word _ (shortens_keeps word word_shortens) (λ w. pure_keeps there.Global) line t e
     keeps line t false e =
@@ -169,10 +169,10 @@ places =
 
 -- ---- an owner and a place in it
 
-pub owner_zones : IsLawful owner_zone (λ z. of_zone z.0 z.1) (λ z. FitsNumberOf z.0 × (z.1 < 2 ^ 32))
+pub owner_zones : IsLawful owner_zone (λ z. of_zone z.0 z.1) (λ z. FitsOwnerNumber z.0 × (z.1 < 2 ^ 32))
 unfolding owner_zone
 owner_zones = owners & index
 
-pub owner_places : IsLawful owner_place (λ p. of_place p.0 p.1) (λ p. FitsNumberOf p.0 × FitsPlace p.1)
+pub owner_places : IsLawful owner_place (λ p. of_place p.0 p.1) (λ p. FitsOwnerNumber p.0 × FitsPlace p.1)
 unfolding owner_place
 owner_places = owners & places

@@ -14,8 +14,8 @@ use Rattle.edit_forms.specs.declared.settings.SettingStep.TheVariants.{SetGen, C
 use Rattle.edit_forms.specs.declared.texts.TextStep.TheVariants.{SetInfo}
 use Rattle.edit_forms.specs.declared.step.Step.TheVariants as steps
 use Rattle.edit_forms.specs.Fits.{FitsStep}
-use Rattle.script_tokens.specs.declared.cursor.Said.{Said}
-use Rattle.script_tokens.specs.Parts.{Part, ◌>>=◌, pure}
+use Rattle.script_tokens.specs.declared.cursor.TokenValue.{TokenValue}
+use Rattle.script_tokens.specs.Parsers.{Parser, ◌>>=◌, pure}
 use Rattle.script_grammar.specs.Operands.{Operand}
 use Rattle.script_grammar.specs.Zones.{zone}
 use Rattle.script_steps.specs.Forms.{Form, form_word, form_in}
@@ -27,42 +27,42 @@ use Rattle.script_steps.specs.Points as points
 use Rattle.script_steps.specs.Zones as zones
 use Rattle.script_steps.specs.Settings as settings
 use Rattle.script_steps.specs.Texts as texts
-use Rattle.script_steps.specs.Members.{naming}
+use Rattle.script_steps.specs.Members.{indexed_name}
 use Rattle.script_steps.specs.Owners.{owner_zone}
-use Rattle.script_steps.specs.Grammar.{forms, word_of, operands, SaysStep}
+use Rattle.script_steps.specs.Grammar.{forms, word_of, operands, EncodesStep}
 use Rattle.script_steps.proofs.Lawful.{IsLawful, ◌&◌, of_two, of_more, index, number16, number8, an_axis, a_keep}
 use Rattle.script_steps.proofs.Lawful.{an_id, a_text, a_body, some_points, a_kind, a_loop, a_tune}
 use Rattle.script_steps.proofs.Lawful.{a_generator, a_modulator}
 use Rattle.script_steps.proofs.OwnerLaws.{names, moves, heads, owner_zones, owner_places}
-use Rattle.script_steps.proofs.Spelt.{IsSpelt, in_one_way, adds_zone, added, adds_owner, owner_parts}
+use Rattle.script_steps.proofs.TextFormLaws.{HasLawfulForms, in_one_way, adds_zone, added, adds_owner, owner_parts}
 
 -- the step has the word, only these operands encode it, they are printed, and it fits where its values do
 abbrev pub IsOf : List ℕ → Step → (List Operand → Type 0) → List Operand → Type 0 → Type 1
-IsOf w s Says printed Fits =
-    (word_of s ≡ w) × (SaysStep s ≡ Says) × (operands s ≡ printed) × (Fits → FitsStep s) × (FitsStep s → Fits)
+IsOf w s Encodes printed Fits =
+    (word_of s ≡ w) × (EncodesStep s ≡ Encodes) × (operands s ≡ printed) × (Fits → FitsStep s) × (FitsStep s → Fits)
 
 -- a row: the form's word, a parser with its laws, and the step that is made of the values read
 pub record Row (f : Form) : Type 1 where
   pub Value : Type 0
-  pub part : Part Value
-  pub Says : Value → List Operand → Type 0
+  pub part : Parser Value
+  pub Encodes : Value → List Operand → Type 0
   pub printed : Value → List Operand
   pub Fits : Value → Type 0
-  pub lawful : IsSpelt part Says printed Fits
+  pub lawful : HasLawfulForms part Encodes printed Fits
   pub make : Value → Step
-  pub reads : (line : List Said) → f.1 line ≡ (part >>= λ x. pure (make x)) line
-  pub is : (x : Value) → IsOf f.0 (make x) (Says x) (printed x) (Fits x)
+  pub reads : (line : List TokenValue) → f.1 line ≡ (part >>= λ x. pure (make x)) line
+  pub is : (x : Value) → IsOf f.0 (make x) (Encodes x) (printed x) (Fits x)
 
 -- a row of a part with several text forms
-abbrev spelt : {f : Form} {X : Type 0} {p : Part X} {S : X → List Operand → Type 0} {o : X → List Operand}
+abbrev spelt : {f : Form} {X : Type 0} {p : Parser X} {S : X → List Operand → Type 0} {o : X → List Operand}
     {F : X → Type 0}
-    → IsSpelt p S o F → (make : X → Step) → ((line : List Said) → f.1 line ≡ (p >>= λ x. pure (make x)) line)
+    → HasLawfulForms p S o F → (make : X → Step) → ((line : List TokenValue) → f.1 line ≡ (p >>= λ x. pure (make x)) line)
     → ((x : X) → IsOf f.0 (make x) (S x) (o x) (F x)) → Row f
 spelt {p = p} {S} {o} {F} l make reads is =
     record {
       Value = _;
       part = p;
-      Says = S;
+      Encodes = S;
       printed = o;
       Fits = F;
       lawful = l;
@@ -72,20 +72,20 @@ spelt {p = p} {S} {o} {F} l make reads is =
     }
 
 -- rows of one part with one text form, of two, and of three, as the form reads them
-abbrev one : {f : Form} {X : Type 0} {p : Part X} {o : X → List Operand} {F : X → Type 0} → IsLawful p o F
+abbrev one : {f : Form} {X : Type 0} {p : Parser X} {o : X → List Operand} {F : X → Type 0} → IsLawful p o F
     → (make : X → Step) → f.1 ≡ (p >>= λ x. pure (make x))
     → ((x : X) → IsOf f.0 (make x) (λ os. os ≡ o x) (o x) (F x)) → Row f
-one l make reads is = spelt (in_one_way l) make (λ line. ap (λ (p : Part Step). p line) reads) is
+one l make reads is = spelt (in_one_way l) make (λ line. ap (λ (p : Parser Step). p line) reads) is
 
-abbrev two : {f : Form} {X Y : Type 0} {p : Part X} {q : Part Y} {o : X → List Operand} {r : Y → List Operand}
+abbrev two : {f : Form} {X Y : Type 0} {p : Parser X} {q : Parser Y} {o : X → List Operand} {r : Y → List Operand}
     {F : X → Type 0} {G : Y → Type 0}
     → IsLawful p o F → IsLawful q r G → (make : X → Y → Step) → f.1 ≡ (p >>= λ x. q >>= λ y. pure (make x y))
     → ((x : X) (y : Y) → IsOf f.0 (make x y) (λ os. os ≡ o x ++ r y) (o x ++ r y) (F x × G y)) → Row f
 two {p = p} {q} l m make reads is =
     spelt (in_one_way (l & m)) (λ a. make a.0 a.1)
-    (λ line. ap (λ (p : Part Step). p line) reads ∙ of_two p q make line) (λ a. is a.0 a.1)
+    (λ line. ap (λ (p : Parser Step). p line) reads ∙ of_two p q make line) (λ a. is a.0 a.1)
 
-abbrev three : {f : Form} {X Y Z : Type 0} {p : Part X} {q : Part Y} {t : Part Z} {o : X → List Operand}
+abbrev three : {f : Form} {X Y Z : Type 0} {p : Parser X} {q : Parser Y} {t : Parser Z} {o : X → List Operand}
     {r : Y → List Operand} {u : Z → List Operand} {F : X → Type 0} {G : Y → Type 0} {H : Z → Type 0}
     → IsLawful p o F → IsLawful q r G → IsLawful t u H → (make : X → Y → Z → Step)
     → f.1 ≡ (p >>= λ x. q >>= λ y. t >>= λ z. pure (make x y z))
@@ -96,7 +96,7 @@ abbrev three : {f : Form} {X Y Z : Type 0} {p : Part X} {q : Part Y} {t : Part Z
 three {p = p} {q} {t} l m n make reads is =
     spelt (in_one_way (l & m & n)) (λ a. make a.0 a.1.0 a.1.1)
     (λ line.
-    ap (λ (p : Part Step). p line) reads
+    ap (λ (p : Parser Step). p line) reads
     ∙ of_more p (m & n) (λ x b. make x b.0 b.1) (λ x. of_two q t (make x)) line)
     (λ a. is a.0 a.1.0 a.1.1)
 
@@ -142,7 +142,7 @@ unfolding instruments.forms instruments.add_instrument instruments.remove_instru
     instruments.rename_instrument instruments.move_instrument
 instrument_rows =
     spelt (adds_owner names) (λ a. steps.Instrument (AddInstrument a.0.0 (added a)))
-    (owner_parts naming (λ at instrument. steps.Instrument (AddInstrument at instrument)))
+    (owner_parts indexed_name (λ at instrument. steps.Instrument (AddInstrument at instrument)))
     (λ a. (refl, refl, refl, λ h. h, λ h. h))
     and one index (λ i. steps.Instrument (RemoveInstrument i)) refl (λ i. (refl, refl, refl, λ h. h, λ h. h))
     and one names (λ n. steps.Instrument (RenameInstrument n.0 n.1)) refl (λ n. (refl, refl, refl, λ h. h, λ h. h))

@@ -7,16 +7,16 @@ use Rattle.std.proofs.lemmas.Bool.{and_parts}
 use Rattle.std.proofs.lemmas.Slice.Eq.{bytes_eq-Decides}
 use Rattle.edit_forms.specs.declared.step.Step.{Step}
 use Rattle.edit_forms.specs.Fits.{FitsStep}
-use Rattle.script_tokens.specs.declared.cursor.Said.{Said}
+use Rattle.script_tokens.specs.declared.cursor.TokenValue.{TokenValue}
 use Rattle.script_tokens.specs.declared.fault.LineFault.TheVariants as faults
-use Rattle.script_tokens.specs.Parts.{Took, ◌>>=◌, pure, or_fault, word}
-use Rattle.script_tokens.specs.Spelling.{is_word}
+use Rattle.script_tokens.specs.Parsers.{Parsed, ◌>>=◌, pure, or_fault, word}
+use Rattle.script_tokens.specs.TextForm.{is_word}
 use Rattle.script_tokens.proofs.TestLaws.{not_feed}
 use Rattle.script_tokens.proofs.ReadLaws.{both, or_fault_is}
-use Rattle.script_grammar.specs.Operands.{Operand, Fixed, AllSay}
+use Rattle.script_grammar.specs.Operands.{Operand, Fixed, AllEncode}
 use Rattle.script_grammar.specs.Names.{named, next_named}
-use Rattle.script_grammar.proofs.SpellLaws.{Gives, then, gives_pure, gives_named}
-use Rattle.script_grammar.proofs.ZoneSpellLaws.{EndsZones, as_other}
+use Rattle.script_grammar.proofs.CompletenessLaws.{Gives, then, gives_pure, gives_named}
+use Rattle.script_grammar.proofs.ZoneCompletenessLaws.{EndsZones, as_other}
 use Rattle.script_grammar.proofs.ReadLaws as read
 use Rattle.script_grammar.proofs.ReadLaws.{made, next_named_front}
 use Rattle.script_grammar.proofs.RepeatedLaws.{Keeps, pure_keeps, then_keeps}
@@ -31,9 +31,9 @@ use Rattle.script_steps.specs.Zones as zones
 use Rattle.script_steps.specs.Settings as settings
 use Rattle.script_steps.specs.Texts as texts
 use Rattle.script_steps.specs.Forms.{Form, form_word, form_in}
-use Rattle.script_steps.specs.Grammar.{forms, word_of, operands, SaysStep, a_form, step}
-use Rattle.script_steps.specs.Spelling.{SaysWhole}
-use Rattle.script_steps.proofs.SaidLaws.{SaidFront, IsSaid}
+use Rattle.script_steps.specs.Grammar.{forms, word_of, operands, EncodesStep, a_form, step}
+use Rattle.script_steps.specs.TextForm.{EncodesWholeStep}
+use Rattle.script_steps.proofs.FrontLaws.{SaidFront, IsSaid}
 use Rattle.script_steps.proofs.Rows.{Row, RowOf, ValueOf, rows, at, values}
 
 -- ---- the form of a step
@@ -97,16 +97,16 @@ not_group s = from (bytes_eq (word_of s) (codes "group")) refl
 
 -- a step of the form, and operands that encode it
 abbrev StepOf : Form → Step → List Operand → Type 0
-StepOf f s os = SaysStep s os × (word_of s ≡ form_word f)
+StepOf f s os = EncodesStep s os × (word_of s ≡ form_word f)
 
 -- operands that encode a step of a form are read as the step, fit where the step does, and include those that
 -- are printed
 record IsStepLawful (f : Form) (s : Step) : Type 0 where
-  gives : (os more : List Operand) → EndsZones more → SaysStep s os → (line : List Said) → AllSay line (os ++ more)
+  gives : (os more : List Operand) → EndsZones more → EncodesStep s os → (line : List TokenValue) → AllEncode line (os ++ more)
       → Gives f.1 s line more
-  fits : (os : List Operand) → SaysStep s os → AllRanged os → FitsStep s
+  fits : (os : List Operand) → EncodesStep s os → AllRanged os → FitsStep s
   fit : FitsStep s → AllFit (operands s)
-  printed : SaysStep s (operands s)
+  printed : EncodesStep s (operands s)
 
 module _ {f : Form} (r : Row f) where
   operands_said : IsSaid Step f.1 (StepOf f)
@@ -119,7 +119,7 @@ module _ {f : Form} (r : Row f) where
         operands =
             k.operands;
         says =
-            (subst (λ (Says : List Operand → Type 0). Says k.operands) (sym is.1) k.says, is.0);
+            (subst (λ (Encodes : List Operand → Type 0). Encodes k.operands) (sym is.1) k.says, is.0);
         fronts =
             k.fronts;
       })
@@ -133,13 +133,13 @@ module _ {f : Form} (r : Row f) where
       let is = r.is x in record {
         gives = λ os more end h line k.
             as_other (r.part >>= λ x. pure (r.make x)) f.1 (r.make x) line more (r.reads line)
-            (then _ (r.lawful.gives x os more end (subst (λ (Says : List Operand → Type 0). Says os) is.1 h) line k)
+            (then _ (r.lawful.gives x os more end (subst (λ (Encodes : List Operand → Type 0). Encodes os) is.1 h) line k)
             (λ rest k. gives_pure (r.make x) rest more k));
-        fits = λ os h k. is.3 (r.lawful.fits x os (subst (λ (Says : List Operand → Type 0). Says os) is.1 h) k);
+        fits = λ os h k. is.3 (r.lawful.fits x os (subst (λ (Encodes : List Operand → Type 0). Encodes os) is.1 h) k);
         fit = λ h. subst AllFit (sym is.2) (r.lawful.fit x (is.4 h));
         printed =
-            subst (λ (Says : List Operand → Type 0). Says (operands (r.make x))) (sym is.1)
-            (subst (r.Says x) (sym is.2) (r.lawful.is_said x));
+            subst (λ (Encodes : List Operand → Type 0). Encodes (operands (r.make x))) (sym is.1)
+            (subst (r.Encodes x) (sym is.2) (r.lawful.is_said x));
       }
 
 step_lawful : (s : Step) → IsStepLawful (of_step s).form s
@@ -149,7 +149,7 @@ step_lawful s =
 -- ---- a step
 
 -- a form that is read has its row
-read_row : (line : List Said) (t : Took Form) → a_form line ≡ Ok t → Row t.value
+read_row : (line : List TokenValue) (t : Parsed Form) → a_form line ≡ Ok t → Row t.value
 unfolding next_named
 read_row line t e =
     let w = both (word line) (λ w. or_fault faults.Syntax (form_in forms w)) t e in
@@ -157,7 +157,7 @@ read_row line t e =
     subst RowOf found.0 (at forms rows.rows w.first.value)
 
 -- a step that is read has its operands on the line
-pub step_said : IsSaid Step step SaysWhole
+pub step_said : IsSaid Step step EncodesWholeStep
 unfolding step
 step_said line t g e =
     let u = both (a_form line) (λ f. f.1) t e in
@@ -178,8 +178,8 @@ step_said line t g e =
     }
 
 -- operands that encode a step are read as it
-pub gives_step : (s : Step) (os more : List Operand) → EndsZones more → SaysWhole s os → (line : List Said)
-    → AllSay line (os ++ more) → Gives step s line more
+pub gives_step : (s : Step) (os more : List Operand) → EndsZones more → EncodesWholeStep s os → (line : List TokenValue)
+    → AllEncode line (os ++ more) → Gives step s line more
 unfolding step
 gives_step s os more end h line k =
     let o = of_step s in
@@ -188,8 +188,8 @@ gives_step s os more end h line k =
     subst (λ (w : List ℕ). form_in forms w ≡ Some o.form) (sym word) o.found in
     then _
     (gives_named form_word forms o.form found line (h.operands ++ more)
-    (subst (λ (w : List ℕ). AllSay line (Fixed w ∷ h.operands ++ more)) (sym word)
-    (subst (λ (os : List Operand). AllSay line (os ++ more)) h.parts k)))
+    (subst (λ (w : List ℕ). AllEncode line (Fixed w ∷ h.operands ++ more)) (sym word)
+    (subst (λ (os : List Operand). AllEncode line (os ++ more)) h.parts k)))
     (λ rest k. (step_lawful s).gives h.operands more end h.says rest k)
 
 -- it leaves no more tokens than there were
@@ -197,18 +197,18 @@ pub step_keeps : Keeps step
 unfolding step
 step_keeps line t e =
     let u = both (a_form line) (λ f. f.1) t e in
-    let behind : length t.rest ≤ length u.first.rest =
+    let following : length t.rest ≤ length u.first.rest =
     operands_keep (read_row line u.first u.is) u.first.rest t u.second in
     let front : length u.first.rest ≤ length line = named_keeps form_word forms line u.first u.is in
-    omega (arith, behind, front)
+    omega (arith, following, front)
 
 -- a step on a line fits
-pub step_fits : (s : Step) (os : List Operand) → SaysStep s os → AllRanged os → FitsStep s
+pub step_fits : (s : Step) (os : List Operand) → EncodesStep s os → AllRanged os → FitsStep s
 step_fits s os h k = (step_lawful s).fits os h k
 
 -- a step that fits can be encoded, as it is printed
 pub operands_fit : (s : Step) → FitsStep s → AllFit (operands s)
 operands_fit s h = (step_lawful s).fit h
 
-pub step_printed : (s : Step) → SaysStep s (operands s)
+pub step_printed : (s : Step) → EncodesStep s (operands s)
 step_printed s = (step_lawful s).printed

@@ -5,11 +5,11 @@ use Rattle.edit_forms.specs.declared.step.Step.TheVariants as steps
 use Rattle.edit_forms.specs.declared.presets.PresetStep.TheVariants.{AddPreset}
 use Rattle.edit_forms.specs.declared.instruments.InstrumentStep.TheVariants.{AddInstrument}
 use Rattle.edit_forms.specs.declared.zones.ZoneStep.TheVariants.{AddZone}
-use Rattle.script_tokens.specs.Parts.{Part, ◌>>=◌}
+use Rattle.script_tokens.specs.Parsers.{Parser, ◌>>=◌}
 use Rattle.script_grammar.specs.Operands.{Operand, Fixed}
 use Rattle.script_grammar.specs.Names.{next_named}
 use Rattle.script_steps.specs.Forms.{Form, form_word}
-use Rattle.script_steps.specs.Members.{SaysOwner}
+use Rattle.script_steps.specs.Members.{EncodesOwner}
 use Rattle.script_steps.specs.Presets as presets
 use Rattle.script_steps.specs.Presets.{head_operands}
 use Rattle.script_steps.specs.Instruments as instruments
@@ -17,7 +17,7 @@ use Rattle.script_steps.specs.Instruments.{name_operands}
 use Rattle.script_steps.specs.Samples as samples
 use Rattle.script_steps.specs.Points as points
 use Rattle.script_steps.specs.Zones as zones
-use Rattle.script_steps.specs.Zones.{SaysZone}
+use Rattle.script_steps.specs.Zones.{EncodesZone}
 use Rattle.script_steps.specs.Settings as settings
 use Rattle.script_steps.specs.Texts as texts
 
@@ -49,11 +49,11 @@ abbrev pub operands : Step → List Operand
 operands s = (printed s).1
 
 -- operands that encode the step: zones have several forms, all other operands one
-abbrev pub SaysStep : Step → List Operand → Type 0
-SaysStep (steps.Preset (AddPreset at preset)) os = SaysOwner head_operands at preset os
-SaysStep (steps.Instrument (AddInstrument at instrument)) os = SaysOwner name_operands at instrument os
-SaysStep (steps.Zone o (AddZone at zone)) os = SaysZone o at zone os
-SaysStep step os = os ≡ operands step
+abbrev pub EncodesStep : Step → List Operand → Type 0
+EncodesStep (steps.Preset (AddPreset at preset)) os = EncodesOwner head_operands at preset os
+EncodesStep (steps.Instrument (AddInstrument at instrument)) os = EncodesOwner name_operands at instrument os
+EncodesStep (steps.Zone o (AddZone at zone)) os = EncodesZone o at zone os
+EncodesStep step os = os ≡ operands step
 
 -- the word and the operands that are printed for a step
 abbrev pub step_operands : Step → List Operand
@@ -62,11 +62,11 @@ step_operands s = Fixed (word_of s) ∷ operands s
 -- ---- the parser
 
 -- the form whose word is next
-abbrev pub a_form : Part Form
+abbrev pub a_form : Parser Form
 a_form = next_named form_word forms
 
 -- a step: the word of its form, and its operands
-unfoldable pub step : Part Step
+unfoldable pub step : Parser Step
 step = do
   form ← a_form
   form.1

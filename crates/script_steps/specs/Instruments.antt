@@ -5,37 +5,37 @@ use Rattle.edit_forms.specs.declared.step.Step.TheVariants as steps
 use Rattle.edit_forms.specs.declared.instruments.InstrumentStep.{InstrumentStep}
 use Rattle.edit_forms.specs.declared.instruments.InstrumentStep.TheVariants.{AddInstrument, RemoveInstrument}
 use Rattle.edit_forms.specs.declared.instruments.InstrumentStep.TheVariants.{RenameInstrument, MoveInstrument}
-use Rattle.script_tokens.specs.Parts.{Part, ◌>>=◌, pure, most_double_word, number}
+use Rattle.script_tokens.specs.Parsers.{Parser, ◌>>=◌, pure, most_double_word, number}
 use Rattle.script_grammar.specs.Operands.{Operand, Name}
 use Rattle.script_steps.specs.Forms.{Form}
-use Rattle.script_steps.specs.Members.{place, named_operands, moved_operands, printed_owner, naming, moving, owner}
+use Rattle.script_steps.specs.Members.{place, named_operands, moved_operands, printed_owner, indexed_name, index_pair, owner}
 
 -- `NAME`
 abbrev pub name_operands : List ℕ → List Operand
 name_operands name = Name name ∷ []
 
 -- `I NAME GLOBAL? ZONE*`
-unfoldable pub add_instrument : Part Step
+unfoldable pub add_instrument : Parser Step
 add_instrument = do
-  a ← owner naming
+  a ← owner indexed_name
   pure (steps.Instrument (AddInstrument a.0 a.1))
 
 -- `I`
-unfoldable pub remove_instrument : Part Step
+unfoldable pub remove_instrument : Parser Step
 remove_instrument = do
   i ← number most_double_word
   pure (steps.Instrument (RemoveInstrument i))
 
 -- `I NAME`
-unfoldable pub rename_instrument : Part Step
+unfoldable pub rename_instrument : Parser Step
 rename_instrument = do
-  n ← naming
+  n ← indexed_name
   pure (steps.Instrument (RenameInstrument n.0 n.1))
 
 -- `I J`
-unfoldable pub move_instrument : Part Step
+unfoldable pub move_instrument : Parser Step
 move_instrument = do
-  m ← moving
+  m ← index_pair
   pure (steps.Instrument (MoveInstrument m.0 m.1))
 
 -- the forms

@@ -9,4 +9,4 @@ pub mod Zones
 pub mod Settings
 pub mod Texts
 pub mod Grammar
-pub mod Spelling
+pub mod TextForm

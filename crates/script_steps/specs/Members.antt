@@ -2,8 +2,8 @@
 use Rattle.std.specs.Prelude.{◌≡◌, ℕ, List, [], ◌∷◌, ◌++◌}
 use Rattle.bank_parts.specs.declared.parts.GlobalZone.{GlobalZone}
 use Rattle.bank_parts.specs.declared.parts.Zone.{Zone}
-use Rattle.bank_parts.specs.declared.parts.WithZones.{WithZones}
-use Rattle.script_tokens.specs.Parts.{Part, ◌>>=◌, pure, most_double_word, number, name}
+use Rattle.bank_parts.specs.declared.parts.ZoneOwner.{ZoneOwner}
+use Rattle.script_tokens.specs.Parsers.{Parser, ◌>>=◌, pure, most_double_word, number, name}
 use Rattle.script_grammar.specs.Operands.{Operand, Number, Name}
 use Rattle.script_grammar.specs.Zones.{Written, written_operands, written_of, zones_in, zones}
 
@@ -26,12 +26,12 @@ abbrev pub owner_operands : ℕ → List Operand → Written → List Operand
 owner_operands at head written = (place at ∷ head) ++ written_operands written
 
 -- as it is printed
-abbrev pub printed_owner : {H : Type 0} → (H → List Operand) → ℕ → WithZones H → List Operand
+abbrev pub printed_owner : {H : Type 0} → (H → List Operand) → ℕ → ZoneOwner H → List Operand
 printed_owner head at x = owner_operands at (head x.head) (written_of x.global x.zones)
 
 -- operands that encode an added preset or instrument: the zones on the line have the value of its zones, in
 -- whatever form
-pub record SaysOwner {H : Type 0} (head : H → List Operand) (at : ℕ) (x : WithZones H) (os : List Operand) : Type 0
+pub record EncodesOwner {H : Type 0} (head : H → List Operand) (at : ℕ) (x : ZoneOwner H) (os : List Operand) : Type 0
   where
     pub written : Written
     pub operands : os ≡ owner_operands at (head x.head) written
@@ -40,32 +40,32 @@ pub record SaysOwner {H : Type 0} (head : H → List Operand) (at : ℕ) (x : Wi
 -- ---- parsers
 
 -- an index, and what follows it
-abbrev pub placed : {X : Type 0} → Part X → Part (ℕ × X)
+abbrev pub placed : {X : Type 0} → Parser X → Parser (ℕ × X)
 placed part = do
   i ← number most_double_word
   x ← part
   pure (i, x)
 
 -- `I NAME`
-unfoldable pub naming : Part (ℕ × List ℕ)
-naming = placed name
+unfoldable pub indexed_name : Parser (ℕ × List ℕ)
+indexed_name = placed name
 
 -- `I J`
-unfoldable pub moving : Part (ℕ × ℕ)
-moving = placed (number most_double_word)
+unfoldable pub index_pair : Parser (ℕ × ℕ)
+index_pair = placed (number most_double_word)
 
 -- an owner with this head, global zone and zones
-abbrev pub owner_of : {H : Type 0} → H → GlobalZone × List Zone → WithZones H
+abbrev pub owner_of : {H : Type 0} → H → GlobalZone × List Zone → ZoneOwner H
 owner_of head z = record { head = head; global = z.0; zones = z.1 }
 
 -- `GLOBAL? ZONE*` after a head
-unfoldable pub zones_of : {H : Type 0} → H → Part (WithZones H)
+unfoldable pub zones_of : {H : Type 0} → H → Parser (ZoneOwner H)
 zones_of head = do
   z ← zones
   pure (owner_of head z)
 
 -- an index and a head, and `GLOBAL? ZONE*`
-abbrev pub owner : {H : Type 0} → Part (ℕ × H) → Part (ℕ × WithZones H)
+abbrev pub owner : {H : Type 0} → Parser (ℕ × H) → Parser (ℕ × ZoneOwner H)
 owner part = do
   h ← part
   x ← zones_of h.1

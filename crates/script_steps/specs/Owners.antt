@@ -4,7 +4,7 @@ use Rattle.bank_changes.specs.declared.members.Owner.{Owner}
 use Rattle.bank_changes.specs.declared.members.Owner.TheVariants as owner
 use Rattle.bank_changes.specs.declared.members.Place.{Place}
 use Rattle.bank_changes.specs.declared.members.Place.TheVariants as there
-use Rattle.script_tokens.specs.Parts.{Part, ◌>>=◌, pure, is_next, word, most_double_word, number}
+use Rattle.script_tokens.specs.Parsers.{Parser, ◌>>=◌, pure, is_next, word, most_double_word, number}
 use Rattle.script_steps.specs.declared.owners.OwnerKind.{OwnerKind}
 use Rattle.script_steps.specs.declared.owners.OwnerKind.TheVariants as kind
 use Rattle.script_grammar.specs.Operands.{Operand, Fixed}
@@ -56,27 +56,27 @@ owner_with kind.Preset n = owner.Preset n
 owner_with kind.Instrument n = owner.Inst n
 
 -- `preset P` or `inst I`
-unfoldable pub an_owner : Part Owner
+unfoldable pub an_owner : Parser Owner
 an_owner = do
   k ← next_named kind_word kinds
   n ← number most_double_word
   pure (owner_with k n)
 
 -- any token but `global` is read as a number
-unfoldable pub a_place : Part Place
+unfoldable pub a_place : Parser Place
 a_place line =
     if is_next (codes "global") line then (word >>= λ w. pure there.Global) line
     else (number most_double_word >>= λ k. pure (there.Zone k)) line
 
 -- `OWNER K`
-unfoldable pub owner_zone : Part (Owner × ℕ)
+unfoldable pub owner_zone : Parser (Owner × ℕ)
 owner_zone = do
   o ← an_owner
   k ← number most_double_word
   pure (o, k)
 
 -- `OWNER PLACE`
-unfoldable pub owner_place : Part (Owner × Place)
+unfoldable pub owner_place : Parser (Owner × Place)
 owner_place = do
   o ← an_owner
   p ← a_place

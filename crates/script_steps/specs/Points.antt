@@ -5,14 +5,14 @@ use Rattle.edit_forms.specs.declared.step.Step.{Step}
 use Rattle.edit_forms.specs.declared.step.Step.TheVariants as steps
 use Rattle.edit_forms.specs.declared.points.PointStep.{PointStep}
 use Rattle.edit_forms.specs.declared.points.PointStep.TheVariants.{Trim, Extend, SetLoop, SetKind, SetTune}
-use Rattle.script_tokens.specs.Parts.{Part, ◌>>=◌, pure, most_double_word, number}
+use Rattle.script_tokens.specs.Parsers.{Parser, ◌>>=◌, pure, most_double_word, number}
 use Rattle.script_grammar.specs.Operands.{Operand, Number, Points}
 use Rattle.script_grammar.specs.Samples.{kind_operands, loop_operands, tune_operands, kind, looped, points, tune}
 use Rattle.script_steps.specs.Forms.{Form}
 use Rattle.script_steps.specs.Members.{place}
 
 -- `S F B`
-unfoldable pub trim : Part Step
+unfoldable pub trim : Parser Step
 trim = do
   s ← number most_double_word
   front ← number most_double_word
@@ -20,7 +20,7 @@ trim = do
   pure (steps.Points s (Trim front back))
 
 -- `S POINTS POINTS`
-unfoldable pub extend : Part Step
+unfoldable pub extend : Parser Step
 extend = do
   s ← number most_double_word
   front ← points
@@ -28,21 +28,21 @@ extend = do
   pure (steps.Points s (Extend front back))
 
 -- `S LOOP`
-unfoldable pub set_loop : Part Step
+unfoldable pub set_loop : Parser Step
 set_loop = do
   s ← number most_double_word
   l ← looped
   pure (steps.Points s (SetLoop l))
 
 -- `S KIND`
-unfoldable pub set_kind : Part Step
+unfoldable pub set_kind : Parser Step
 set_kind = do
   s ← number most_double_word
   k ← kind
   pure (steps.Points s (SetKind k))
 
 -- `S RATE KEY CORR`
-unfoldable pub set_tune : Part Step
+unfoldable pub set_tune : Parser Step
 set_tune = do
   s ← number most_double_word
   t ← tune

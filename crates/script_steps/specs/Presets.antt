@@ -5,10 +5,10 @@ use Rattle.edit_forms.specs.declared.step.Step.{Step}
 use Rattle.edit_forms.specs.declared.step.Step.TheVariants as steps
 use Rattle.edit_forms.specs.declared.presets.PresetStep.{PresetStep}
 use Rattle.edit_forms.specs.declared.presets.PresetStep.TheVariants.{AddPreset, RemovePreset, MovePreset, SetHead}
-use Rattle.script_tokens.specs.Parts.{Part, ◌>>=◌, pure, most_word, most_double_word, number, name}
+use Rattle.script_tokens.specs.Parsers.{Parser, ◌>>=◌, pure, most_word, most_double_word, number, name}
 use Rattle.script_grammar.specs.Operands.{Operand, Number, Name}
 use Rattle.script_steps.specs.Forms.{Form}
-use Rattle.script_steps.specs.Members.{place, named_operands, moved_operands, printed_owner, naming, moving}
+use Rattle.script_steps.specs.Members.{place, named_operands, moved_operands, printed_owner, indexed_name, index_pair}
 use Rattle.script_steps.specs.Members.{placed, owner}
 
 -- ---- a preset without its zones
@@ -25,7 +25,7 @@ head_of name number bank library genre morphology =
     record { name = name; number = number; bank = bank; library = library; genre = genre; morphology = morphology }
 
 -- `NAME NUMBER BANK LIBRARY GENRE MORPHOLOGY`
-unfoldable pub head : Part Head
+unfoldable pub head : Parser Head
 head = do
   n ← name
   program ← number most_word
@@ -36,33 +36,33 @@ head = do
   pure (head_of n program bank library genre morphology)
 
 -- `P NAME NUMBER BANK LIBRARY GENRE MORPHOLOGY`
-unfoldable pub placed_head : Part (ℕ × Head)
+unfoldable pub placed_head : Parser (ℕ × Head)
 placed_head = placed head
 
 -- ---- the forms
 
 -- `P NAME NUMBER BANK LIBRARY GENRE MORPHOLOGY GLOBAL? ZONE*`
-unfoldable pub add_preset : Part Step
+unfoldable pub add_preset : Parser Step
 add_preset = do
   a ← owner placed_head
   pure (steps.Preset (AddPreset a.0 a.1))
 
 -- `P`
-unfoldable pub remove_preset : Part Step
+unfoldable pub remove_preset : Parser Step
 remove_preset = do
   p ← number most_double_word
   pure (steps.Preset (RemovePreset p))
 
 -- `I J`
-unfoldable pub move_preset : Part Step
+unfoldable pub move_preset : Parser Step
 move_preset = do
-  m ← moving
+  m ← index_pair
   pure (steps.Preset (MovePreset m.0 m.1))
 
 -- `P NAME NUMBER BANK`
-unfoldable pub set_head : Part Step
+unfoldable pub set_head : Parser Step
 set_head = do
-  n ← naming
+  n ← indexed_name
   program ← number most_word
   bank ← number most_word
   pure (steps.Preset (SetHead n.0 n.1 program bank))

@@ -4,35 +4,35 @@ use Rattle.edit_forms.specs.declared.step.Step.{Step}
 use Rattle.edit_forms.specs.declared.step.Step.TheVariants as steps
 use Rattle.edit_forms.specs.declared.samples.SampleStep.{SampleStep}
 use Rattle.edit_forms.specs.declared.samples.SampleStep.TheVariants.{RenameSample, AddSample, RemoveSample, MoveSample}
-use Rattle.script_tokens.specs.Parts.{Part, ◌>>=◌, pure, most_double_word, number}
+use Rattle.script_tokens.specs.Parsers.{Parser, ◌>>=◌, pure, most_double_word, number}
 use Rattle.script_grammar.specs.Operands.{Operand}
 use Rattle.script_grammar.specs.Samples.{body_operands, body}
 use Rattle.script_steps.specs.Forms.{Form}
-use Rattle.script_steps.specs.Members.{place, named_operands, moved_operands, naming, moving}
+use Rattle.script_steps.specs.Members.{place, named_operands, moved_operands, indexed_name, index_pair}
 
 -- `S NAME`
-unfoldable pub rename_sample : Part Step
+unfoldable pub rename_sample : Parser Step
 rename_sample = do
-  n ← naming
+  n ← indexed_name
   pure (steps.Sample (RenameSample n.0 n.1))
 
 -- `S BODY`
-unfoldable pub add_sample : Part Step
+unfoldable pub add_sample : Parser Step
 add_sample = do
   s ← number most_double_word
   sample ← body
   pure (steps.Sample (AddSample s sample))
 
 -- `S`
-unfoldable pub remove_sample : Part Step
+unfoldable pub remove_sample : Parser Step
 remove_sample = do
   s ← number most_double_word
   pure (steps.Sample (RemoveSample s))
 
 -- `I J`
-unfoldable pub move_sample : Part Step
+unfoldable pub move_sample : Parser Step
 move_sample = do
-  m ← moving
+  m ← index_pair
   pure (steps.Sample (MoveSample m.0 m.1))
 
 -- the forms

@@ -7,7 +7,7 @@ use Rattle.edit_forms.specs.declared.step.Step.{Step}
 use Rattle.edit_forms.specs.declared.step.Step.TheVariants as steps
 use Rattle.edit_forms.specs.declared.settings.SettingStep.{SettingStep}
 use Rattle.edit_forms.specs.declared.settings.SettingStep.TheVariants.{SetGen, ClearGen, AddMod, RemoveMod, SetMod}
-use Rattle.script_tokens.specs.Parts.{Part, ◌>>=◌, pure, most_word, most_double_word, number}
+use Rattle.script_tokens.specs.Parsers.{Parser, ◌>>=◌, pure, most_word, most_double_word, number}
 use Rattle.script_grammar.specs.Operands.{Operand, Number}
 use Rattle.script_grammar.specs.Items.{generator_operands, modulator_operands, generator, modulator}
 use Rattle.script_steps.specs.Forms.{Form}
@@ -25,21 +25,21 @@ modulator_at_operands o p j m = index_operands o p j ++ modulator_operands m
 -- ---- the forms
 
 -- `OWNER PLACE OPERATOR AMOUNT`
-unfoldable pub set_gen : Part Step
+unfoldable pub set_gen : Parser Step
 set_gen = do
   p ← owner_place
   g ← generator
   pure (steps.Setting p.0 p.1 (SetGen g.0 g.1))
 
 -- `OWNER PLACE OPERATOR`
-unfoldable pub clear_gen : Part Step
+unfoldable pub clear_gen : Parser Step
 clear_gen = do
   p ← owner_place
   operator ← number most_word
   pure (steps.Setting p.0 p.1 (ClearGen operator))
 
 -- `OWNER PLACE J MOD`
-unfoldable pub add_mod : Part Step
+unfoldable pub add_mod : Parser Step
 add_mod = do
   p ← owner_place
   j ← number most_double_word
@@ -47,14 +47,14 @@ add_mod = do
   pure (steps.Setting p.0 p.1 (AddMod j m))
 
 -- `OWNER PLACE J`
-unfoldable pub remove_mod : Part Step
+unfoldable pub remove_mod : Parser Step
 remove_mod = do
   p ← owner_place
   j ← number most_double_word
   pure (steps.Setting p.0 p.1 (RemoveMod j))
 
 -- `OWNER PLACE J MOD`
-unfoldable pub set_mod : Part Step
+unfoldable pub set_mod : Parser Step
 set_mod = do
   p ← owner_place
   j ← number most_double_word

@@ -4,13 +4,13 @@ use Rattle.edit_forms.specs.declared.step.Step.{Step}
 use Rattle.edit_forms.specs.declared.step.Step.TheVariants as steps
 use Rattle.edit_forms.specs.declared.texts.TextStep.{TextStep}
 use Rattle.edit_forms.specs.declared.texts.TextStep.TheVariants.{SetInfo}
-use Rattle.script_tokens.specs.Parts.{Part, ◌>>=◌, pure, literal}
+use Rattle.script_tokens.specs.Parsers.{Parser, ◌>>=◌, pure, literal}
 use Rattle.script_grammar.specs.Operands.{Operand, Fixed, Text}
 use Rattle.script_grammar.specs.Texts.{id_word, info_id}
 use Rattle.script_steps.specs.Forms.{Form}
 
 -- `ID TEXT`
-unfoldable pub set_info : Part Step
+unfoldable pub set_info : Parser Step
 set_info = do
   id ← info_id
   text ← literal

@@ -7,7 +7,7 @@ use Rattle.edit_forms.specs.declared.step.Step.TheVariants as steps
 use Rattle.edit_forms.specs.declared.zones.ZoneStep.{ZoneStep}
 use Rattle.edit_forms.specs.declared.zones.ZoneStep.TheVariants.{AddZone, RemoveZone, MoveZone, SplitZone, JoinZone}
 use Rattle.edit_forms.specs.declared.zones.ZoneStep.TheVariants.{SetTarget}
-use Rattle.script_tokens.specs.Parts.{Part, ◌>>=◌, pure, most_word, most_double_word, number}
+use Rattle.script_tokens.specs.Parsers.{Parser, ◌>>=◌, pure, most_word, most_double_word, number}
 use Rattle.script_grammar.specs.Operands.{Operand, Fixed, Number}
 use Rattle.script_grammar.specs.Names.{next_named}
 use Rattle.script_grammar.specs.Ranges.{axis_word, axes, keep_word, keeps}
@@ -27,7 +27,7 @@ abbrev pub printed_zone : Owner → ℕ → Zone → List Operand
 printed_zone o k z = zone_at_operands o k (written_zone z)
 
 -- operands that encode an added zone: the zone on the line has the value of the zone, in whatever form
-pub record SaysZone (o : Owner) (k : ℕ) (z : Zone) (os : List Operand) : Type 0 where
+pub record EncodesZone (o : Owner) (k : ℕ) (z : Zone) (os : List Operand) : Type 0 where
   pub written : WrittenZone
   pub operands : os ≡ zone_at_operands o k written
   pub stands : zone_in written ≡ z
@@ -35,27 +35,27 @@ pub record SaysZone (o : Owner) (k : ℕ) (z : Zone) (os : List Operand) : Type 
 -- ---- the forms
 
 -- `OWNER K ZONE`
-unfoldable pub add_zone : Part Step
+unfoldable pub add_zone : Parser Step
 add_zone = do
   z ← owner_zone
   content ← zone
   pure (steps.Zone z.0 (AddZone z.1 content))
 
 -- `OWNER K`
-unfoldable pub remove_zone : Part Step
+unfoldable pub remove_zone : Parser Step
 remove_zone = do
   z ← owner_zone
   pure (steps.Zone z.0 (RemoveZone z.1))
 
 -- `OWNER I J`
-unfoldable pub move_zone : Part Step
+unfoldable pub move_zone : Parser Step
 move_zone = do
   z ← owner_zone
   to ← number most_double_word
   pure (steps.Zone z.0 (MoveZone z.1 to))
 
 -- `OWNER K key|vel M`
-unfoldable pub split_zone : Part Step
+unfoldable pub split_zone : Parser Step
 split_zone = do
   z ← owner_zone
   axis ← next_named axis_word axes
@@ -63,7 +63,7 @@ split_zone = do
   pure (steps.Zone z.0 (SplitZone z.1 axis at))
 
 -- `OWNER K key|vel keep|bare`
-unfoldable pub join_zone : Part Step
+unfoldable pub join_zone : Parser Step
 join_zone = do
   z ← owner_zone
   axis ← next_named axis_word axes
@@ -71,7 +71,7 @@ join_zone = do
   pure (steps.Zone z.0 (JoinZone z.1 axis keep))
 
 -- `OWNER K TARGET`
-unfoldable pub set_target : Part Step
+unfoldable pub set_target : Parser Step
 set_target = do
   z ← owner_zone
   target ← number most_word

@@ -4,19 +4,21 @@ ghost use Rattle.std.specs.List.{flat_map};
 ghost use Rattle.base_outputs.specs.Output.{Puts};
 ghost use Rattle.script_tokens.specs.Printing.{spaced};
 ghost use Rattle.script_grammar.specs.Operands.{pieces_of};
-ghost use Rattle.script_grammar.specs.Memory.{ReadsOrWants};
-ghost use Rattle.script_steps.specs.Forms.{form_in, ReadsForm, ReadsInPlace};
+ghost use Rattle.script_grammar.specs.Memory.{ReadsOrOutOfMemory};
+ghost use Rattle.script_steps.specs.Forms.{form_in, ReadsForm, ReadsWithoutAllocation};
 ghost use Rattle.script_steps.specs.Members.{place, printed_owner};
 ghost use Rattle.script_steps.specs.Instruments.{forms, printed, name_operands, add_instrument, remove_instrument, rename_instrument, move_instrument};
 
 use crate::by_word::by_word;
-use crate::members::{moving, naming, put_moving, put_naming, put_number, zones_of};
+use crate::members::{
+    index_pair, indexed_name, put_index_pair, put_indexed_name, put_number, zones_of,
+};
 use bank_parts::Instrument;
 use base_outputs::Output;
 use edit_forms::{InstrumentStep, Step};
 use script_grammar::put_zones;
 use script_tokens::{Cursor, LineFault, Piece, put_pieces};
-use sf_base::{Failure, Lent, Name20};
+use sf_base::{BorrowedBytes, Failure, Name20};
 use std::alloc::Global;
 use std::io::Write;
 
@@ -45,9 +47,9 @@ fn add_instrument<'p>(
     alloc: Global,
     line: &mut Cursor<'_, 'p>,
 ) -> Result<Step<'p>, Failure<LineFault>>
-    ensures { ReadsOrWants (λ s. s) add_instrument line.old line.new result }
+    ensures { ReadsOrOutOfMemory (λ s. s) add_instrument line.old line.new result }
 {
-    let (at, name) = naming(line)?;
+    let (at, name) = indexed_name(line)?;
     let instrument = zones_of(name, alloc, line)?;
     Ok(Step::Instrument(InstrumentStep::AddInstrument { at, instrument }))
 }
@@ -55,7 +57,7 @@ fn add_instrument<'p>(
 // `I`
 #[tactic(auto, unfolding(crate::specs::Instruments::remove_instrument))]
 fn remove_instrument<'p>(line: &mut Cursor<'_, 'p>) -> Result<Step<'p>, Failure<LineFault>>
-    ensures { ReadsInPlace remove_instrument line.old line.new result }
+    ensures { ReadsWithoutAllocation remove_instrument line.old line.new result }
 {
     let instrument = line.number(u32::MAX)?;
     Ok(Step::Instrument(InstrumentStep::RemoveInstrument { instrument }))
@@ -64,18 +66,18 @@ fn remove_instrument<'p>(line: &mut Cursor<'_, 'p>) -> Result<Step<'p>, Failure<
 // `I NAME`
 #[tactic(auto, unfolding(crate::specs::Instruments::rename_instrument))]
 fn rename_instrument<'p>(line: &mut Cursor<'_, 'p>) -> Result<Step<'p>, Failure<LineFault>>
-    ensures { ReadsInPlace rename_instrument line.old line.new result }
+    ensures { ReadsWithoutAllocation rename_instrument line.old line.new result }
 {
-    let (instrument, name) = naming(line)?;
+    let (instrument, name) = indexed_name(line)?;
     Ok(Step::Instrument(InstrumentStep::RenameInstrument { instrument, name }))
 }
 
 // `I J`
 #[tactic(auto, unfolding(crate::specs::Instruments::move_instrument))]
 fn move_instrument<'p>(line: &mut Cursor<'_, 'p>) -> Result<Step<'p>, Failure<LineFault>>
-    ensures { ReadsInPlace move_instrument line.old line.new result }
+    ensures { ReadsWithoutAllocation move_instrument line.old line.new result }
 {
-    let (from, to) = moving(line)?;
+    let (from, to) = index_pair(line)?;
     Ok(Step::Instrument(InstrumentStep::MoveInstrument { from, to }))
 }
 
@@ -101,12 +103,12 @@ pub(crate) fn put_instrument_step<W: Write>(step: &InstrumentStep, output: &mut 
             *at, instrument, output,
         ),
         InstrumentStep::RemoveInstrument { instrument } => put_number(*instrument, output),
-        InstrumentStep::RenameInstrument { instrument, name } => put_naming(
+        InstrumentStep::RenameInstrument { instrument, name } => put_indexed_name(
             *instrument,
             name,
             output,
         ),
-        InstrumentStep::MoveInstrument { from, to } => put_moving(*from, *to, output),
+        InstrumentStep::MoveInstrument { from, to } => put_index_pair(*from, *to, output),
     }
 }
 
@@ -123,6 +125,6 @@ fn put_placed_name<W: Write>(at: u32, name: &Name20, output: &mut Output<'_, W>)
     ensures { Puts W.contents output.old output.new (flat_map spaced (pieces_of (place at ∷ name_operands name.now))) }
 {
     let at = Piece::Number(u64::from(at));
-    let name = Piece::Name(Lent::new(name.bytes()));
+    let name = Piece::Name(BorrowedBytes::new(name.bytes()));
     put_pieces(&[at, name], output);
 }

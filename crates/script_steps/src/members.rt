@@ -2,26 +2,26 @@
 ghost use Rattle.std.specs.Prelude.{◌≡◌, ◌∷◌, []};
 ghost use Rattle.std.specs.List.{flat_map};
 ghost use Rattle.base_outputs.specs.Output.{Puts};
-ghost use Rattle.script_tokens.specs.Parts.{Reads};
+ghost use Rattle.script_tokens.specs.Parsers.{Reads};
 ghost use Rattle.script_tokens.specs.Printing.{spaced};
 ghost use Rattle.script_grammar.specs.Operands.{pieces_of};
-ghost use Rattle.script_grammar.specs.Memory.{ReadsOrWants};
-ghost use Rattle.script_steps.specs.Members.{place, named_operands, moved_operands, naming, moving, zones_of};
+ghost use Rattle.script_grammar.specs.Memory.{ReadsOrOutOfMemory};
+ghost use Rattle.script_steps.specs.Members.{place, named_operands, moved_operands, indexed_name, index_pair, zones_of};
 
-use bank_parts::WithZones;
+use bank_parts::ZoneOwner;
 use base_outputs::Output;
 use script_grammar::zones;
 use script_tokens::{Cursor, LineFault, Piece, put_pieces};
-use sf_base::{Failure, Lent, Name20};
+use sf_base::{BorrowedBytes, Failure, Name20};
 use std::alloc::Global;
 use std::io::Write;
 
 // ---- read
 
 // `I NAME`
-#[tactic(auto, unfolding(crate::specs::Members::naming))]
-pub(crate) fn naming(line: &mut Cursor<'_, '_>) -> Result<(u32, Name20), LineFault>
-    ensures { Reads (λ n. n) naming line.old line.new result }
+#[tactic(auto, unfolding(crate::specs::Members::indexed_name))]
+pub(crate) fn indexed_name(line: &mut Cursor<'_, '_>) -> Result<(u32, Name20), LineFault>
+    ensures { Reads (λ n. n) indexed_name line.old line.new result }
 {
     let number = line.number(u32::MAX)?;
     let name = line.name()?;
@@ -29,9 +29,9 @@ pub(crate) fn naming(line: &mut Cursor<'_, '_>) -> Result<(u32, Name20), LineFau
 }
 
 // `I J`
-#[tactic(auto, unfolding(crate::specs::Members::moving))]
-pub(crate) fn moving(line: &mut Cursor<'_, '_>) -> Result<(u32, u32), LineFault>
-    ensures { Reads (λ m. m) moving line.old line.new result }
+#[tactic(auto, unfolding(crate::specs::Members::index_pair))]
+pub(crate) fn index_pair(line: &mut Cursor<'_, '_>) -> Result<(u32, u32), LineFault>
+    ensures { Reads (λ m. m) index_pair line.old line.new result }
 {
     let from = line.number(u32::MAX)?;
     let to = line.number(u32::MAX)?;
@@ -44,11 +44,11 @@ pub(crate) fn zones_of<H: Copy>(
     head: H,
     alloc: Global,
     line: &mut Cursor<'_, '_>,
-) -> Result<WithZones<H>, Failure<LineFault>>
-    ensures { ReadsOrWants (λ x. x) (zones_of head) line.old line.new result }
+) -> Result<ZoneOwner<H>, Failure<LineFault>>
+    ensures { ReadsOrOutOfMemory (λ x. x) (zones_of head) line.old line.new result }
 {
     let (global, zones) = zones(alloc, line)?;
-    Ok(WithZones {
+    Ok(ZoneOwner {
         head,
         global,
         zones,
@@ -58,16 +58,16 @@ pub(crate) fn zones_of<H: Copy>(
 // ---- printed
 
 // `I NAME`, each token after a space
-pub(crate) fn put_naming<W: Write>(number: u32, name: &Name20, output: &mut Output<'_, W>)
+pub(crate) fn put_indexed_name<W: Write>(number: u32, name: &Name20, output: &mut Output<'_, W>)
     ensures { Puts W.contents output.old output.new (flat_map spaced (pieces_of (named_operands number name.now))) }
 {
     let number = Piece::Number(u64::from(number));
-    let name = Piece::Name(Lent::new(name.bytes()));
+    let name = Piece::Name(BorrowedBytes::new(name.bytes()));
     put_pieces(&[number, name], output);
 }
 
 // `I J`, each token after a space
-pub(crate) fn put_moving<W: Write>(from: u32, to: u32, output: &mut Output<'_, W>)
+pub(crate) fn put_index_pair<W: Write>(from: u32, to: u32, output: &mut Output<'_, W>)
     ensures { Puts W.contents output.old output.new (flat_map spaced (pieces_of (moved_operands from to))) }
 {
     let from = Piece::Number(u64::from(from));

@@ -1,6 +1,6 @@
 //! Owners of zones, and places in them.
 ghost use Rattle.std.specs.Prelude.{◌≡◌};
-ghost use Rattle.script_tokens.specs.Parts.{Reads};
+ghost use Rattle.script_tokens.specs.Parsers.{Reads};
 ghost use Rattle.script_grammar.specs.Operands.{piece_of};
 ghost use Rattle.script_grammar.specs.Operands as operand;
 ghost use Rattle.script_steps.specs.Members as member;
@@ -9,7 +9,7 @@ ghost use Rattle.script_steps.specs.Owners.{kind_word, kinds, kind_of, number_in
 use bank_changes::{Owner, Place};
 use script_grammar::{HasWord, next_named};
 use script_tokens::{Cursor, LineFault, Piece};
-use sf_base::Lent;
+use sf_base::BorrowedBytes;
 
 /// The two levels at which members have zones.
 #[derive(Debug, Clone, Copy)]
@@ -94,7 +94,7 @@ pub(crate) fn kind_piece(owner: Owner) -> Piece<'static>
         Owner::Preset(_) => OwnerKind::Preset,
         Owner::Inst(_) => OwnerKind::Instrument,
     };
-    Piece::Word(Lent::new(kind.word()))
+    Piece::Word(BorrowedBytes::new(kind.word()))
 }
 
 pub(crate) fn number_piece(owner: Owner) -> Piece<'static>
@@ -109,7 +109,7 @@ pub(crate) fn place_piece(place: Place) -> Piece<'static>
     ensures { result ≡ piece_of (at_place place) }
 {
     match place {
-        Place::Global => Piece::Word(Lent::new(b"global")),
+        Place::Global => Piece::Word(BorrowedBytes::new(b"global")),
         Place::Zone(zone) => Piece::Number(u64::from(zone)),
     }
 }

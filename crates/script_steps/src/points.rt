@@ -3,10 +3,10 @@ ghost use Rattle.std.specs.Prelude.{◌≡◌, ℕ, codes};
 ghost use Rattle.std.specs.List.{flat_map};
 ghost use Rattle.base_outputs.specs.Output.{Puts};
 ghost use Rattle.script_tokens.specs.Printing.{spaced};
-ghost use Rattle.script_grammar.specs.Memory.{ReadsOrWants};
+ghost use Rattle.script_grammar.specs.Memory.{ReadsOrOutOfMemory};
 ghost use Rattle.script_grammar.specs.Operands.{pieces_of};
 ghost use Rattle.edit_forms.specs.declared.points.PointStep.TheVariants.{Trim, Extend, SetLoop, SetKind, SetTune};
-ghost use Rattle.script_steps.specs.Forms.{form_in, ReadsForm, ReadsInPlace};
+ghost use Rattle.script_steps.specs.Forms.{form_in, ReadsForm, ReadsWithoutAllocation};
 ghost use Rattle.script_steps.specs.Members.{place};
 ghost use Rattle.script_steps.specs.Points.{forms, printed, trim, extend, set_loop, set_kind, set_tune};
 
@@ -45,7 +45,7 @@ pub(crate) fn point_step<'p>(
 // `S F B`
 #[tactic(auto, unfolding(crate::specs::Points::trim))]
 fn trim<'p>(line: &mut Cursor<'_, 'p>) -> Result<Step<'p>, Failure<LineFault>>
-    ensures { ReadsInPlace trim line.old line.new result }
+    ensures { ReadsWithoutAllocation trim line.old line.new result }
 {
     let sample = line.number(u32::MAX)?;
     let front = line.number(u32::MAX)?;
@@ -56,7 +56,7 @@ fn trim<'p>(line: &mut Cursor<'_, 'p>) -> Result<Step<'p>, Failure<LineFault>>
 // `S POINTS POINTS`
 #[tactic(auto, unfolding(crate::specs::Points::extend))]
 fn extend<'p>(alloc: Global, line: &mut Cursor<'_, 'p>) -> Result<Step<'p>, Failure<LineFault>>
-    ensures { ReadsOrWants (λ s. s) extend line.old line.new result }
+    ensures { ReadsOrOutOfMemory (λ s. s) extend line.old line.new result }
 {
     let sample = line.number(u32::MAX)?;
     let front = points(alloc, line)?;
@@ -67,7 +67,7 @@ fn extend<'p>(alloc: Global, line: &mut Cursor<'_, 'p>) -> Result<Step<'p>, Fail
 // `S LOOP`
 #[tactic(auto, unfolding(crate::specs::Points::set_loop))]
 fn set_loop<'p>(line: &mut Cursor<'_, 'p>) -> Result<Step<'p>, Failure<LineFault>>
-    ensures { ReadsInPlace set_loop line.old line.new result }
+    ensures { ReadsWithoutAllocation set_loop line.old line.new result }
 {
     let sample = line.number(u32::MAX)?;
     let looped = looped(line)?;
@@ -77,7 +77,7 @@ fn set_loop<'p>(line: &mut Cursor<'_, 'p>) -> Result<Step<'p>, Failure<LineFault
 // `S KIND`
 #[tactic(auto, unfolding(crate::specs::Points::set_kind))]
 fn set_kind<'p>(line: &mut Cursor<'_, 'p>) -> Result<Step<'p>, Failure<LineFault>>
-    ensures { ReadsInPlace set_kind line.old line.new result }
+    ensures { ReadsWithoutAllocation set_kind line.old line.new result }
 {
     let sample = line.number(u32::MAX)?;
     let kind = kind(line)?;
@@ -87,7 +87,7 @@ fn set_kind<'p>(line: &mut Cursor<'_, 'p>) -> Result<Step<'p>, Failure<LineFault
 // `S RATE KEY CORR`
 #[tactic(auto, unfolding(crate::specs::Points::set_tune))]
 fn set_tune<'p>(line: &mut Cursor<'_, 'p>) -> Result<Step<'p>, Failure<LineFault>>
-    ensures { ReadsInPlace set_tune line.old line.new result }
+    ensures { ReadsWithoutAllocation set_tune line.old line.new result }
 {
     let sample = line.number(u32::MAX)?;
     let (rate, key, correction) = tune(line)?;

@@ -2,23 +2,23 @@
 ghost use Rattle.std.specs.Prelude.{◌≡◌, ◌∷◌, codes};
 ghost use Rattle.std.specs.List.{flat_map};
 ghost use Rattle.base_outputs.specs.Output.{Puts};
-ghost use Rattle.script_tokens.specs.Parts.{Reads};
+ghost use Rattle.script_tokens.specs.Parsers.{Reads};
 ghost use Rattle.script_tokens.specs.Printing.{spaced};
 ghost use Rattle.script_grammar.specs.Operands.{pieces_of};
-ghost use Rattle.script_grammar.specs.Memory.{ReadsOrWants};
-ghost use Rattle.script_steps.specs.Forms.{form_in, ReadsForm, ReadsInPlace};
+ghost use Rattle.script_grammar.specs.Memory.{ReadsOrOutOfMemory};
+ghost use Rattle.script_steps.specs.Forms.{form_in, ReadsForm, ReadsWithoutAllocation};
 ghost use Rattle.script_steps.specs.Members.{place, printed_owner};
 ghost use Rattle.edit_forms.specs.declared.presets.PresetStep.TheVariants as variants;
 ghost use Rattle.script_steps.specs.Presets.{forms, printed, head_operands, head, placed_head, add_preset, remove_preset, move_preset, set_head};
 
 use crate::by_word::by_word;
-use crate::members::{moving, naming, put_moving, put_number, zones_of};
+use crate::members::{index_pair, indexed_name, put_index_pair, put_number, zones_of};
 use bank_parts::{Head, Preset};
 use base_outputs::Output;
 use edit_forms::{PresetStep, Step};
 use script_grammar::put_zones;
 use script_tokens::{Cursor, LineFault, Piece, put_pieces};
-use sf_base::{Failure, Lent, Name20};
+use sf_base::{BorrowedBytes, Failure, Name20};
 use std::alloc::Global;
 use std::io::Write;
 
@@ -44,7 +44,7 @@ pub(crate) fn preset_step<'p>(
 // `P NAME NUMBER BANK LIBRARY GENRE MORPHOLOGY GLOBAL? ZONE*`
 #[tactic(auto, unfolding(crate::specs::Presets::add_preset))]
 fn add_preset<'p>(alloc: Global, line: &mut Cursor<'_, 'p>) -> Result<Step<'p>, Failure<LineFault>>
-    ensures { ReadsOrWants (λ s. s) add_preset line.old line.new result }
+    ensures { ReadsOrOutOfMemory (λ s. s) add_preset line.old line.new result }
 {
     let (at, head) = placed_head(line)?;
     let preset = zones_of(head, alloc, line)?;
@@ -54,7 +54,7 @@ fn add_preset<'p>(alloc: Global, line: &mut Cursor<'_, 'p>) -> Result<Step<'p>, 
 // `P`
 #[tactic(auto, unfolding(crate::specs::Presets::remove_preset))]
 fn remove_preset<'p>(line: &mut Cursor<'_, 'p>) -> Result<Step<'p>, Failure<LineFault>>
-    ensures { ReadsInPlace remove_preset line.old line.new result }
+    ensures { ReadsWithoutAllocation remove_preset line.old line.new result }
 {
     let preset = line.number(u32::MAX)?;
     Ok(Step::Preset(PresetStep::RemovePreset { preset }))
@@ -63,18 +63,18 @@ fn remove_preset<'p>(line: &mut Cursor<'_, 'p>) -> Result<Step<'p>, Failure<Line
 // `I J`
 #[tactic(auto, unfolding(crate::specs::Presets::move_preset))]
 fn move_preset<'p>(line: &mut Cursor<'_, 'p>) -> Result<Step<'p>, Failure<LineFault>>
-    ensures { ReadsInPlace move_preset line.old line.new result }
+    ensures { ReadsWithoutAllocation move_preset line.old line.new result }
 {
-    let (from, to) = moving(line)?;
+    let (from, to) = index_pair(line)?;
     Ok(Step::Preset(PresetStep::MovePreset { from, to }))
 }
 
 // `P NAME NUMBER BANK`
 #[tactic(auto, unfolding(crate::specs::Presets::set_head))]
 fn set_head<'p>(line: &mut Cursor<'_, 'p>) -> Result<Step<'p>, Failure<LineFault>>
-    ensures { ReadsInPlace set_head line.old line.new result }
+    ensures { ReadsWithoutAllocation set_head line.old line.new result }
 {
-    let (preset, name) = naming(line)?;
+    let (preset, name) = indexed_name(line)?;
     let number = line.number(u32::from(u16::MAX))? as u16;
     let bank = line.number(u32::from(u16::MAX))? as u16;
     Ok(Step::Preset(PresetStep::SetHead {
@@ -136,7 +136,7 @@ pub(crate) fn put_preset_step<W: Write>(step: &PresetStep, output: &mut Output<'
     match step {
         PresetStep::AddPreset { at, preset } => put_add_preset(*at, preset, output),
         PresetStep::RemovePreset { preset } => put_number(*preset, output),
-        PresetStep::MovePreset { from, to } => put_moving(*from, *to, output),
+        PresetStep::MovePreset { from, to } => put_index_pair(*from, *to, output),
         PresetStep::SetHead {
             preset,
             name,
@@ -159,7 +159,7 @@ fn put_placed_head<W: Write>(at: u32, head: &Head, output: &mut Output<'_, W>)
     ensures { Puts W.contents output.old output.new (flat_map spaced (pieces_of (place at ∷ head_operands head.now))) }
 {
     let at = Piece::Number(u64::from(at));
-    let name = Piece::Name(Lent::new(head.name.bytes()));
+    let name = Piece::Name(BorrowedBytes::new(head.name.bytes()));
     let number = Piece::Number(u64::from(head.number));
     let bank = Piece::Number(u64::from(head.bank));
     let library = Piece::Number(u64::from(head.library));
@@ -181,7 +181,7 @@ fn put_set_head<W: Write>(
     ensures { Puts W.contents output.old output.new (flat_map spaced (pieces_of (printed (variants.SetHead preset name.now number bank)).1)) }
 {
     let preset = Piece::Number(u64::from(preset));
-    let name = Piece::Name(Lent::new(name.bytes()));
+    let name = Piece::Name(BorrowedBytes::new(name.bytes()));
     let number = Piece::Number(u64::from(number));
     let bank = Piece::Number(u64::from(bank));
     put_pieces(&[preset, name, number, bank], output);

@@ -3,15 +3,15 @@ ghost use Rattle.std.specs.Prelude.{◌≡◌, ◌∷◌, codes};
 ghost use Rattle.std.specs.List.{flat_map};
 ghost use Rattle.base_outputs.specs.Output.{Puts};
 ghost use Rattle.script_tokens.specs.Printing.{spaced};
-ghost use Rattle.script_grammar.specs.Memory.{ReadsOrWants};
+ghost use Rattle.script_grammar.specs.Memory.{ReadsOrOutOfMemory};
 ghost use Rattle.script_grammar.specs.Operands.{pieces_of};
 ghost use Rattle.script_grammar.specs.Samples.{body_operands};
-ghost use Rattle.script_steps.specs.Forms.{form_in, ReadsForm, ReadsInPlace};
+ghost use Rattle.script_steps.specs.Forms.{form_in, ReadsForm, ReadsWithoutAllocation};
 ghost use Rattle.script_steps.specs.Members.{place};
 ghost use Rattle.script_steps.specs.Samples.{forms, printed, rename_sample, add_sample, remove_sample, move_sample};
 
 use crate::by_word::by_word;
-use crate::members::{moving, naming, put_moving, put_naming, put_number};
+use crate::members::{index_pair, indexed_name, put_index_pair, put_indexed_name, put_number};
 use bank_parts::Sample;
 use base_outputs::Output;
 use edit_forms::{SampleStep, Step};
@@ -43,16 +43,16 @@ pub(crate) fn sample_step<'p>(
 // `S NAME`
 #[tactic(auto, unfolding(crate::specs::Samples::rename_sample))]
 fn rename_sample<'p>(line: &mut Cursor<'_, 'p>) -> Result<Step<'p>, Failure<LineFault>>
-    ensures { ReadsInPlace rename_sample line.old line.new result }
+    ensures { ReadsWithoutAllocation rename_sample line.old line.new result }
 {
-    let (sample, name) = naming(line)?;
+    let (sample, name) = indexed_name(line)?;
     Ok(Step::Sample(SampleStep::RenameSample { sample, name }))
 }
 
 // `S BODY`
 #[tactic(auto, unfolding(crate::specs::Samples::add_sample))]
 fn add_sample<'p>(alloc: Global, line: &mut Cursor<'_, 'p>) -> Result<Step<'p>, Failure<LineFault>>
-    ensures { ReadsOrWants (λ s. s) add_sample line.old line.new result }
+    ensures { ReadsOrOutOfMemory (λ s. s) add_sample line.old line.new result }
 {
     let at = line.number(u32::MAX)?;
     let sample = sample_body(alloc, line)?;
@@ -62,7 +62,7 @@ fn add_sample<'p>(alloc: Global, line: &mut Cursor<'_, 'p>) -> Result<Step<'p>, 
 // `S`
 #[tactic(auto, unfolding(crate::specs::Samples::remove_sample))]
 fn remove_sample<'p>(line: &mut Cursor<'_, 'p>) -> Result<Step<'p>, Failure<LineFault>>
-    ensures { ReadsInPlace remove_sample line.old line.new result }
+    ensures { ReadsWithoutAllocation remove_sample line.old line.new result }
 {
     let sample = line.number(u32::MAX)?;
     Ok(Step::Sample(SampleStep::RemoveSample { sample }))
@@ -71,9 +71,9 @@ fn remove_sample<'p>(line: &mut Cursor<'_, 'p>) -> Result<Step<'p>, Failure<Line
 // `I J`
 #[tactic(auto, unfolding(crate::specs::Samples::move_sample))]
 fn move_sample<'p>(line: &mut Cursor<'_, 'p>) -> Result<Step<'p>, Failure<LineFault>>
-    ensures { ReadsInPlace move_sample line.old line.new result }
+    ensures { ReadsWithoutAllocation move_sample line.old line.new result }
 {
-    let (from, to) = moving(line)?;
+    let (from, to) = index_pair(line)?;
     Ok(Step::Sample(SampleStep::MoveSample { from, to }))
 }
 
@@ -95,10 +95,10 @@ pub(crate) fn put_sample_step<W: Write>(step: &SampleStep<'_>, output: &mut Outp
     ensures { Puts W.contents output.old output.new (flat_map spaced (pieces_of (printed step.now).1)) }
 {
     match step {
-        SampleStep::RenameSample { sample, name } => put_naming(*sample, name, output),
+        SampleStep::RenameSample { sample, name } => put_indexed_name(*sample, name, output),
         SampleStep::AddSample { at, sample } => put_add_sample(*at, sample, output),
         SampleStep::RemoveSample { sample } => put_number(*sample, output),
-        SampleStep::MoveSample { from, to } => put_moving(*from, *to, output),
+        SampleStep::MoveSample { from, to } => put_index_pair(*from, *to, output),
     }
 }
 

@@ -5,7 +5,7 @@ ghost use Rattle.base_outputs.specs.Output.{Puts};
 ghost use Rattle.script_tokens.specs.Printing.{spaced};
 ghost use Rattle.script_grammar.specs.Operands.{pieces_of};
 ghost use Rattle.edit_forms.specs.declared.settings.SettingStep.TheVariants.{SetGen, ClearGen};
-ghost use Rattle.script_steps.specs.Forms.{form_in, ReadsForm, ReadsInPlace};
+ghost use Rattle.script_steps.specs.Forms.{form_in, ReadsForm, ReadsWithoutAllocation};
 ghost use Rattle.script_steps.specs.Owners.{of_place};
 ghost use Rattle.script_steps.specs.Settings.{forms, printed, index_operands, modulator_at_operands, set_gen, clear_gen, add_mod, remove_mod, set_mod};
 
@@ -42,7 +42,7 @@ pub(crate) fn setting_step<'p>(
 // `OWNER PLACE OPERATOR AMOUNT`
 #[tactic(auto, unfolding(crate::specs::Settings::set_gen))]
 fn set_gen<'p>(line: &mut Cursor<'_, 'p>) -> Result<Step<'p>, Failure<LineFault>>
-    ensures { ReadsInPlace set_gen line.old line.new result }
+    ensures { ReadsWithoutAllocation set_gen line.old line.new result }
 {
     let (owner, place) = owner_place(line)?;
     let (operator, amount) = generator(line)?;
@@ -52,7 +52,7 @@ fn set_gen<'p>(line: &mut Cursor<'_, 'p>) -> Result<Step<'p>, Failure<LineFault>
 // `OWNER PLACE OPERATOR`
 #[tactic(auto, unfolding(crate::specs::Settings::clear_gen))]
 fn clear_gen<'p>(line: &mut Cursor<'_, 'p>) -> Result<Step<'p>, Failure<LineFault>>
-    ensures { ReadsInPlace clear_gen line.old line.new result }
+    ensures { ReadsWithoutAllocation clear_gen line.old line.new result }
 {
     let (owner, place) = owner_place(line)?;
     let operator = line.number(u32::from(u16::MAX))? as u16;
@@ -62,7 +62,7 @@ fn clear_gen<'p>(line: &mut Cursor<'_, 'p>) -> Result<Step<'p>, Failure<LineFaul
 // `OWNER PLACE J MOD`
 #[tactic(auto, unfolding(crate::specs::Settings::add_mod))]
 fn add_mod<'p>(line: &mut Cursor<'_, 'p>) -> Result<Step<'p>, Failure<LineFault>>
-    ensures { ReadsInPlace add_mod line.old line.new result }
+    ensures { ReadsWithoutAllocation add_mod line.old line.new result }
 {
     let (owner, place) = owner_place(line)?;
     let index = line.number(u32::MAX)?;
@@ -73,7 +73,7 @@ fn add_mod<'p>(line: &mut Cursor<'_, 'p>) -> Result<Step<'p>, Failure<LineFault>
 // `OWNER PLACE J`
 #[tactic(auto, unfolding(crate::specs::Settings::remove_mod))]
 fn remove_mod<'p>(line: &mut Cursor<'_, 'p>) -> Result<Step<'p>, Failure<LineFault>>
-    ensures { ReadsInPlace remove_mod line.old line.new result }
+    ensures { ReadsWithoutAllocation remove_mod line.old line.new result }
 {
     let (owner, place) = owner_place(line)?;
     let index = line.number(u32::MAX)?;
@@ -83,7 +83,7 @@ fn remove_mod<'p>(line: &mut Cursor<'_, 'p>) -> Result<Step<'p>, Failure<LineFau
 // `OWNER PLACE J MOD`
 #[tactic(auto, unfolding(crate::specs::Settings::set_mod))]
 fn set_mod<'p>(line: &mut Cursor<'_, 'p>) -> Result<Step<'p>, Failure<LineFault>>
-    ensures { ReadsInPlace set_mod line.old line.new result }
+    ensures { ReadsWithoutAllocation set_mod line.old line.new result }
 {
     let (owner, place) = owner_place(line)?;
     let index = line.number(u32::MAX)?;

@@ -4,7 +4,7 @@ ghost use Rattle.std.specs.List.{flat_map};
 ghost use Rattle.base_outputs.specs.Output.{Puts};
 ghost use Rattle.script_tokens.specs.Printing.{spaced};
 ghost use Rattle.script_grammar.specs.Operands.{pieces_of};
-ghost use Rattle.script_grammar.specs.Memory.{ReadsOrWants};
+ghost use Rattle.script_grammar.specs.Memory.{ReadsOrOutOfMemory};
 ghost use Rattle.script_steps.specs.Forms.{form_in, ReadsForm};
 ghost use Rattle.script_steps.specs.Grammar.{forms, word_of, operands, step};
 
@@ -28,7 +28,7 @@ use std::io::Write;
 /// `OutOfMemory`.
 #[tactic(auto, unfolding(crate::specs::Grammar::step, crate::specs::Forms::ReadsForm, script_grammar::specs::Names::next_named))]
 pub fn step<'p>(alloc: Global, line: &mut Cursor<'_, 'p>) -> Result<Step<'p>, Failure<LineFault>>
-    ensures { ReadsOrWants (λ s. s) step line.old line.new result }
+    ensures { ReadsOrOutOfMemory (λ s. s) step line.old line.new result }
 {
     let word = line.word()?;
     match step_of_form(word, alloc, line) {

@@ -6,7 +6,7 @@ ghost use Rattle.script_tokens.specs.Printing.{spaced};
 ghost use Rattle.script_grammar.specs.Operands as operand;
 ghost use Rattle.script_grammar.specs.Operands.{pieces_of};
 ghost use Rattle.script_grammar.specs.Texts.{id_word};
-ghost use Rattle.script_steps.specs.Forms.{form_in, ReadsForm, ReadsInPlace};
+ghost use Rattle.script_steps.specs.Forms.{form_in, ReadsForm, ReadsWithoutAllocation};
 ghost use Rattle.script_steps.specs.Texts.{forms, printed, set_info};
 
 use crate::by_word::by_word;
@@ -15,7 +15,7 @@ use base_outputs::Output;
 use edit_forms::{Step, TextStep};
 use script_grammar::{HasWord, info_id};
 use script_tokens::{Cursor, LineFault, Piece, put_pieces};
-use sf_base::{Failure, Lent};
+use sf_base::{BorrowedBytes, Failure};
 use std::io::Write;
 
 // ---- read
@@ -36,10 +36,10 @@ pub(crate) fn text_step<'p>(
 // `ID TEXT`
 #[tactic(auto, unfolding(crate::specs::Texts::set_info))]
 fn set_info<'p>(line: &mut Cursor<'_, 'p>) -> Result<Step<'p>, Failure<LineFault>>
-    ensures { ReadsInPlace set_info line.old line.new result }
+    ensures { ReadsWithoutAllocation set_info line.old line.new result }
 {
     let id = info_id(line)?;
-    let text = Lent::new(line.literal()?);
+    let text = BorrowedBytes::new(line.literal()?);
     Ok(Step::Text(TextStep::SetInfo { id, text }))
 }
 
@@ -62,10 +62,10 @@ pub(crate) fn put_text_step<W: Write>(step: &TextStep<'_>, output: &mut Output<'
     }
 }
 
-fn put_set_info<W: Write>(id: InfoId, text: &Lent<'_>, output: &mut Output<'_, W>)
+fn put_set_info<W: Write>(id: InfoId, text: &BorrowedBytes<'_>, output: &mut Output<'_, W>)
     ensures { Puts W.contents output.old output.new (flat_map spaced (pieces_of (operand.Fixed (id_word id) ∷ operand.Text text.now ∷ []))) }
 {
-    let id = Piece::Word(Lent::new(id.word()));
-    let text = Piece::Name(Lent::new(text.bytes()));
+    let id = Piece::Word(BorrowedBytes::new(id.word()));
+    let text = Piece::Name(BorrowedBytes::new(text.bytes()));
     put_pieces(&[id, text], output);
 }

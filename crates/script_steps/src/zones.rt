@@ -4,9 +4,9 @@ ghost use Rattle.std.specs.List.{flat_map};
 ghost use Rattle.base_outputs.specs.Output.{Puts};
 ghost use Rattle.script_tokens.specs.Printing.{spaced};
 ghost use Rattle.script_grammar.specs.Operands.{pieces_of};
-ghost use Rattle.script_grammar.specs.Memory.{ReadsOrWants};
+ghost use Rattle.script_grammar.specs.Memory.{ReadsOrOutOfMemory};
 ghost use Rattle.edit_forms.specs.declared.zones.ZoneStep.TheVariants.{MoveZone, SplitZone, JoinZone, SetTarget};
-ghost use Rattle.script_steps.specs.Forms.{form_in, ReadsForm, ReadsInPlace};
+ghost use Rattle.script_steps.specs.Forms.{form_in, ReadsForm, ReadsWithoutAllocation};
 ghost use Rattle.script_steps.specs.Owners.{of_zone};
 ghost use Rattle.script_steps.specs.Zones.{forms, printed, printed_zone, add_zone, remove_zone, move_zone, split_zone, join_zone, set_target};
 
@@ -19,7 +19,7 @@ use base_outputs::Output;
 use edit_forms::{Step, ZoneStep};
 use script_grammar::{HasWord, next_named, put_zone, zone};
 use script_tokens::{Cursor, LineFault, Piece, put_pieces};
-use sf_base::{Failure, Lent};
+use sf_base::{BorrowedBytes, Failure};
 use std::alloc::Global;
 use std::io::Write;
 
@@ -47,7 +47,7 @@ pub(crate) fn zone_step<'p>(
 // `OWNER K ZONE`
 #[tactic(auto, unfolding(crate::specs::Zones::add_zone))]
 fn add_zone<'p>(alloc: Global, line: &mut Cursor<'_, 'p>) -> Result<Step<'p>, Failure<LineFault>>
-    ensures { ReadsOrWants (λ s. s) add_zone line.old line.new result }
+    ensures { ReadsOrOutOfMemory (λ s. s) add_zone line.old line.new result }
 {
     let (owner, at) = owner_zone(line)?;
     let zone = zone(alloc, line)?;
@@ -57,7 +57,7 @@ fn add_zone<'p>(alloc: Global, line: &mut Cursor<'_, 'p>) -> Result<Step<'p>, Fa
 // `OWNER K`
 #[tactic(auto, unfolding(crate::specs::Zones::remove_zone))]
 fn remove_zone<'p>(line: &mut Cursor<'_, 'p>) -> Result<Step<'p>, Failure<LineFault>>
-    ensures { ReadsInPlace remove_zone line.old line.new result }
+    ensures { ReadsWithoutAllocation remove_zone line.old line.new result }
 {
     let (owner, zone) = owner_zone(line)?;
     Ok(Step::Zone(owner, ZoneStep::RemoveZone { zone }))
@@ -66,7 +66,7 @@ fn remove_zone<'p>(line: &mut Cursor<'_, 'p>) -> Result<Step<'p>, Failure<LineFa
 // `OWNER I J`
 #[tactic(auto, unfolding(crate::specs::Zones::move_zone))]
 fn move_zone<'p>(line: &mut Cursor<'_, 'p>) -> Result<Step<'p>, Failure<LineFault>>
-    ensures { ReadsInPlace move_zone line.old line.new result }
+    ensures { ReadsWithoutAllocation move_zone line.old line.new result }
 {
     let (owner, from) = owner_zone(line)?;
     let to = line.number(u32::MAX)?;
@@ -76,7 +76,7 @@ fn move_zone<'p>(line: &mut Cursor<'_, 'p>) -> Result<Step<'p>, Failure<LineFaul
 // `OWNER K key|vel M`
 #[tactic(auto, unfolding(crate::specs::Zones::split_zone))]
 fn split_zone<'p>(line: &mut Cursor<'_, 'p>) -> Result<Step<'p>, Failure<LineFault>>
-    ensures { ReadsInPlace split_zone line.old line.new result }
+    ensures { ReadsWithoutAllocation split_zone line.old line.new result }
 {
     let (owner, zone) = owner_zone(line)?;
     let axis = next_named(line)?;
@@ -87,7 +87,7 @@ fn split_zone<'p>(line: &mut Cursor<'_, 'p>) -> Result<Step<'p>, Failure<LineFau
 // `OWNER K key|vel keep|bare`
 #[tactic(auto, unfolding(crate::specs::Zones::join_zone))]
 fn join_zone<'p>(line: &mut Cursor<'_, 'p>) -> Result<Step<'p>, Failure<LineFault>>
-    ensures { ReadsInPlace join_zone line.old line.new result }
+    ensures { ReadsWithoutAllocation join_zone line.old line.new result }
 {
     let (owner, zone) = owner_zone(line)?;
     let axis = next_named(line)?;
@@ -98,7 +98,7 @@ fn join_zone<'p>(line: &mut Cursor<'_, 'p>) -> Result<Step<'p>, Failure<LineFaul
 // `OWNER K TARGET`
 #[tactic(auto, unfolding(crate::specs::Zones::set_target))]
 fn set_target<'p>(line: &mut Cursor<'_, 'p>) -> Result<Step<'p>, Failure<LineFault>>
-    ensures { ReadsInPlace set_target line.old line.new result }
+    ensures { ReadsWithoutAllocation set_target line.old line.new result }
 {
     let (owner, zone) = owner_zone(line)?;
     let target = line.number(u32::from(u16::MAX))? as u16;
@@ -164,7 +164,7 @@ fn put_split_zone<W: Write>(owner: Owner, zone: u32, axis: Axis, at: u8, output:
     ensures { Puts W.contents output.old output.new (flat_map spaced (pieces_of (printed owner (SplitZone zone axis at)).1)) }
 {
     let zone = Piece::Number(u64::from(zone));
-    let axis = Piece::Word(Lent::new(axis.word()));
+    let axis = Piece::Word(BorrowedBytes::new(axis.word()));
     let at = Piece::Number(u64::from(at));
     put_pieces(
         &[kind_piece(owner), number_piece(owner), zone, axis, at],
@@ -182,8 +182,8 @@ fn put_join_zone<W: Write>(
     ensures { Puts W.contents output.old output.new (flat_map spaced (pieces_of (printed owner (JoinZone zone axis keep)).1)) }
 {
     let zone = Piece::Number(u64::from(zone));
-    let axis = Piece::Word(Lent::new(axis.word()));
-    let keep = Piece::Word(Lent::new(keep.word()));
+    let axis = Piece::Word(BorrowedBytes::new(axis.word()));
+    let keep = Piece::Word(BorrowedBytes::new(keep.word()));
     put_pieces(
         &[kind_piece(owner), number_piece(owner), zone, axis, keep],
         output,

@@ -3,18 +3,18 @@ use Rattle.std.proofs.Common.{◌≡◌, ◌≤◌, ℕ, suc, Bool, true, false,
 use Rattle.std.proofs.Common.{refl, sym, ◌∙◌, arith}
 use Rattle.sf_base.specs.declared.memory.Failure.{Failure}
 use Rattle.sf_base.specs.declared.memory.Failure.TheVariants as failures
-use Rattle.script_tokens.specs.declared.cursor.Said.{Said}
+use Rattle.script_tokens.specs.declared.cursor.TokenValue.{TokenValue}
 use Rattle.script_tokens.specs.declared.fault.ScriptFault.{ScriptFault}
 use Rattle.script_tokens.specs.Lines.{lines_of, onto, is_feed}
-use Rattle.script_tokens.specs.Pool.{Grown, Fails, and_then, gather, literal_of, literals_of}
+use Rattle.script_tokens.specs.Pool.{ListOrFault, Fails, and_then, gather, literal_of, literals_of}
 
-pub gather_none : {X F : Type 0} (f : ℕ → List Said → List X → Result (List X) F) (n : ℕ) (xs : List X)
+pub gather_none : {X F : Type 0} (f : ℕ → List TokenValue → List X → Result (List X) F) (n : ℕ) (xs : List X)
     → gather f n [] xs ≡ Ok xs
 unfolding gather
 gather_none f n xs = refl
 
-pub gather_on : {X F : Type 0} (f : ℕ → List Said → List X → Result (List X) F) (n : ℕ) (l : List Said)
-    (ls : List (List Said)) (xs : List X)
+pub gather_on : {X F : Type 0} (f : ℕ → List TokenValue → List X → Result (List X) F) (n : ℕ) (l : List TokenValue)
+    (ls : List (List TokenValue)) (xs : List X)
     → gather f n (l ∷ ls) xs ≡ and_then (f n l xs) (λ ys. gather f (suc n) ls ys)
 unfolding gather
 gather_on f n l ls xs = refl
@@ -23,51 +23,51 @@ pub literals_none : (n : ℕ) (pool : List ℕ) → literals_of n [] pool ≡ Ok
 unfolding literals_of
 literals_none n pool = refl
 
-pub literals_on : (n : ℕ) (s : Said) (line : List Said) (pool : List ℕ)
+pub literals_on : (n : ℕ) (s : TokenValue) (line : List TokenValue) (pool : List ℕ)
     → literals_of n (s ∷ line) pool ≡ and_then (literal_of n s pool) (λ more. literals_of n line more)
 unfolding literals_of
 literals_on n s line pool = refl
 
 -- ---- in a loop over lines, the remaining lines add to the list so far what completes the whole
 
-pub lines_on : {X F : Type 0} (f : ℕ → List Said → List X → Result (List X) F) (n m : ℕ) (xs ys : List X)
-    (l : List Said) (ls all : List (List Said)) (whole : Result (List X) F)
+pub lines_on : {X F : Type 0} (f : ℕ → List TokenValue → List X → Result (List X) F) (n m : ℕ) (xs ys : List X)
+    (l : List TokenValue) (ls all : List (List TokenValue)) (whole : Result (List X) F)
     → m ≡ suc n → all ≡ l ∷ ls
     → gather f n all xs ≡ whole → f n l xs ≡ Ok ys → gather f m ls ys ≡ whole
 lines_on f n m xs ys l ls all whole em e h a =
     let on = gather_on f n l ls xs in
     rw em (rw (e, on, a) at h)
 
-pub lines_stop : {X F : Type 0} (f : ℕ → List Said → List X → Result (List X) F) (n : ℕ) (xs : List X)
-    (l : List Said) (ls all : List (List Said)) (whole : Result (List X) F) (d : F)
+pub lines_stop : {X F : Type 0} (f : ℕ → List TokenValue → List X → Result (List X) F) (n : ℕ) (xs : List X)
+    (l : List TokenValue) (ls all : List (List TokenValue)) (whole : Result (List X) F) (d : F)
     → all ≡ l ∷ ls
     → gather f n all xs ≡ whole → f n l xs ≡ Err d → whole ≡ Err d
 lines_stop f n xs l ls all whole d e h a =
     let on = gather_on f n l ls xs in
     sym (rw (e, on, a) at h)
 
-pub lines_over : {X F : Type 0} (f : ℕ → List Said → List X → Result (List X) F) (n : ℕ) (xs : List X)
-    (all : List (List Said)) (whole : Result (List X) F)
+pub lines_over : {X F : Type 0} (f : ℕ → List TokenValue → List X → Result (List X) F) (n : ℕ) (xs : List X)
+    (all : List (List TokenValue)) (whole : Result (List X) F)
     → all ≡ []
     → gather f n all xs ≡ whole → whole ≡ Ok xs
 lines_over f n xs all whole e h = sym (rw e at h) ∙ gather_none f n xs
 
 -- ---- the literals of a line
 
-pub literals_taken : (n : ℕ) (pool more : List ℕ) (s : Said) (line all : List Said) (whole : Grown ℕ) → all ≡ s ∷ line
+pub literals_taken : (n : ℕ) (pool more : List ℕ) (s : TokenValue) (line all : List TokenValue) (whole : ListOrFault ℕ) → all ≡ s ∷ line
     → literals_of n all pool ≡ whole → literal_of n s pool ≡ Ok more → literals_of n line more ≡ whole
 literals_taken n pool more s line all whole e h a =
     let on = literals_on n s line pool in
     rw (e, on, a) at h
 
-pub literals_stop : (n : ℕ) (pool : List ℕ) (s : Said) (line all : List Said) (whole : Grown ℕ) (d : ScriptFault)
+pub literals_stop : (n : ℕ) (pool : List ℕ) (s : TokenValue) (line all : List TokenValue) (whole : ListOrFault ℕ) (d : ScriptFault)
     → all ≡ s ∷ line
     → literals_of n all pool ≡ whole → literal_of n s pool ≡ Err d → whole ≡ Err d
 literals_stop n pool s line all whole d e h a =
     let on = literals_on n s line pool in
     sym (rw (e, on, a) at h)
 
-pub literals_over : (n : ℕ) (pool : List ℕ) (all : List Said) (whole : Grown ℕ) → all ≡ []
+pub literals_over : (n : ℕ) (pool : List ℕ) (all : List TokenValue) (whole : ListOrFault ℕ) → all ≡ []
     → literals_of n all pool ≡ whole → whole ≡ Ok pool
 literals_over n pool all whole e h = sym (rw e at h) ∙ literals_none n pool
 

@@ -4,6 +4,6 @@ pub mod PoolLaws
 pub mod NameLaws
 pub mod GatherLaws
 pub mod PrintLaws
-pub mod SpellLaws
+pub mod CompletenessLaws
 pub mod ReadLaws
 pub mod PieceLaws

@@ -10,7 +10,7 @@ use Rattle.std.proofs.lemmas.Grind.{common_steps}
 use Rattle.sf_base.specs.Names.{IsTextByte, IsName}
 use Rattle.sf_base.specs.declared.name.NameFault.{NameFault}
 use Rattle.sf_base.specs.declared.name.NameFault.TheVariants.{TooLong, ZeroByte}
-use Rattle.script_tokens.specs.Parts.{is_name, name_of}
+use Rattle.script_tokens.specs.Parsers.{is_name, name_of}
 
 abbrev above_zero : ℕ → Bool
 above_zero b = nat_lt 0 b

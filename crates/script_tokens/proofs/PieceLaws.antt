@@ -14,16 +14,16 @@ use Rattle.std.proofs.lemmas.Fmt.{digits_decimal, digits_value-decimal, length-d
 use Rattle.hex.specs.Hex.{encode_lower, is_hex_digit, IsBytes}
 use Rattle.hex.proofs.HexLemmas.{decode_of-ok, decode_of-encode_lower}
 use Rattle.sf_base.specs.Names.{IsTextByte, IsName}
-use Rattle.script_tokens.specs.declared.cursor.Said.{Said}
-use Rattle.script_tokens.specs.declared.cursor.Said.TheVariants as says
+use Rattle.script_tokens.specs.declared.cursor.TokenValue.{TokenValue}
+use Rattle.script_tokens.specs.declared.cursor.TokenValue.TheVariants as says
 use Rattle.script_tokens.specs.declared.printing.Piece.{Piece}
 use Rattle.script_tokens.specs.declared.printing.Piece.TheVariants.{Number, Signed, Range, Word, Name, Hex}
 use Rattle.script_tokens.specs.Lines.{lines_of, onto, is_feed}
 use Rattle.script_tokens.specs.Tokens.{ends_well}
-use Rattle.script_tokens.specs.Parts.{is_digit}
-use Rattle.script_tokens.specs.Printing.{is_open, hex_literal, name_text, spelled, spaced, line_text}
-use Rattle.script_tokens.specs.Spelling.{is_word, not_blank, IsQuoted, Shows, LineSays, Writes, WritesSigned}
-use Rattle.script_tokens.specs.Spelling.{WritesRange, IsWithin}
+use Rattle.script_tokens.specs.Parsers.{is_digit}
+use Rattle.script_tokens.specs.Printing.{is_quotable, hex_literal, name_text, piece_text, spaced, line_text}
+use Rattle.script_tokens.specs.TextForm.{is_word, not_blank, IsQuoted, Shows, LineHasValues, Writes, WritesSigned}
+use Rattle.script_tokens.specs.TextForm.{WritesRange, IsWithin}
 use Rattle.script_tokens.proofs.TestLaws.{not_true, list_all_weaker, differs, not_feed, no_blank_of, not_blank_of}
 use Rattle.script_tokens.proofs.TestLaws.{not_feed_of}
 use Rattle.script_tokens.proofs.LexLaws.{lines_yes, lines_no}
@@ -98,7 +98,7 @@ writes_range low high h k =
     record {
       before =
           decimal low;
-      behind =
+      bytes_after =
           decimal high;
       parts =
           refl;
@@ -131,15 +131,15 @@ hex_feed : (bytes : List ℕ) → IsBytes bytes → list_all not_feed (hex_liter
 hex_feed bytes h =
     list_all_weaker is_hex_digit not_feed (not_feed_of is_hex_digit refl) (encode_lower bytes) (hex_digits bytes h)
 
-quotes_feed : (bytes : List ℕ) → list_all is_open bytes ≡ true → list_all not_feed (34 ∷ bytes ++ 34 ∷ []) ≡ true
+quotes_feed : (bytes : List ℕ) → list_all is_quotable bytes ≡ true → list_all not_feed (34 ∷ bytes ++ 34 ∷ []) ≡ true
 quotes_feed bytes h =
     list_all-append not_feed bytes (34 ∷ [])
-    ∙ and_from _ _ (list_all_weaker is_open not_feed (not_feed_of is_open refl) bytes h) refl
+    ∙ and_from _ _ (list_all_weaker is_quotable not_feed (not_feed_of is_quotable refl) bytes h) refl
 
 -- ---- pieces
 
 -- the value of a piece
-abbrev pub meant : Piece → Said
+abbrev pub meant : Piece → TokenValue
 meant (Number n) = says.Word (decimal n)
 meant (Name bytes) = says.Literal bytes
 meant (Word bytes) = says.Word bytes
@@ -149,18 +149,18 @@ meant (Hex bytes) = says.Literal bytes
 
 -- a piece has its value as a token, and contains no line feed
 pub record Spoken (p : Piece) : Type 0 where
-  pub shows : Shows (spelled p) (meant p)
-  pub no_feed : list_all not_feed (spelled p) ≡ true
+  pub shows : Shows (piece_text p) (meant p)
+  pub no_feed : list_all not_feed (piece_text p) ≡ true
 
 pub spoken_number : (n : ℕ) → n < 2 ^ 32 → Spoken (Number n)
-unfolding spelled
+unfolding piece_text
 spoken_number n h = record {
   shows = (refl, word_of is_digit refl refl refl refl refl refl (decimal n) (some_digits n h) (all_digits n h));
   no_feed = list_all_weaker is_digit not_feed (not_feed_of is_digit refl) (decimal n) (all_digits n h);
 }
 
 spoken_minus : (n : ℕ) → suc n < 2 ^ 32 → Spoken (Signed (negsuc n))
-unfolding spelled
+unfolding piece_text
 spoken_minus n h =
     let digits = all_digits (suc n) h in
     let blanks = list_all_weaker is_digit not_blank (not_blank_of is_digit refl refl refl) (decimal (suc n)) digits in
@@ -168,7 +168,7 @@ spoken_minus n h =
     record { shows = (refl, rw blanks refl); no_feed = rw feeds refl }
 
 spoken_plus : (n : ℕ) → n < 2 ^ 32 → Spoken (Signed (pos n))
-unfolding spelled
+unfolding piece_text
 spoken_plus n h = let s = spoken_number n h in record { shows = s.shows; no_feed = s.no_feed }
 
 pub spoken_signed : (limit : ℕ) (z : ℤ) → IsWithin limit z → limit < 2 ^ 16 → Spoken (Signed z)
@@ -189,7 +189,7 @@ range_in_range low high h k =
     (list_all_weaker is_digit in_range digit_in_range (decimal high) (all_digits high k))
 
 pub spoken_range : (low high : ℕ) → low ≤ 255 → high ≤ 255 → Spoken (Range low high)
-unfolding spelled
+unfolding piece_text
 spoken_range low high h k =
     let all = range_in_range low high (omega (arith, h)) (omega (arith, k)) in
     let some : 0 < length (range_text low high) = omega (arith, length-append (decimal low) (46 ∷ 46 ∷ decimal high)) in
@@ -199,7 +199,7 @@ spoken_range low high h k =
     }
 
 pub spoken_hex : (bytes : List ℕ) → IsBytes bytes → Spoken (Hex bytes)
-unfolding spelled
+unfolding piece_text
 spoken_hex bytes h =
     record {
       shows =
@@ -208,12 +208,12 @@ spoken_hex bytes h =
           hex_feed bytes h;
     }
 
-name_quoted : (bytes : List ℕ) → list_all is_open bytes ≡ true → 34 ∷ bytes ++ 34 ∷ [] ≡ name_text bytes
+name_quoted : (bytes : List ℕ) → list_all is_quotable bytes ≡ true → 34 ∷ bytes ++ 34 ∷ [] ≡ name_text bytes
 unfolding name_text
 name_quoted bytes e = rw e refl
 
-bytes_spoken : (bytes : List ℕ) (t : Bool) → list_all is_open bytes ≡ t → IsBytes bytes → Spoken (Name bytes)
-unfolding spelled name_text
+bytes_spoken : (bytes : List ℕ) (t : Bool) → list_all is_quotable bytes ≡ t → IsBytes bytes → Spoken (Name bytes)
+unfolding piece_text name_text
 bytes_spoken bytes true e h =
     record {
       shows =
@@ -232,7 +232,7 @@ bytes_spoken bytes false e h =
     }
 
 pub spoken_bytes : (bytes : List ℕ) → IsBytes bytes → Spoken (Name bytes)
-spoken_bytes bytes h = bytes_spoken bytes (list_all is_open bytes) refl h
+spoken_bytes bytes h = bytes_spoken bytes (list_all is_quotable bytes) refl h
 
 pub spoken_name : (bytes : List ℕ) → IsName bytes → Spoken (Name bytes)
 spoken_name bytes h = spoken_bytes bytes (name_bytes bytes h.1)
@@ -241,7 +241,7 @@ abbrev pub AllSpoken : List Piece → Type 0
 AllSpoken ps = AllByRecursion Spoken ps
 
 pub spoken_word : (w : List ℕ) → is_word w ≡ true → list_all not_feed w ≡ true → Spoken (Word w)
-unfolding spelled
+unfolding piece_text
 spoken_word w h f = record { shows = (refl, h); no_feed = f }
 
 -- ---- lines
@@ -250,12 +250,12 @@ spaced_ends : (ps : List Piece) → ends_well (flat_map spaced ps) ≡ true
 spaced_ends [] = refl
 spaced_ends (p ∷ ps) = refl
 
-spaced_said : (ps : List Piece) → AllSpoken ps → LineSays (flat_map spaced ps) (map meant ps)
+spaced_said : (ps : List Piece) → AllSpoken ps → LineHasValues (flat_map spaced ps) (map meant ps)
 spaced_said [] h = record { blanks = []; rest = []; parts = refl; blank = refl; silent = refl }
 spaced_said (p ∷ ps) h = (
   flat_map spaced ps,
   record
-      { blanks = 32 ∷ []; token = spelled p; parts = refl; blank = refl; shows = h.0.shows; apart = spaced_ends ps },
+      { blanks = 32 ∷ []; token = piece_text p; parts = refl; blank = refl; shows = h.0.shows; apart = spaced_ends ps },
   spaced_said ps h.1,
 )
 
@@ -269,7 +269,7 @@ abbrev pub line : List ℕ → List Piece → List ℕ
 line w ps = w ++ flat_map spaced ps
 
 pub line_says : (w : List ℕ) (ps : List Piece) → is_word w ≡ true → AllSpoken ps
-    → LineSays (line w ps) (says.Word w ∷ map meant ps)
+    → LineHasValues (line w ps) (says.Word w ∷ map meant ps)
 line_says w ps h s = (
   flat_map spaced ps,
   record { blanks = []; token = w; parts = refl; blank = refl; shows = (refl, h); apart = spaced_ends ps },

@@ -8,36 +8,36 @@ use Rattle.hex.specs.declared.error.FromHexError.{FromHexError}
 use Rattle.hex.proofs.HexLemmas.{decode_of-ok}
 use Rattle.script_tokens.specs.declared.tokens.Token.{Token}
 use Rattle.script_tokens.specs.declared.tokens.Token.TheVariants.{Plain, Quoted, Broken}
-use Rattle.script_tokens.specs.declared.cursor.Said.{Said}
-use Rattle.script_tokens.specs.declared.cursor.Said.TheVariants.{Word, Literal, Bad}
+use Rattle.script_tokens.specs.declared.cursor.TokenValue.{TokenValue}
+use Rattle.script_tokens.specs.declared.cursor.TokenValue.TheVariants.{Word, Literal, Malformed}
 use Rattle.script_tokens.specs.Lines.{lines_of}
 use Rattle.script_tokens.specs.Tokens.{tokens_of}
-use Rattle.script_tokens.specs.Said.{is_plain, is_hex, decoded, said, said_in, said_lines, size_of, said_over}
-use Rattle.script_tokens.specs.Said.{all_said_over, pool_after, lines_said_over}
-use Rattle.script_tokens.specs.Pool.{Grown, and_then, gather, literal_of, literals_of, pool_bytes}
+use Rattle.script_tokens.specs.TokenValue.{is_plain, is_hex, decoded, said, values_in, values_of_lines, size_of, value_over}
+use Rattle.script_tokens.specs.TokenValue.{values_over, pool_after, line_values_over}
+use Rattle.script_tokens.specs.Pool.{ListOrFault, and_then, gather, literal_of, literals_of, pool_bytes}
 
 -- ---- the cursor
 
-pub pool_at_end : (pool : List ℕ) (ts : List Token) → all_said_over pool ts ≡ [] → pool ≡ pool_after pool ts
+pub pool_at_end : (pool : List ℕ) (ts : List Token) → values_over pool ts ≡ [] → pool ≡ pool_after pool ts
 pool_at_end pool [] e = refl
 pool_at_end pool (t ∷ ts) e = cc
 
-pub lines_said_on : (pool behind : List ℕ) (l : List ℕ) (ls all : List (List ℕ))
-    → behind ≡ pool_after pool (tokens_of l) → all ≡ l ∷ ls
-    → lines_said_over pool all ≡ all_said_over pool (tokens_of l) ∷ lines_said_over behind ls
-lines_said_on pool behind l ls all b e = rw (e, b) refl
+pub lines_said_on : (pool bytes_after : List ℕ) (l : List ℕ) (ls all : List (List ℕ))
+    → bytes_after ≡ pool_after pool (tokens_of l) → all ≡ l ∷ ls
+    → line_values_over pool all ≡ values_over pool (tokens_of l) ∷ line_values_over bytes_after ls
+lines_said_on pool bytes_after l ls all b e = rw (e, b) refl
 
-pub lines_said_end : (pool : List ℕ) (all : List (List ℕ)) → all ≡ [] → lines_said_over pool all ≡ []
+pub lines_said_end : (pool : List ℕ) (all : List (List ℕ)) → all ≡ [] → line_values_over pool all ≡ []
 lines_said_end pool all e = rw e refl
 
 -- ---- both results are values
 
-pub record Through {X : Type 0} (r : Grown X) (f : List X → Grown X) (ys : List X) : Type 0 where
+pub record Through {X : Type 0} (r : ListOrFault X) (f : List X → ListOrFault X) (ys : List X) : Type 0 where
   pub between : List X
   pub first : r ≡ Ok between
   pub second : f between ≡ Ok ys
 
-pub through : {X : Type 0} (r : Grown X) (f : List X → Grown X) (ys : List X) → and_then r f ≡ Ok ys → Through r f ys
+pub through : {X : Type 0} (r : ListOrFault X) (f : List X → ListOrFault X) (ys : List X) → and_then r f ≡ Ok ys → Through r f ys
 through (Ok xs) f ys e = record { between = xs; first = refl; second = e }
 through (Err d) f ys e = cc
 
@@ -47,7 +47,7 @@ pub record Lends (t : Token) (pool more : List ℕ) : Type 0 where
   pub bytes : List ℕ
   pub parts : more ≡ pool ++ bytes
   pub size : size_of t ≡ length bytes
-  pub same : (rest : List ℕ) → said_over (bytes ++ rest) t ≡ said t
+  pub same : (rest : List ℕ) → value_over (bytes ++ rest) t ≡ said t
 
 taken : (n : ℕ) (bytes pool more : List ℕ) → literal_of n (Literal bytes) pool ≡ Ok more → more ≡ pool ++ bytes
 unfolding literal_of
@@ -57,7 +57,7 @@ not_taken : (n : ℕ) (w pool more : List ℕ) → literal_of n (Word w) pool �
 unfolding literal_of
 not_taken n w pool more e = let same : pool ≡ more = cc in sym same ∙ sym (append-nil pool)
 
-never : (n : ℕ) (pool more : List ℕ) → literal_of n Bad pool ≡ Ok more → ⊥
+never : (n : ℕ) (pool more : List ℕ) → literal_of n Malformed pool ≡ Ok more → ⊥
 unfolding literal_of
 never n pool more e = cc
 
@@ -73,13 +73,13 @@ said_quoted : (i : List ℕ) → list_all is_plain i ≡ true → said (Quoted i
 unfolding said
 said_quoted i x = rw x refl
 
-said_unquoted : (i : List ℕ) → list_all is_plain i ≡ false → said (Quoted i) ≡ Bad
+said_unquoted : (i : List ℕ) → list_all is_plain i ≡ false → said (Quoted i) ≡ Malformed
 unfolding said
 said_unquoted i x = rw x refl
 
 lends_digits : (n : ℕ) (w pool more : List ℕ) (r : Result (List ℕ) FromHexError) → is_hex w ≡ true
     → decode_of (drop 1 w) ≡ r → literal_of n (decoded r) pool ≡ Ok more → Lends (Plain w) pool more
-unfolding size_of said_over
+unfolding size_of value_over
 lends_digits n w pool more (Ok bytes) x d e =
     let h = decode_of-ok (drop 1 w) bytes d in
     let len : (length w - 1) / 2 ≡ length bytes = (let a = h.2 in omega (arith, a, length-drop 1 w)) in
@@ -96,7 +96,7 @@ lends_digits n w pool more (Err f) x d e = absurd (never n pool more e)
 
 lends_plain : (n : ℕ) (w pool more : List ℕ) (t : Bool) → is_hex w ≡ t → literal_of n (said (Plain w)) pool ≡ Ok more
     → Lends (Plain w) pool more
-unfolding size_of said_over
+unfolding size_of value_over
 lends_plain n w pool more true x e =
     lends_digits n w pool more (decode_of (drop 1 w)) x refl (rw (said_digits w x) at e)
 lends_plain n w pool more false x e = record {
@@ -108,7 +108,7 @@ lends_plain n w pool more false x e = record {
 
 lends_quoted : (n : ℕ) (i pool more : List ℕ) (t : Bool) → list_all is_plain i ≡ t
     → literal_of n (said (Quoted i)) pool ≡ Ok more → Lends (Quoted i) pool more
-unfolding size_of said_over
+unfolding size_of value_over
 lends_quoted n i pool more true x e = record {
   bytes = i;
   parts = taken n i pool more (rw (said_quoted i x) at e);
@@ -117,7 +117,7 @@ lends_quoted n i pool more true x e = record {
 }
 lends_quoted n i pool more false x e = absurd (never n pool more (rw (said_unquoted i x) at e))
 
-said_broken : said Broken ≡ Bad
+said_broken : said Broken ≡ Malformed
 unfolding said
 said_broken = refl
 
@@ -131,16 +131,16 @@ lends n Broken pool more e = absurd (never n pool more (rw said_broken at e))
 pub record Serves (ts : List Token) (pool more : List ℕ) : Type 0 where
   pub bytes : List ℕ
   pub parts : more ≡ pool ++ bytes
-  pub same : (rest : List ℕ) → all_said_over (bytes ++ rest) ts ≡ map said ts
-  pub behind : (rest : List ℕ) → pool_after (bytes ++ rest) ts ≡ rest
+  pub same : (rest : List ℕ) → values_over (bytes ++ rest) ts ≡ map said ts
+  pub bytes_after : (rest : List ℕ) → pool_after (bytes ++ rest) ts ≡ rest
 
 serves_none : (n : ℕ) (pool more : List ℕ) → literals_of n [] pool ≡ Ok more → Serves [] pool more
 unfolding literals_of
 serves_none n pool more e =
     let same : pool ≡ more = cc in
-    record { bytes = []; parts = sym same ∙ sym (append-nil pool); same = λ rest. refl; behind = λ rest. refl }
+    record { bytes = []; parts = sym same ∙ sym (append-nil pool); same = λ rest. refl; bytes_after = λ rest. refl }
 
-pub literals_through : (n : ℕ) (s : Said) (line : List Said) (pool more : List ℕ)
+pub literals_through : (n : ℕ) (s : TokenValue) (line : List TokenValue) (pool more : List ℕ)
     → literals_of n (s ∷ line) pool ≡ Ok more → Through (literal_of n s pool) (λ p. literals_of n line p) more
 unfolding literals_of
 literals_through n s line pool more e = through (literal_of n s pool) (λ p. literals_of n line p) more e
@@ -160,11 +160,11 @@ serves n (t ∷ ts) pool more e =
       bytes = l.bytes ++ s.bytes;
       parts = s.parts ∙ ap (λ (x : List ℕ). x ++ s.bytes) l.parts ∙ append_assoc pool l.bytes s.bytes;
       same = λ rest.
-          ap (λ (x : Said). x ∷ all_said_over (drop (size_of t) ((l.bytes ++ s.bytes) ++ rest)) ts)
-          (ap (λ (x : List ℕ). said_over x t) (split rest) ∙ l.same (s.bytes ++ rest))
-          ∙ ap (λ (x : List ℕ). said t ∷ all_said_over x ts) (left rest)
-          ∙ ap (λ (x : List Said). said t ∷ x) (s.same rest);
-      behind = λ rest. ap (λ (x : List ℕ). pool_after x ts) (left rest) ∙ s.behind rest;
+          ap (λ (x : TokenValue). x ∷ values_over (drop (size_of t) ((l.bytes ++ s.bytes) ++ rest)) ts)
+          (ap (λ (x : List ℕ). value_over x t) (split rest) ∙ l.same (s.bytes ++ rest))
+          ∙ ap (λ (x : List ℕ). said t ∷ values_over x ts) (left rest)
+          ∙ ap (λ (x : List TokenValue). said t ∷ x) (s.same rest);
+      bytes_after = λ rest. ap (λ (x : List ℕ). pool_after x ts) (left rest) ∙ s.bytes_after rest;
     }
 
 -- ---- the literals of all lines are in the pool
@@ -172,7 +172,7 @@ serves n (t ∷ ts) pool more e =
 pub record LinesServe (ls : List (List ℕ)) (pool more : List ℕ) : Type 0 where
   pub bytes : List ℕ
   pub parts : more ≡ pool ++ bytes
-  pub same : lines_said_over bytes ls ≡ map said_in ls
+  pub same : line_values_over bytes ls ≡ map values_in ls
 
 lines_serve_none : (n : ℕ) (pool more : List ℕ) → gather literals_of n [] pool ≡ Ok more → LinesServe [] pool more
 unfolding gather
@@ -180,32 +180,32 @@ lines_serve_none n pool more e =
     let same : pool ≡ more = cc in
     record { bytes = []; parts = sym same ∙ sym (append-nil pool); same = refl }
 
-pub lines_through : (n : ℕ) (l : List Said) (ls : List (List Said)) (pool more : List ℕ)
+pub lines_through : (n : ℕ) (l : List TokenValue) (ls : List (List TokenValue)) (pool more : List ℕ)
     → gather literals_of n (l ∷ ls) pool ≡ Ok more
     → Through (literals_of n l pool) (λ p. gather literals_of (suc n) ls p) more
 unfolding gather
 lines_through n l ls pool more e = through (literals_of n l pool) (λ p. gather literals_of (suc n) ls p) more e
 
 lines_serve : (n : ℕ) (ls : List (List ℕ)) (pool more : List ℕ)
-    → gather literals_of n (map said_in ls) pool ≡ Ok more → LinesServe ls pool more
+    → gather literals_of n (map values_in ls) pool ≡ Ok more → LinesServe ls pool more
 lines_serve n [] pool more e = lines_serve_none n pool more e
 lines_serve n (l ∷ ls) pool more e =
-    let b = lines_through n (said_in l) (map said_in ls) pool more e in
+    let b = lines_through n (values_in l) (map values_in ls) pool more e in
     let s = serves n (tokens_of l) pool b.between b.first in
     let r = lines_serve (suc n) ls b.between more b.second in
     record {
       bytes = s.bytes ++ r.bytes;
       parts = r.parts ∙ ap (λ (x : List ℕ). x ++ r.bytes) s.parts ∙ append_assoc pool s.bytes r.bytes;
       same =
-          ap (λ (x : List Said). x ∷ lines_said_over (pool_after (s.bytes ++ r.bytes) (tokens_of l)) ls)
+          ap (λ (x : List TokenValue). x ∷ line_values_over (pool_after (s.bytes ++ r.bytes) (tokens_of l)) ls)
           (s.same r.bytes)
-          ∙ ap (λ (x : List ℕ). said_in l ∷ lines_said_over x ls) (s.behind r.bytes)
-          ∙ ap (λ (x : List (List Said)). said_in l ∷ x) r.same;
+          ∙ ap (λ (x : List ℕ). values_in l ∷ line_values_over x ls) (s.bytes_after r.bytes)
+          ∙ ap (λ (x : List (List TokenValue)). values_in l ∷ x) r.same;
     }
 
 pub over_pool : (text pool : List ℕ) → pool_bytes text ≡ Ok pool
-    → lines_said_over pool (lines_of text) ≡ said_lines text
+    → line_values_over pool (lines_of text) ≡ values_of_lines text
 unfolding pool_bytes
 over_pool text pool e =
     let s = lines_serve 1 (lines_of text) [] pool e in
-    ap (λ (p : List ℕ). lines_said_over p (lines_of text)) s.parts ∙ s.same
+    ap (λ (p : List ℕ). line_values_over p (lines_of text)) s.parts ∙ s.same

@@ -11,7 +11,7 @@ use Rattle.base_outputs.proofs.OutputLaws.{puts_then, puts_as, Putting, putting_
 use Rattle.hex.specs.Hex.{encode_with, encode_lower}
 use Rattle.script_tokens.specs.Slices.{all_bytes}
 use Rattle.script_tokens.specs.declared.printing.Piece.{Piece}
-use Rattle.script_tokens.specs.Printing.{spelled, spaced, line_text}
+use Rattle.script_tokens.specs.Printing.{piece_text, spaced, line_text}
 
 encode_first : (b : ℕ) (bytes : List ℕ) → encode_lower (b ∷ bytes) ≡ encode_lower (b ∷ []) ++ encode_lower bytes
 unfolding encode_with
@@ -58,9 +58,9 @@ slices_over : (slices : List (Bor (List ℕ))) (i : ℕ) → length slices ≤ i
 slices_over slices i h = ap all_digits (drop_all i slices h) ∙ encode_nothing
 
 -- one space between each two tokens is one space before each token but the first
-joined_spaced : (w : List ℕ) (ps : List Piece) → join_with_byte 32 (w ∷ map spelled ps) ≡ w ++ flat_map spaced ps
+joined_spaced : (w : List ℕ) (ps : List Piece) → join_with_byte 32 (w ∷ map piece_text ps) ≡ w ++ flat_map spaced ps
 joined_spaced w [] = sym (append-nil w)
-joined_spaced w (p ∷ ps) = ap (λ (x : List ℕ). w ++ (32 ∷ x)) (joined_spaced (spelled p) ps)
+joined_spaced w (p ∷ ps) = ap (λ (x : List ℕ). w ++ (32 ∷ x)) (joined_spaced (piece_text p) ps)
 
 pub line_spaced : (w : List ℕ) (ps : List Piece) → line_text w ps ≡ w ++ flat_map spaced ps ++ 10 ∷ []
 line_spaced w ps = ap (λ (x : List ℕ). x ++ 10 ∷ []) (joined_spaced w ps)

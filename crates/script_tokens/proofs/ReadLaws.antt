@@ -13,19 +13,19 @@ use Rattle.hex.proofs.HexLemmas.{decode_of-ok}
 use Rattle.sf_base.specs.Names.{IsTextByte, IsName}
 use Rattle.script_tokens.specs.declared.tokens.Token.{Token}
 use Rattle.script_tokens.specs.declared.tokens.Token.TheVariants.{Plain, Quoted, Broken}
-use Rattle.script_tokens.specs.declared.cursor.Said.{Said}
-use Rattle.script_tokens.specs.declared.cursor.Said.TheVariants.{Word, Literal, Bad}
+use Rattle.script_tokens.specs.declared.cursor.TokenValue.{TokenValue}
+use Rattle.script_tokens.specs.declared.cursor.TokenValue.TheVariants.{Word, Literal, Malformed}
 use Rattle.script_tokens.specs.declared.fault.LineFault.{LineFault}
 use Rattle.script_tokens.specs.declared.fault.LineFault.TheVariants as faults
 use Rattle.script_tokens.specs.Tokens.{is_blank, is_quote, after_blanks, ends_well, Front, quoted_at, plain_at}
 use Rattle.script_tokens.specs.Tokens.{token_at, and_behind, tokens_of}
-use Rattle.script_tokens.specs.Said.{is_plain, is_hex, decoded, said, said_in}
-use Rattle.script_tokens.specs.Parts.{Took, Part, and_then, or_fault, word, literal, number, number_of, signed}
-use Rattle.script_tokens.specs.Parts.{signed_of, dots_at, both_of, number_word, numeral, range, range_of, digits_value}
-use Rattle.script_tokens.specs.Parts.{is_digit, is_name, name_of, name, ended}
+use Rattle.script_tokens.specs.TokenValue.{is_plain, is_hex, decoded, said, values_in}
+use Rattle.script_tokens.specs.Parsers.{Parsed, Parser, and_then, or_fault, word, literal, number, number_of, signed}
+use Rattle.script_tokens.specs.Parsers.{signed_of, dots_at, both_of, number_word, numeral, range, range_of, digits_value}
+use Rattle.script_tokens.specs.Parsers.{is_digit, is_name, name_of, name, ended}
 use Rattle.script_tokens.specs.Pool.{gather, literal_of, literals_of}
-use Rattle.script_tokens.specs.Spelling.{not_blank, Shows, is_silent, SaysNothing, Begins, LineSays, Writes}
-use Rattle.script_tokens.specs.Spelling.{WritesMinus, WritesPlus, WritesSigned, WritesRange}
+use Rattle.script_tokens.specs.TextForm.{not_blank, Shows, is_silent, HasNoTokens, Begins, LineHasValues, Writes}
+use Rattle.script_tokens.specs.TextForm.{WritesMinus, WritesPlus, WritesSigned, WritesRange}
 use Rattle.script_tokens.proofs.TestLaws.{front_passes, split_at_dots}
 use Rattle.script_tokens.proofs.LexLaws.{tokens_once}
 use Rattle.script_tokens.proofs.PoolLaws.{literals_through, lines_through}
@@ -69,7 +69,7 @@ silent (b ∷ rest) e = from (eqb b 35) (is_quote b) e
     from false true k = cc
     from false false k = cc
 
-no_token : (line : List ℕ) → token_at (after_blanks line) ≡ None → SaysNothing line
+no_token : (line : List ℕ) → token_at (after_blanks line) ≡ None → HasNoTokens line
 no_token line e =
     let s = split line in
     record {
@@ -84,23 +84,23 @@ no_token line e =
 
 -- ---- a well-formed token has the value that is read
 
-abbrev pub Good : Said → Type 0
+abbrev pub Good : TokenValue → Type 0
 Good (Word w) = Unit {0}
 Good (Literal bytes) = Unit {0}
-Good Bad = ⊥
+Good Malformed = ⊥
 
 -- a token and its value
-pub record Shown (rest : List ℕ) (s : Said) (after : List ℕ) : Type 0 where
+pub record Shown (rest : List ℕ) (s : TokenValue) (after : List ℕ) : Type 0 where
   pub token : List ℕ
   pub parts : rest ≡ token ++ after
   pub shows : Shows token s
   pub apart : ends_well after ≡ true
 
-said_quoted : (i : List ℕ) (t : Bool) → list_all is_plain i ≡ t → said (Quoted i) ≡ cond t (Literal i) Bad
+said_quoted : (i : List ℕ) (t : Bool) → list_all is_plain i ≡ t → said (Quoted i) ≡ cond t (Literal i) Malformed
 unfolding said
 said_quoted i t e = rw e refl
 
-said_broken : said Broken ≡ Bad
+said_broken : said Broken ≡ Malformed
 unfolding said
 said_broken = refl
 
@@ -230,21 +230,21 @@ begun line f e g =
 
 -- ---- a line
 
-abbrev pub AllGood : List Said → Type 0
+abbrev pub AllGood : List TokenValue → Type 0
 AllGood said = AllByRecursion Good said
 
 line_says : (ts : List Token) (line : List ℕ) → tokens_of line ≡ ts → AllGood (map said ts)
-    → LineSays line (map said ts)
+    → LineHasValues line (map said ts)
 line_says [] line e g = from (token_at (after_blanks line)) refl (sym (tokens_once line) ∙ e)
   where
-    from : (o : Option Front) → token_at (after_blanks line) ≡ o → and_behind o tokens_of ≡ [] → SaysNothing line
+    from : (o : Option Front) → token_at (after_blanks line) ≡ o → and_behind o tokens_of ≡ [] → HasNoTokens line
     from None x k = no_token line x
     from (Some f) x k = cc
 line_says (t ∷ ts) line e g =
     from (λ after k. line_says ts after k g.1) (token_at (after_blanks line)) refl (sym (tokens_once line) ∙ e)
   where
-    from : ((after : List ℕ) → tokens_of after ≡ ts → LineSays after (map said ts)) → (o : Option Front)
-        → token_at (after_blanks line) ≡ o → and_behind o tokens_of ≡ t ∷ ts → LineSays line (map said (t ∷ ts))
+    from : ((after : List ℕ) → tokens_of after ≡ ts → LineHasValues after (map said ts)) → (o : Option Front)
+        → token_at (after_blanks line) ≡ o → and_behind o tokens_of ≡ t ∷ ts → LineHasValues line (map said (t ∷ ts))
     from more None x k = cc
     from more (Some f) x k =
         let token : f.token ≡ t = cc in
@@ -252,24 +252,24 @@ line_says (t ∷ ts) line e g =
         let good : Good (said f.token) = rw token g.0 in
         (f.after, subst (λ (u : Token). Begins line (said u) f.after) token (begun line f x good), more f.after after)
 
-pub line_shown : (line : List ℕ) → AllGood (said_in line) → LineSays line (said_in line)
+pub line_shown : (line : List ℕ) → AllGood (values_in line) → LineHasValues line (values_in line)
 line_shown line g = line_says (tokens_of line) line refl g
 
 -- ---- the literals of a text that has a pool are well formed
 
-literal_good : (n : ℕ) (s : Said) (pool more : List ℕ) → literal_of n s pool ≡ Ok more → Good s
+literal_good : (n : ℕ) (s : TokenValue) (pool more : List ℕ) → literal_of n s pool ≡ Ok more → Good s
 unfolding literal_of
 literal_good n (Word w) pool more e = tt
 literal_good n (Literal bytes) pool more e = tt
-literal_good n Bad pool more e = cc
+literal_good n Malformed pool more e = cc
 
-literals_good : (n : ℕ) (said : List Said) (pool more : List ℕ) → literals_of n said pool ≡ Ok more → AllGood said
+literals_good : (n : ℕ) (said : List TokenValue) (pool more : List ℕ) → literals_of n said pool ≡ Ok more → AllGood said
 literals_good n [] pool more e = tt
 literals_good n (s ∷ said) pool more e =
     let t = literals_through n s said pool more e in
     (literal_good n s pool t.between t.first, literals_good n said t.between more t.second)
 
-pub lines_good : (n : ℕ) (ls : List (List Said)) (pool more : List ℕ) → gather literals_of n ls pool ≡ Ok more
+pub lines_good : (n : ℕ) (ls : List (List TokenValue)) (pool more : List ℕ) → gather literals_of n ls pool ≡ Ok more
     → AllByRecursion AllGood ls
 lines_good n [] pool more e = tt
 lines_good n (l ∷ ls) pool more e =
@@ -278,12 +278,12 @@ lines_good n (l ∷ ls) pool more e =
 
 -- ---- the literals of a text are bytes
 
-abbrev pub HoldsBytes : Said → Type 0
+abbrev pub HoldsBytes : TokenValue → Type 0
 HoldsBytes (Word w) = Unit {0}
 HoldsBytes (Literal bytes) = IsBytes bytes
-HoldsBytes Bad = Unit {0}
+HoldsBytes Malformed = Unit {0}
 
-abbrev pub AllHoldBytes : List Said → Type 0
+abbrev pub AllHoldBytes : List TokenValue → Type 0
 AllHoldBytes line = AllByRecursion HoldsBytes line
 
 plain_bytes : (i : List ℕ) → list_all is_plain i ≡ true → IsBytes i
@@ -306,7 +306,7 @@ said_bytes (Plain w) = from (is_hex w)
     from false = tt
 said_bytes (Quoted i) = from (list_all is_plain i) refl
   where
-    from : (b : Bool) → list_all is_plain i ≡ b → HoldsBytes (cond b (Literal i) Bad)
+    from : (b : Bool) → list_all is_plain i ≡ b → HoldsBytes (cond b (Literal i) Malformed)
     from true e = plain_bytes i e
     from false e = tt
 said_bytes Broken = tt
@@ -318,38 +318,38 @@ tokens_bytes (t ∷ ts) = (said_bytes t, tokens_bytes ts)
 -- ---- parts
 
 -- one parser succeeds, and then the next
-pub record Both {X Y : Type 0} (r : Result (Took X) LineFault) (f : X → Part Y) (t : Took Y) : Type 0 where
-  pub first : Took X
+pub record Both {X Y : Type 0} (r : Result (Parsed X) LineFault) (f : X → Parser Y) (t : Parsed Y) : Type 0 where
+  pub first : Parsed X
   pub is : r ≡ Ok first
   pub second : f first.value first.rest ≡ Ok t
 
-pub both : {X Y : Type 0} (r : Result (Took X) LineFault) (f : X → Part Y) (t : Took Y) → and_then r f ≡ Ok t
+pub both : {X Y : Type 0} (r : Result (Parsed X) LineFault) (f : X → Parser Y) (t : Parsed Y) → and_then r f ≡ Ok t
     → Both r f t
 both (Ok u) f t e = record { first = u; is = refl; second = e }
 both (Err d) f t e = cc
 
-pub or_fault_is : {X : Type 0} (d : LineFault) (o : Option X) (line : List Said) (t : Took X)
+pub or_fault_is : {X : Type 0} (d : LineFault) (o : Option X) (line : List TokenValue) (t : Parsed X)
     → or_fault d o line ≡ Ok t → (o ≡ Some t.value) × (line ≡ t.rest)
 or_fault_is d None line t e = cc
 or_fault_is d (Some x) line t e =
     let h : record { value = x; rest = line } ≡ t = cc in
-    (ap (λ (u : Took _). Some u.value) h, ap (λ (u : Took _). u.rest) h)
+    (ap (λ (u : Parsed _). Some u.value) h, ap (λ (u : Parsed _). u.rest) h)
 
-pub word_is : (line : List Said) (t : Took (List ℕ)) → word line ≡ Ok t → line ≡ Word t.value ∷ t.rest
+pub word_is : (line : List TokenValue) (t : Parsed (List ℕ)) → word line ≡ Ok t → line ≡ Word t.value ∷ t.rest
 unfolding word
 word_is [] t e = cc
 word_is (Word w ∷ line) t e =
-    let k : record { value = w; rest = line } ≡ t = cc in ap (λ (u : Took (List ℕ)). Word u.value ∷ u.rest) k
+    let k : record { value = w; rest = line } ≡ t = cc in ap (λ (u : Parsed (List ℕ)). Word u.value ∷ u.rest) k
 word_is (Literal bytes ∷ line) t e = cc
-word_is (Bad ∷ line) t e = cc
+word_is (Malformed ∷ line) t e = cc
 
-pub literal_is : (line : List Said) (t : Took (List ℕ)) → literal line ≡ Ok t → line ≡ Literal t.value ∷ t.rest
+pub literal_is : (line : List TokenValue) (t : Parsed (List ℕ)) → literal line ≡ Ok t → line ≡ Literal t.value ∷ t.rest
 unfolding literal
 literal_is [] t e = cc
 literal_is (Word w ∷ line) t e = cc
 literal_is (Literal bytes ∷ line) t e =
-    let k : record { value = bytes; rest = line } ≡ t = cc in ap (λ (u : Took (List ℕ)). Literal u.value ∷ u.rest) k
-literal_is (Bad ∷ line) t e = cc
+    let k : record { value = bytes; rest = line } ≡ t = cc in ap (λ (u : Parsed (List ℕ)). Literal u.value ∷ u.rest) k
+literal_is (Malformed ∷ line) t e = cc
 
 writes : (limit : ℕ) (w : List ℕ) (n : ℕ) → number_of limit w ≡ Some n → Writes limit w n
 unfolding number_of
@@ -417,54 +417,54 @@ range_writes w r e = from (number_of 255 (take (dots_at w) w)) (number_of 255 (d
     from None p x y k = cc
     from (Some low) None x y k = cc
     from (Some low) (Some high) x y k =
-        let behind = writes 255 (drop (dots_at w + 2) w) high y in
-        let some = behind.some in
+        let bytes_after = writes 255 (drop (dots_at w + 2) w) high y in
+        let some = bytes_after.some in
         let enough : dots_at w + 2 ≤ length w = omega (arith, some, length-drop (dots_at w + 2) w) in
         let same : (low, high) ≡ r = cc in
         subst (λ (q : ℕ × ℕ). WritesRange w q.0 q.1) same
         (record {
           before =
               take (dots_at w) w;
-          behind =
+          bytes_after =
               drop (dots_at w + 2) w;
           parts =
               split_at_dots w enough;
           writes_low =
               writes 255 (take (dots_at w) w) low x;
-          writes_high = behind;
+          writes_high = bytes_after;
         })
 
 -- a line that begins with a word, and the value of that word
-pub record Numbered {X : Type 0} (W : List ℕ → X → Type 0) (line : List Said) (t : Took X) : Type 0 where
+pub record Numbered {X : Type 0} (W : List ℕ → X → Type 0) (line : List TokenValue) (t : Parsed X) : Type 0 where
   pub digits : List ℕ
   pub parts : line ≡ Word digits ∷ t.rest
   pub writes : W digits t.value
 
-number_word_is : (line : List Said) (t : Took (List ℕ)) → number_word line ≡ Ok t → line ≡ Word t.value ∷ t.rest
+number_word_is : (line : List TokenValue) (t : Parsed (List ℕ)) → number_word line ≡ Ok t → line ≡ Word t.value ∷ t.rest
 unfolding number_word
 number_word_is [] t e = cc
 number_word_is (Word w ∷ line) t e =
-    let k : record { value = w; rest = line } ≡ t = cc in ap (λ (u : Took (List ℕ)). Word u.value ∷ u.rest) k
+    let k : record { value = w; rest = line } ≡ t = cc in ap (λ (u : Parsed (List ℕ)). Word u.value ∷ u.rest) k
 number_word_is (Literal bytes ∷ line) t e = cc
-number_word_is (Bad ∷ line) t e = cc
+number_word_is (Malformed ∷ line) t e = cc
 
 numeral_is : {X : Type 0} (W : List ℕ → X → Type 0) (f : List ℕ → Option X)
-    → ((w : List ℕ) (x : X) → f w ≡ Some x → W w x) → (line : List Said) (t : Took X) → numeral f line ≡ Ok t
+    → ((w : List ℕ) (x : X) → f w ≡ Some x → W w x) → (line : List TokenValue) (t : Parsed X) → numeral f line ≡ Ok t
     → Numbered W line t
 numeral_is W f writes line t e =
     let b = both (number_word line) (λ w. or_fault faults.Number (f w)) t e in
     let k = or_fault_is faults.Number (f b.first.value) b.first.rest t b.second in
     record {
       digits = b.first.value;
-      parts = number_word_is line b.first b.is ∙ ap (λ (l : List Said). Word b.first.value ∷ l) k.1;
+      parts = number_word_is line b.first b.is ∙ ap (λ (l : List TokenValue). Word b.first.value ∷ l) k.1;
       writes = writes b.first.value t.value k.0;
     }
 
-pub number_is : (limit : ℕ) (line : List Said) (t : Took ℕ) → number limit line ≡ Ok t → Numbered (Writes limit) line t
+pub number_is : (limit : ℕ) (line : List TokenValue) (t : Parsed ℕ) → number limit line ≡ Ok t → Numbered (Writes limit) line t
 unfolding number
 number_is limit line t e = numeral_is (Writes limit) (number_of limit) (writes limit) line t e
 
-pub signed_is : (limit : ℕ) (line : List Said) (t : Took ℤ) → signed limit line ≡ Ok t
+pub signed_is : (limit : ℕ) (line : List TokenValue) (t : Parsed ℤ) → signed limit line ≡ Ok t
     → Numbered (WritesSigned limit) line t
 unfolding signed
 signed_is limit line t e = numeral_is (WritesSigned limit) (signed_of limit) (signed_writes limit) line t e
@@ -473,7 +473,7 @@ signed_is limit line t e = numeral_is (WritesSigned limit) (signed_of limit) (si
 abbrev pub WritesEnds : List ℕ → ℕ × ℕ → Type 0
 WritesEnds word ends = WritesRange word ends.0 ends.1
 
-pub range_is : (line : List Said) (t : Took (ℕ × ℕ)) → range line ≡ Ok t → Numbered WritesEnds line t
+pub range_is : (line : List TokenValue) (t : Parsed (ℕ × ℕ)) → range line ≡ Ok t → Numbered WritesEnds line t
 unfolding range
 range_is line t e = numeral_is WritesEnds range_of range_writes line t e
 
@@ -495,7 +495,7 @@ name_is_name bytes n h e = from (is_name bytes) refl e
         (same, subst IsName same (leb-true (length bytes) 20 p.0, text_bytes bytes p.1 h))
     from false i k = cc
 
-pub name_is : (line : List Said) (t : Took (List ℕ)) → AllHoldBytes line → name line ≡ Ok t
+pub name_is : (line : List TokenValue) (t : Parsed (List ℕ)) → AllHoldBytes line → name line ≡ Ok t
     → (line ≡ Literal t.value ∷ t.rest) × IsName t.value
 unfolding name
 name_is line t h e =
@@ -504,9 +504,9 @@ name_is line t h e =
     let o = or_fault_is faults.Literal (name_of b.first.value) b.first.rest t b.second in
     let bytes : IsBytes b.first.value = (let k = subst AllHoldBytes l h in k.0) in
     let n = name_is_name b.first.value t.value bytes o.0 in
-    (l ∙ ap (λ (x : List ℕ). Literal x ∷ b.first.rest) n.0 ∙ ap (λ (x : List Said). Literal t.value ∷ x) o.1, n.1)
+    (l ∙ ap (λ (x : List ℕ). Literal x ∷ b.first.rest) n.0 ∙ ap (λ (x : List TokenValue). Literal t.value ∷ x) o.1, n.1)
 
-pub ended_is : {X : Type 0} (x : X) (line : List Said) (t : Took X) → ended x line ≡ Ok t → (line ≡ []) × (x ≡ t.value)
+pub ended_is : {X : Type 0} (x : X) (line : List TokenValue) (t : Parsed X) → ended x line ≡ Ok t → (line ≡ []) × (x ≡ t.value)
 unfolding ended
-ended_is x [] t e = let k : record { value = x; rest = [] } ≡ t = cc in (refl, ap (λ (u : Took _). u.value) k)
+ended_is x [] t e = let k : record { value = x; rest = [] } ≡ t = cc in (refl, ap (λ (u : Parsed _). u.value) k)
 ended_is x (s ∷ line) t e = cc

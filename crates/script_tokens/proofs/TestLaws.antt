@@ -5,8 +5,8 @@ use Rattle.std.specs.List.{list_all, position_or_len, prefix_len}
 use Rattle.std.proofs.lemmas.Bool.{ne_eqb, and_parts, and_from}
 use Rattle.script_tokens.specs.Lines.{is_feed}
 use Rattle.script_tokens.specs.Tokens.{is_blank, is_quote, ends_well}
-use Rattle.script_tokens.specs.Parts.{is_dots, dots_at}
-use Rattle.script_tokens.specs.Spelling.{not_blank}
+use Rattle.script_tokens.specs.Parsers.{is_dots, dots_at}
+use Rattle.script_tokens.specs.TextForm.{not_blank}
 
 pub not_true : (b : Bool) → not b ≡ true → b ≡ false
 not_true true e = cc

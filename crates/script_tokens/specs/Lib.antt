@@ -1,9 +1,9 @@
 pub mod Faults
 pub mod Lines
 pub mod Tokens
-pub mod Said
-pub mod Parts
+pub mod TokenValue
+pub mod Parsers
 pub mod Pool
 pub mod Slices
 pub mod Printing
-pub mod Spelling
+pub mod TextForm

@@ -1,24 +1,24 @@
 //! Reads a line from left to right, one token after another.
 ghost use Rattle.std.specs.Prelude.{◌≡◌, ◌≤◌, ◌≤ℤ◌, ◌+ℤ◌, pos, neg_ℤ, ◌↔◌, List, [], ◌∷◌, MatchOption, take, ℕ, IfOk, OnOk, IsTrue};
-ghost use Rattle.script_tokens.specs.Said.{left_over, size_of, said_over, is_hex};
+ghost use Rattle.script_tokens.specs.TokenValue.{cursor_over, size_of, value_over, is_hex};
 ghost use Rattle.script_tokens.specs.Tokens.{tokens_of};
-ghost use Rattle.script_tokens.specs.Parts.{Reads, is_next, word, literal, number_word, number, signed, range, name, name_of, ended};
+ghost use Rattle.script_tokens.specs.Parsers.{Reads, is_next, word, literal, number_word, number, signed, range, name, name_of, ended};
 
 use crate::fault::LineFault;
 use crate::numbers::{number_of, range_of, signed_of};
 use crate::tokens::{Token, Tokens};
-use sf_base::{Lent, Name20, front_of, rest_from};
+use sf_base::{BorrowedBytes, Name20, front_of, rest_from};
 use std::marker::Model;
 
 /// The value of a token.
 #[derive(Debug, Drop)]
-pub enum Said<'t, 'p> {
+pub enum TokenValue<'t, 'p> {
     /// A word.
-    Word(Lent<'t>),
+    Word(BorrowedBytes<'t>),
     /// The bytes of a literal, borrowed from the pool.
-    Literal(Lent<'p>),
+    Literal(BorrowedBytes<'p>),
     /// A malformed literal.
-    Bad,
+    Malformed,
 }
 
 /// The remaining tokens of a line as values, and the pool that follows the line's own literals. Each byte of
@@ -31,17 +31,17 @@ pub struct Cursor<'t, 'p> {
 }
 
 impl<'t, 'p> Model for Cursor<'t, 'p> {
-    ghost use Rattle.script_tokens.specs.Said.{Left, left_over, all_tokens};
+    ghost use Rattle.script_tokens.specs.TokenValue.{Left, cursor_over, all_tokens};
 
     ghost Value = { Left };
 
-    ghost view = { λ c. left_over c.pool.now (all_tokens c.first c.others) };
+    ghost view = { λ c. cursor_over c.pool.now (all_tokens c.first c.others) };
 }
 
 impl<'t, 'p> Cursor<'t, 'p> {
     /// The cursor at the start of a line. `pool` begins with the bytes of the line's literals.
     pub fn of(line: &'t [u8], pool: &'p [u8]) -> Cursor<'t, 'p>
-        ensures { result ≡ left_over pool.now (tokens_of line.now) }
+        ensures { result ≡ cursor_over pool.now (tokens_of line.now) }
     {
         let mut others = Tokens::of(line);
         let first = others.next();
@@ -53,7 +53,7 @@ impl<'t, 'p> Cursor<'t, 'p> {
     }
 
     // The value of the next token, which is removed.
-    fn next(&mut self) -> Option<Said<'t, 'p>>
+    fn next(&mut self) -> Option<TokenValue<'t, 'p>>
         ensures left { MatchOption result ((self.old.said ≡ []) × (self.new.said ≡ [])) (λ s. self.old.said ≡ s ∷ self.new.said) }
         ensures pool { self.new.pool ≡ self.old.pool }
     {
@@ -62,7 +62,7 @@ impl<'t, 'p> Cursor<'t, 'p> {
         let size = size_of(&token);
         let bytes = front_of(self.pool, size);
         self.pool = rest_from(self.pool, size);
-        Some(said_over(token, bytes))
+        Some(value_over(token, bytes))
     }
 
     /// Whether no token remains.
@@ -73,7 +73,7 @@ impl<'t, 'p> Cursor<'t, 'p> {
     }
 
     /// Whether the next token is this word. It is not if the next token is a literal, or no token remains.
-    #[tactic(auto, unfolding(crate::specs::Said::said_over))]
+    #[tactic(auto, unfolding(crate::specs::TokenValue::value_over))]
     pub fn is_next(&self, word: &[u8]) -> bool
         ensures { result ≡ is_next word.now self.now.said }
     {
@@ -92,41 +92,41 @@ impl<'t, 'p> Cursor<'t, 'p> {
     }
 
     /// Reads a word, that is a token that is no literal; else `Syntax`.
-    #[tactic(auto, unfolding(crate::specs::Parts::word))]
+    #[tactic(auto, unfolding(crate::specs::Parsers::word))]
     pub fn word(&mut self) -> Result<&'t [u8], LineFault>
         ensures { Reads (λ w. w.now) word self.old self.new result }
     {
         match self.next() {
-            Some(Said::Word(word)) => Ok(word.bytes()),
+            Some(TokenValue::Word(word)) => Ok(word.bytes()),
             _ => Err(LineFault::Syntax),
         }
     }
 
     /// Reads the bytes of a literal; `Syntax` for any other token and at the line's end.
-    #[tactic(auto, unfolding(crate::specs::Parts::literal))]
+    #[tactic(auto, unfolding(crate::specs::Parsers::literal))]
     pub fn literal(&mut self) -> Result<&'p [u8], LineFault>
         ensures { Reads (λ bytes. bytes.now) literal self.old self.new result }
     {
         match self.next() {
-            Some(Said::Literal(bytes)) => Ok(bytes.bytes()),
+            Some(TokenValue::Literal(bytes)) => Ok(bytes.bytes()),
             _ => Err(LineFault::Syntax),
         }
     }
 
     // Reads a word where a number is expected: `Number` for any other token, `Syntax` at the line's end.
-    #[tactic(auto, unfolding(crate::specs::Parts::number_word))]
+    #[tactic(auto, unfolding(crate::specs::Parsers::number_word))]
     fn number_word(&mut self) -> Result<&'t [u8], LineFault>
         ensures { Reads (λ w. w.now) number_word self.old self.new result }
     {
         match self.next() {
-            Some(Said::Word(number)) => Ok(number.bytes()),
+            Some(TokenValue::Word(number)) => Ok(number.bytes()),
             Some(_) => Err(LineFault::Number),
             None => Err(LineFault::Syntax),
         }
     }
 
     /// Reads a number from 0 to `limit`; `Number` for any other token, `Syntax` at the line's end.
-    #[tactic(auto, unfolding(crate::specs::Parts::number))]
+    #[tactic(auto, unfolding(crate::specs::Parsers::number))]
     pub fn number(&mut self, limit: u32) -> Result<u32, LineFault>
         ensures reads { Reads (λ n. n) (number limit) self.old self.new result }
         ensures within { IfOk result (λ n. n ≤ limit) }
@@ -137,7 +137,7 @@ impl<'t, 'p> Cursor<'t, 'p> {
 
     /// Reads a number from `-limit - 1` to `limit`, with `-` before its digits where it is negative; `Number`
     /// for any other token, `Syntax` at the line's end.
-    #[tactic(auto, unfolding(crate::specs::Parts::signed))]
+    #[tactic(auto, unfolding(crate::specs::Parsers::signed))]
     pub fn signed(&mut self, limit: u16) -> Result<i32, LineFault>
         ensures reads { Reads (λ z. z) (signed limit) self.old self.new result }
         ensures low { IfOk result (λ z. neg_ℤ (pos limit) ≤ℤ (z +ℤ pos 1)) }
@@ -149,7 +149,7 @@ impl<'t, 'p> Cursor<'t, 'p> {
 
     /// Reads a range `LO..HI` in one token, both ends from 0 to 255 and in any order; `Number` for any other
     /// token, `Syntax` at the line's end.
-    #[tactic(auto, unfolding(crate::specs::Parts::range))]
+    #[tactic(auto, unfolding(crate::specs::Parsers::range))]
     pub fn range(&mut self) -> Result<(u8, u8), LineFault>
         ensures { Reads (λ r. r) range self.old self.new result }
     {
@@ -159,7 +159,7 @@ impl<'t, 'p> Cursor<'t, 'p> {
 
     /// Reads a literal of at most 20 bytes, none of them zero; `Literal` for other bytes, `Syntax` for any
     /// other token and at the line's end.
-    #[tactic(auto, unfolding(crate::specs::Parts::name))]
+    #[tactic(auto, unfolding(crate::specs::Parsers::name))]
     pub fn name(&mut self) -> Result<Name20, LineFault>
         ensures { Reads (λ bytes. bytes) name self.old self.new result }
     {
@@ -168,7 +168,7 @@ impl<'t, 'p> Cursor<'t, 'p> {
     }
 
     /// Checks that no token remains; else `Syntax`.
-    #[tactic(auto, unfolding(crate::specs::Parts::ended))]
+    #[tactic(auto, unfolding(crate::specs::Parsers::ended))]
     pub fn end(&mut self) -> Result<(), LineFault>
         ensures reads { Reads (λ u. u) (ended tt) self.old self.new result }
         ensures done { OnOk result (self.new.said ≡ []) }
@@ -181,7 +181,7 @@ impl<'t, 'p> Cursor<'t, 'p> {
 }
 
 // How many bytes of the pool belong to a token.
-#[tactic(auto, unfolding(crate::specs::Said::size_of))]
+#[tactic(auto, unfolding(crate::specs::TokenValue::size_of))]
 fn size_of(token: &Token<'_>) -> usize
     ensures { result ≡ size_of token.now }
 {
@@ -200,20 +200,20 @@ fn size_of(token: &Token<'_>) -> usize
 }
 
 // The value of a token, given the bytes of its literal.
-#[tactic(auto, unfolding(crate::specs::Said::said_over))]
-fn said_over<'t, 'p>(token: Token<'t>, bytes: &'p [u8]) -> Said<'t, 'p>
-    ensures { (pool : List ℕ) → bytes.now ≡ take (size_of token.entry) pool → result ≡ said_over pool token.entry }
+#[tactic(auto, unfolding(crate::specs::TokenValue::value_over))]
+fn value_over<'t, 'p>(token: Token<'t>, bytes: &'p [u8]) -> TokenValue<'t, 'p>
+    ensures { (pool : List ℕ) → bytes.now ≡ take (size_of token.entry) pool → result ≡ value_over pool token.entry }
 {
     match token {
         Token::Plain(word) => {
             if is_hex(word.bytes()) {
-                Said::Literal(Lent::new(bytes))
+                TokenValue::Literal(BorrowedBytes::new(bytes))
             } else {
-                Said::Word(word)
+                TokenValue::Word(word)
             }
         }
-        Token::Quoted(_) => Said::Literal(Lent::new(bytes)),
-        Token::Broken => Said::Bad,
+        Token::Quoted(_) => TokenValue::Literal(BorrowedBytes::new(bytes)),
+        Token::Broken => TokenValue::Malformed,
     }
 }
 

@@ -3,7 +3,7 @@ ghost use Rattle.std.specs.Prelude.{◌≡◌};
 ghost use Rattle.std.specs.Iterator.{YieldsFirstBy, item_count};
 ghost use Rattle.script_tokens.specs.Lines.{lines_of};
 
-use crate::scanning::{behind, feed_at};
+use crate::scanning::{bytes_after, feed_at};
 use sf_base::front_of;
 use std::marker::Model;
 
@@ -43,7 +43,7 @@ impl<'a> Iterator for Lines<'a> {
             return None;
         }
         let end = feed_at(rest);
-        self.rest = behind(rest, end);
+        self.rest = bytes_after(rest, end);
         Some(front_of(rest, end))
     }
 }

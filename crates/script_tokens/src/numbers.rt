@@ -1,12 +1,12 @@
 //! Numbers in decimal digits.
 ghost use Rattle.std.specs.Prelude.{◌≡◌, ◌≤◌, ◌≤ℤ◌, ◌+ℤ◌, pos, neg_ℤ, true, length, IfSome};
 ghost use Rattle.std.specs.List.{list_all};
-ghost use Rattle.script_tokens.specs.Parts.{is_digit, digits_value, number_of, signed_of, is_dots, dots_at, range_of};
+ghost use Rattle.script_tokens.specs.Parsers.{is_digit, digits_value, number_of, signed_of, is_dots, dots_at, range_of};
 
 use sf_base::{front_of, rest_from};
 
 // The value of 1 to 10 decimal digits, if it is at most `limit`.
-#[tactic(auto, unfolding(crate::specs::Parts::number_of))]
+#[tactic(auto, unfolding(crate::specs::Parsers::number_of))]
 pub(crate) fn number_of(word: &[u8], limit: u32) -> Option<u32>
     ensures value { result ≡ number_of limit word.now }
     ensures within { IfSome result (λ n. n ≤ limit) }
@@ -22,7 +22,7 @@ pub(crate) fn number_of(word: &[u8], limit: u32) -> Option<u32>
 }
 
 // The value of digits with an optional `-`, if it is from `-limit - 1` to `limit`.
-#[tactic(auto, unfolding(crate::specs::Parts::signed_of))]
+#[tactic(auto, unfolding(crate::specs::Parsers::signed_of))]
 pub(crate) fn signed_of(word: &[u8], limit: u16) -> Option<i32>
     ensures value { result ≡ signed_of limit word.now }
     ensures low { IfSome result (λ z. neg_ℤ (pos limit) ≤ℤ (z +ℤ pos 1)) }
@@ -40,7 +40,7 @@ pub(crate) fn signed_of(word: &[u8], limit: u16) -> Option<i32>
 }
 
 // The two ends of a range: the numbers before and after the first `..`.
-#[tactic(auto, unfolding(crate::specs::Parts::range_of))]
+#[tactic(auto, unfolding(crate::specs::Parsers::range_of))]
 pub(crate) fn range_of(word: &[u8]) -> Option<(u8, u8)>
     ensures { result ≡ range_of word.now }
 {

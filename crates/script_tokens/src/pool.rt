@@ -2,7 +2,7 @@
 ghost use Rattle.std.specs.Prelude.{◌≡◌, map};
 ghost use Rattle.std.specs.List.{list_all};
 ghost use Rattle.script_tokens.specs.Tokens.{tokens_of};
-ghost use Rattle.script_tokens.specs.Said.{said, is_plain};
+ghost use Rattle.script_tokens.specs.TokenValue.{said, is_plain};
 ghost use Rattle.script_tokens.specs.Pool.{Answers, literal_of, literals_of, pool_bytes};
 
 use crate::cursor::is_hex;
@@ -45,7 +45,7 @@ fn add_literals(
 }
 
 // Appends the bytes of a token that is a literal.
-#[tactic(auto, unfolding(crate::specs::Pool::literal_of, crate::specs::Said::said))]
+#[tactic(auto, unfolding(crate::specs::Pool::literal_of, crate::specs::TokenValue::said))]
 fn add_literal(
     alloc: Global,
     pool: &mut Vec<u8>,

@@ -4,12 +4,12 @@ ghost use Rattle.std.specs.List.{list_all, flat_map};
 ghost use Rattle.hex.specs.Hex.{encode_lower};
 ghost use Rattle.base_outputs.specs.Output.{Puts};
 ghost use Rattle.script_tokens.specs.Slices.{all_bytes};
-ghost use Rattle.script_tokens.specs.Printing.{is_open, hex_literal, name_text, spelled, spaced, line_text};
+ghost use Rattle.script_tokens.specs.Printing.{is_quotable, hex_literal, name_text, piece_text, spaced, line_text};
 
 use crate::joined::Joined;
 use base_outputs::Output;
 use itoa::Buffer;
-use sf_base::Lent;
+use sf_base::BorrowedBytes;
 use std::io::Write;
 
 /// A token of a printed line, after its first word.
@@ -22,10 +22,10 @@ pub enum Piece<'a> {
     /// The ends of a range, in decimal digits with `..` between them.
     Range(u8, u8),
     /// A word, unchanged.
-    Word(Lent<'a>),
+    Word(BorrowedBytes<'a>),
     /// Bytes as a literal: between quotes where all are from 0x20 to 0x7e and none is a quote, else in hex
     /// digits after `x`.
-    Name(Lent<'a>),
+    Name(BorrowedBytes<'a>),
     /// Bytes as a literal, always in hex digits after `x`.
     Hex(Joined<'a>),
 }
@@ -56,9 +56,9 @@ fn put_spaced<W: Write>(piece: &Piece<'_>, output: &mut Output<'_, W>)
     put_piece(piece, output);
 }
 
-#[tactic(auto, unfolding(crate::specs::Printing::spelled))]
+#[tactic(auto, unfolding(crate::specs::Printing::piece_text))]
 fn put_piece<W: Write>(piece: &Piece<'_>, output: &mut Output<'_, W>)
-    ensures { Puts W.contents output.old output.new (spelled piece.now) }
+    ensures { Puts W.contents output.old output.new (piece_text piece.now) }
 {
     match piece {
         Piece::Number(number) => {
@@ -90,7 +90,7 @@ fn put_range<W: Write>(low: u8, high: u8, output: &mut Output<'_, W>)
 fn put_name<W: Write>(name: &[u8], output: &mut Output<'_, W>)
     ensures { Puts W.contents output.old output.new (name_text name.now) }
 {
-    if all_open(name) {
+    if all_quotable(name) {
         output.put(b"\"");
         output.put(name);
         output.put(b"\"");
@@ -133,8 +133,8 @@ fn digits_of(byte: u8) -> [u8; 2]
     pair
 }
 
-fn all_open(bytes: &[u8]) -> bool
-    ensures { result ≡ list_all is_open bytes.now }
+fn all_quotable(bytes: &[u8]) -> bool
+    ensures { result ≡ list_all is_quotable bytes.now }
 {
     bytes
         .iter()

@@ -7,7 +7,7 @@ ghost use Rattle.script_tokens.specs.Tokens.{is_blank, is_quote};
 use sf_base::rest_from;
 
 // The bytes after the position `at`, or none where there are no more.
-pub(crate) fn behind(bytes: &[u8], at: usize) -> &[u8]
+pub(crate) fn bytes_after(bytes: &[u8], at: usize) -> &[u8]
     ensures { result.now ≡ drop (at + 1) bytes.now }
 {
     if at < bytes.len() {

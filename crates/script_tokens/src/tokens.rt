@@ -3,17 +3,17 @@ ghost use Rattle.std.specs.Prelude.{◌≡◌, ◌<◌, length, slice_index, dro
 ghost use Rattle.std.specs.Iterator.{YieldsFirstBy, item_count};
 ghost use Rattle.script_tokens.specs.Tokens.{tokens_of, token_at, quoted_at, plain_at, ends_well};
 
-use crate::scanning::{behind, blank_at, blanks_before, is_blank, quote_at};
-use sf_base::{Lent, front_of, rest_from};
+use crate::scanning::{blank_at, blanks_before, bytes_after, is_blank, quote_at};
+use sf_base::{BorrowedBytes, front_of, rest_from};
 use std::marker::Model;
 
 /// A token of a line.
 #[derive(Debug, Drop)]
 pub enum Token<'a> {
     /// A token that runs to the next blank.
-    Plain(Lent<'a>),
+    Plain(BorrowedBytes<'a>),
     /// The bytes between two quotes.
-    Quoted(Lent<'a>),
+    Quoted(BorrowedBytes<'a>),
     /// A token whose closing quote is missing or is not followed by a blank. It includes the rest of the line.
     Broken,
 }
@@ -89,7 +89,7 @@ fn plain(line: &[u8]) -> (Token<'_>, &[u8])
     let rest = rest_from(line, 1);
     let end = blank_at(rest);
     (
-        Token::Plain(Lent::new(front_of(line, end + 1))),
+        Token::Plain(BorrowedBytes::new(front_of(line, end + 1))),
         rest_from(rest, end),
     )
 }
@@ -101,9 +101,12 @@ fn quoted(line: &[u8]) -> (Token<'_>, &[u8])
 {
     let end = quote_at(line);
     if end < line.len() {
-        let after = behind(line, end);
+        let after = bytes_after(line, end);
         if ends_well(after) {
-            return (Token::Quoted(Lent::new(front_of(line, end))), after);
+            return (
+                Token::Quoted(BorrowedBytes::new(front_of(line, end))),
+                after,
+            );
         }
     }
     (Token::Broken, &[])

@@ -3,7 +3,7 @@
 #![tactic(auto)]
 
 mod blank;
-mod lent;
+mod borrowed_bytes;
 pub mod limits;
 mod memory;
 mod name;
@@ -12,7 +12,7 @@ mod slices;
 
 pub use base_outputs::{WriteFault, put_all};
 pub use blank::Blank;
-pub use lent::Lent;
+pub use borrowed_bytes::BorrowedBytes;
 pub use memory::{Failure, OutOfMemory};
 pub use name::{Name20, NameFault};
 pub use numbers::{i16_at, u16_at, u32_at};

@@ -5,45 +5,45 @@ use Rattle.riff_chunks.specs.Walk.{Chunk}
 use Rattle.bank_parts.specs.declared.parts.Sample.{Sample}
 use Rattle.bank_parts.specs.declared.texts.Texts.{Texts}
 use Rattle.hydra_records.specs.declared.head.SampleHead.{SampleHead}
-use Rattle.bank_format.specs.Windows.{rows}
+use Rattle.bank_format.specs.Windows.{without_terminal}
 use Rattle.bank_format.specs.Tables.{Tables}
-use Rattle.bank_format.specs.Texts.{texts_read, texts_cut}
+use Rattle.bank_format.specs.Texts.{texts_read, truncated_text_count}
 use Rattle.bank_format.specs.Samples.{is_loop_lost, is_link_lost}
 use Rattle.bank_format.specs.Reading.{sm24_dropped}
 use Rattle.sf_reader.specs.declared.zones.ZoneCounts.{ZoneCounts}
 use Rattle.sf_reader.specs.Lists.{ListChunks}
-use Rattle.sf_reader.specs.Texts.{texts_in, cut_of, cut_count}
-use Rattle.sf_reader.specs.Owners.{FlatMembers, added}
+use Rattle.sf_reader.specs.Texts.{texts_in, truncated_to_limits, too_long_count}
+use Rattle.sf_reader.specs.Owners.{FlatBankOwners, added}
 use Rattle.sf_reader.specs.FlatContent.{FlatContent}
 use Rattle.sf_reader.specs.Content.{content_with}
 
 -- truncating the texts after finding them is reading the texts
-cut_is : (info : List Chunk) → cut_of (texts_in info) ≡ texts_read info
-unfolding texts_in cut_of texts_read
+cut_is : (info : List Chunk) → truncated_to_limits (texts_in info) ≡ texts_read info
+unfolding texts_in truncated_to_limits texts_read
 cut_is info = refl
 
-cut_count_is : (info : List Chunk) → cut_count (texts_in info) ≡ texts_cut info
-unfolding texts_in cut_count texts_cut
+cut_count_is : (info : List Chunk) → too_long_count (texts_in info) ≡ truncated_text_count info
+unfolding texts_in too_long_count truncated_text_count
 cut_count_is info = refl
 
 -- the parts that the reader has found, and their values by definition
-pub record Found (w : ListChunks) (heads : List SampleHead) (members : FlatMembers) (texts cut : Texts)
-    (cut_texts sm24 : ℕ) (zone_counts : ZoneCounts) (loops links : ℕ) : Type 0 where
+pub record Found (w : ListChunks) (heads : List SampleHead) (members : FlatBankOwners) (texts truncated : Texts)
+    (truncated_texts sm24 : ℕ) (zone_counts : ZoneCounts) (loops links : ℕ) : Type 0 where
   pub texts_are : texts ≡ texts_in w.info
-  pub cut_are : cut ≡ cut_of texts
-  pub counted : cut_texts ≡ cut_count texts
+  pub cut_are : truncated ≡ truncated_to_limits texts
+  pub counted : truncated_texts ≡ too_long_count texts
   pub sm24_is : sm24 ≡ sm24_dropped w.sdta
   pub zones_are : zone_counts ≡ added members.presets.counts members.instruments.counts
-  pub loops_are : loops ≡ count_by is_loop_lost (rows heads)
-  pub links_are : links ≡ count_by (is_link_lost (length (rows heads))) (rows heads)
+  pub loops_are : loops ≡ count_by is_loop_lost (without_terminal heads)
+  pub links_are : links ≡ count_by (is_link_lost (length (without_terminal heads))) (without_terminal heads)
 
-pub found_content : (minor : ℕ) (w : ListChunks) (t : Tables) (members : FlatMembers) (samples : List Sample)
-    (texts cut : Texts) (cut_texts sm24 : ℕ) (zone_counts : ZoneCounts) (loops links : ℕ)
-    → Found w t.shdr members texts cut cut_texts sm24 zone_counts loops links
+pub found_content : (minor : ℕ) (w : ListChunks) (t : Tables) (members : FlatBankOwners) (samples : List Sample)
+    (texts truncated : Texts) (truncated_texts sm24 : ℕ) (zone_counts : ZoneCounts) (loops links : ℕ)
+    → Found w t.shdr members texts truncated truncated_texts sm24 zone_counts loops links
     → ◌≡◌ {A = FlatContent} (record {
       bank = record {
         minor = minor;
-        texts = cut;
+        texts = truncated;
         preset_heads = members.presets.heads;
         inst_heads = members.instruments.heads;
         preset = members.presets.records;
@@ -53,7 +53,7 @@ pub found_content : (minor : ℕ) (w : ListChunks) (t : Tables) (members : FlatM
       counts =
           record {
             texts =
-                cut_texts;
+                truncated_texts;
             sm24 =
                 sm24;
             zones =
@@ -66,9 +66,9 @@ pub found_content : (minor : ℕ) (w : ListChunks) (t : Tables) (members : FlatM
           };
     }) (content_with minor w t members samples)
 unfolding content_with
-found_content minor w t members samples texts cut cut_texts sm24 zone_counts loops links f =
-    let text = f.cut_are ∙ ap cut_of f.texts_are ∙ cut_is w.info in
-    let count = f.counted ∙ ap cut_count f.texts_are ∙ cut_count_is w.info in
+found_content minor w t members samples texts truncated truncated_texts sm24 zone_counts loops links f =
+    let text = f.cut_are ∙ ap truncated_to_limits f.texts_are ∙ cut_is w.info in
+    let count = f.counted ∙ ap too_long_count f.texts_are ∙ cut_count_is w.info in
     λ i. record {
       bank = record {
         minor = minor;

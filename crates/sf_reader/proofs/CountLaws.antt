@@ -10,14 +10,14 @@ use Rattle.generators.specs.declared.level.Level.{Level}
 use Rattle.modulators.specs.declared.modulator.Modulator.{Modulator}
 use Rattle.hydra_records.specs.declared.zone.Bag.{Bag}
 use Rattle.hydra_records.specs.declared.zone.Generator.{Generator}
-use Rattle.bank_format.specs.Windows.{windows, windows_from, together}
+use Rattle.bank_format.specs.Windows.{windows, windows_from, zip_with}
 use Rattle.bank_format.specs.Zones.{Bagged, has_target, is_target, before_target, allowed_in, last_of_each, kept}
-use Rattle.bank_format.specs.Zones.{is_mended, dropped, looked_at, ignored, gens_dropped, ranges_mended}
+use Rattle.bank_format.specs.Zones.{needs_repair, dropped, counted_bags, ignored, gens_dropped, repaired_range_count}
 use Rattle.bank_format.specs.Reading.{bagged, bags_in}
 use Rattle.sf_reader.specs.declared.zones.ZoneCounts.{ZoneCounts}
 use Rattle.sf_reader.specs.Owners.{AreSmall, added, counts_over}
 use Rattle.sf_reader.proofs.WindowLaws.{length-windows}
-use Rattle.sf_reader.proofs.Kept.{length-kept}
+use Rattle.sf_reader.proofs.KeptRecords.{length-kept}
 
 -- ---- sums
 
@@ -54,8 +54,8 @@ IsShort r = length r.gens ≤ 65536
 dropped-few : (at : Level) (r : Bagged) → IsShort r → dropped at r.gens ≤ 65536
 dropped-few at r h = omega (arith, h)
 
-mended-few : (at : Level) (r : Bagged) → IsShort r → count_by is_mended (kept at r.gens) ≤ 65536
-mended-few at r h = omega (arith, h, count_by-le-length is_mended (kept at r.gens), length-kept at r.gens)
+repaired-few : (at : Level) (r : Bagged) → IsShort r → count_by needs_repair (kept at r.gens) ≤ 65536
+repaired-few at r h = omega (arith, h, count_by-le-length needs_repair (kept at r.gens), length-kept at r.gens)
 
 -- ---- the bags of one header
 
@@ -70,15 +70,15 @@ all_passed P p [] h = tt
 all_passed P p (x ∷ xs) h = passed_if P (p x) x (filter p xs) h.0 (all_passed P p xs h.1)
 
 all_looked_at : (at : Level) (bags : List Bagged) → AllByRecursion IsShort bags
-    → AllByRecursion IsShort (looked_at at bags)
-unfolding looked_at
+    → AllByRecursion IsShort (counted_bags at bags)
+unfolding counted_bags
 all_looked_at at [] h = tt
 all_looked_at at (r ∷ bags) h = (h.0, all_passed IsShort (has_target at) bags h.1)
 
-length-looked_at : (at : Level) (bags : List Bagged) → length (looked_at at bags) ≤ length bags
-unfolding looked_at
-length-looked_at at [] = omega arith
-length-looked_at at (r ∷ bags) =
+length-counted_bags : (at : Level) (bags : List Bagged) → length (counted_bags at bags) ≤ length bags
+unfolding counted_bags
+length-counted_bags at [] = omega arith
+length-counted_bags at (r ∷ bags) =
     omega (arith, length-filter (has_target at) bags, count_by-le-length (has_target at) bags)
 
 -- at most as many bags as a list has records, each short
@@ -95,26 +95,26 @@ gens_dropped-few : (at : Level) (bags : List Bagged) → IsFew bags → gens_dro
 unfolding gens_dropped
 gens_dropped-few at bags h =
     let short =
-    all_of IsShort (λ r. dropped at r.gens ≤ 65536) (looked_at at bags) (dropped-few at)
+    all_of IsShort (λ r. dropped at r.gens ≤ 65536) (counted_bags at bags) (dropped-few at)
     (all_looked_at at bags h.short) in
     omega (
       arith,
       h.few,
-      length-looked_at at bags,
-      sum_by-within (λ (r : Bagged). dropped at r.gens) 65536 (looked_at at bags) short,
+      length-counted_bags at bags,
+      sum_by-within (λ (r : Bagged). dropped at r.gens) 65536 (counted_bags at bags) short,
     )
 
-ranges_mended-few : (at : Level) (bags : List Bagged) → IsFew bags → ranges_mended at bags ≤ 4294967296
-unfolding ranges_mended
-ranges_mended-few at bags h =
+repaired_range_count-few : (at : Level) (bags : List Bagged) → IsFew bags → repaired_range_count at bags ≤ 4294967296
+unfolding repaired_range_count
+repaired_range_count-few at bags h =
     let short =
-    all_of IsShort (λ r. count_by is_mended (kept at r.gens) ≤ 65536) (looked_at at bags) (mended-few at)
+    all_of IsShort (λ r. count_by needs_repair (kept at r.gens) ≤ 65536) (counted_bags at bags) (repaired-few at)
     (all_looked_at at bags h.short) in
     omega (
       arith,
       h.few,
-      length-looked_at at bags,
-      sum_by-within (λ (r : Bagged). count_by is_mended (kept at r.gens)) 65536 (looked_at at bags) short,
+      length-counted_bags at bags,
+      sum_by-within (λ (r : Bagged). count_by needs_repair (kept at r.gens)) 65536 (counted_bags at bags) short,
     )
 
 -- ---- all headers
@@ -132,17 +132,17 @@ windows-short : {X : Type 0} (table : List X) (is : List ℕ)
 windows-short table [] = tt
 windows-short table (i ∷ is) = windows_from-short table i is
 
-together-short : (gs : List (List Generator)) (ms : List (List Modulator))
-    → AllByRecursion (λ g. length g ≤ 65536) gs → AllByRecursion IsShort (together bagged gs ms)
-together-short [] ms h = tt
-together-short (g ∷ gs) [] h = tt
-together-short (g ∷ gs) (m ∷ ms) h = (h.0, together-short gs ms h.1)
+zip_with-short : (gs : List (List Generator)) (ms : List (List Modulator))
+    → AllByRecursion (λ g. length g ≤ 65536) gs → AllByRecursion IsShort (zip_with bagged gs ms)
+zip_with-short [] ms h = tt
+zip_with-short (g ∷ gs) [] h = tt
+zip_with-short (g ∷ gs) (m ∷ ms) h = (h.0, zip_with-short gs ms h.1)
 
-length-together-first : {X Y Z : Type 0} (f : X → Y → Z) (xs : List X) (ys : List Y)
-    → length (together f xs ys) ≤ length xs
-length-together-first f [] ys = omega arith
-length-together-first f (x ∷ xs) [] = omega arith
-length-together-first f (x ∷ xs) (y ∷ ys) = omega (arith, length-together-first f xs ys)
+length-zip_with-first : {X Y Z : Type 0} (f : X → Y → Z) (xs : List X) (ys : List Y)
+    → length (zip_with f xs ys) ≤ length xs
+length-zip_with-first f [] ys = omega arith
+length-zip_with-first f (x ∷ xs) [] = omega arith
+length-zip_with-first f (x ∷ xs) (y ∷ ys) = omega (arith, length-zip_with-first f xs ys)
 
 few_bags : (bags : List Bag) (gens : List Generator) (mods : List Modulator) → length bags ≤ 65536
     → length gens ≤ 65536 → IsFew (bags_in bags gens mods)
@@ -155,12 +155,12 @@ few_bags bags gens mods few short =
           omega (
             arith,
             few,
-            length-together-first bagged gw mw,
+            length-zip_with-first bagged gw mw,
             length-windows gens (map (λ (r : Bag). r.gens) bags),
             length-map bags (λ (r : Bag). r.gens),
           );
       short =
-          together-short gw mw
+          zip_with-short gw mw
           (all_of (λ w. length w ≤ length gens) (λ w. length w ≤ 65536) gw (λ w h. omega (arith, h, short))
           (windows-short gens (map (λ (r : Bag). r.gens) bags)));
     }
@@ -223,8 +223,8 @@ counts-few at first_bag heads bags gens mods few_heads few short =
           omega (
             arith,
             count,
-            sum_by-within (ranges_mended at) 4294967296 ws
-                (all_of IsFew (λ w. ranges_mended at w ≤ 4294967296) ws (ranges_mended-few at) all),
+            sum_by-within (repaired_range_count at) 4294967296 ws
+                (all_of IsFew (λ w. repaired_range_count at w ≤ 4294967296) ws (repaired_range_count-few at) all),
           );
     }
 

@@ -6,12 +6,12 @@ use Rattle.std.proofs.lemmas.List.{get_or-drop, take-set-le, drop-set-add, lengt
 use Rattle.std.proofs.lemmas.List.Edits.{length-insert}
 use Rattle.std.specs.FinMap as map
 use Rattle.generators.specs.Gens.{Gens, AreGens, no_gens}
-use Rattle.generators.specs.Places.{IsAt, IsGapFor}
+use Rattle.generators.specs.Indexes.{IsAt, IsInsertionIndex}
 use Rattle.generators.proofs.Maps.{entries_held, len_held, from_sorted-nil, get_at, AreGens-set, set_is_insert}
 use Rattle.generators.proofs.Maps.{get_gap, AreGens-insert, inserted_is_insert}
-use Rattle.bank_format.specs.Zones.{range_mended}
+use Rattle.bank_format.specs.Zones.{repaired_range}
 use Rattle.sf_reader.specs.Entries.{EndsInMap, map_from}
-use Rattle.sf_reader.specs.Gens.{is_out_of_order, mended_at}
+use Rattle.sf_reader.specs.Gens.{is_out_of_order, repaired_at}
 
 -- ---- lists
 
@@ -92,9 +92,9 @@ module _ (start : ℕ) (es : List (ℕ × ℕ)) (m : EndsInMap start es) (op w :
     pub set-set : map_from start (set es (start + i) (op, w)) ≡ map.insert (map_from start es) op w
     set-set = ap map.from_sorted (drop-set-add start es i (op, w)) ∙ set_is_insert m.own refl held w fits fits_too
 
-  module _ (i : ℕ) (gap : IsGapFor (drop start es) op i) where
-    gap_held : IsGapFor (map.entries (map_from start es)) op i
-    gap_held = subst (λ xs. IsGapFor xs op i) (sym (entries_held m.own refl)) gap
+  module _ (i : ℕ) (gap : IsInsertionIndex (drop start es) op i) where
+    gap_held : IsInsertionIndex (map.entries (map_from start es)) op i
+    gap_held = subst (λ xs. IsInsertionIndex xs op i) (sym (entries_held m.own refl)) gap
 
     insert-within : start + i ≤ length es
     insert-within = omega (arith, gap.within, m.within, length-drop start es)
@@ -119,13 +119,13 @@ module _ (start : ℕ) (es : List (ℕ × ℕ)) (m : EndsInMap start es) (op w :
 
 module _ (start : ℕ) (es : List (ℕ × ℕ)) (m : EndsInMap start es) (op : ℕ) where
   abbrev changes : Option ℕ → Bool
-  changes o = elim o [ None ↦ false | Some w ↦ not (range_mended w == w) ]
+  changes o = elim o [ None ↦ false | Some w ↦ not (repaired_range w == w) ]
 
-  abbrev mend : Option ℕ → Gens
-  mend o = elim o [ None ↦ map_from start es | Some w ↦ map.insert (map_from start es) op (range_mended w) ]
+  abbrev repair : Option ℕ → Gens
+  repair o = elim o [ None ↦ map_from start es | Some w ↦ map.insert (map_from start es) op (repaired_range w) ]
 
   module _ (i v : ℕ) (entry : ℕ × ℕ) (at : IsAt (drop start es) op i) (is : entry ≡ get_or es (start + i) entry)
-      (v_is : v ≡ range_mended entry.1) where
+      (v_is : v ≡ repaired_range entry.1) where
     amount_is : map.get (map_from start es) op ≡ Some entry.1
     amount_is =
         get_at m.own refl (subst (λ xs. IsAt xs op i) (sym (entries_held m.own refl)) at) entry
@@ -134,18 +134,18 @@ module _ (start : ℕ) (es : List (ℕ × ℕ)) (m : EndsInMap start es) (op : �
     pub out_of_order : not (v == entry.1) ≡ is_out_of_order op (map_from start es)
     out_of_order = ap (λ x. not (x == entry.1)) v_is ∙ sym (ap changes amount_is)
 
-    pub mended_is : (fits : op < 2 ^ 16) (fits_too : v < 2 ^ 16)
-        → map_from start (set es (start + i) (op, v)) ≡ mended_at op (map_from start es)
-    mended_is fits fits_too =
+    pub repaired_is : (fits : op < 2 ^ 16) (fits_too : v < 2 ^ 16)
+        → map_from start (set es (start + i) (op, v)) ≡ repaired_at op (map_from start es)
+    repaired_is fits fits_too =
         set-set start es m op v fits fits_too i at ∙ ap (map.insert (map_from start es) op) v_is
-        ∙ sym (ap mend amount_is)
+        ∙ sym (ap repair amount_is)
 
-  module _ (i : ℕ) (gap : IsGapFor (drop start es) op i) where
+  module _ (i : ℕ) (gap : IsInsertionIndex (drop start es) op i) where
     none_there : map.get (map_from start es) op ≡ None
-    none_there = get_gap m.own refl (subst (λ xs. IsGapFor xs op i) (sym (entries_held m.own refl)) gap)
+    none_there = get_gap m.own refl (subst (λ xs. IsInsertionIndex xs op i) (sym (entries_held m.own refl)) gap)
 
     pub none_out_of_order : false ≡ is_out_of_order op (map_from start es)
     none_out_of_order = sym (ap changes none_there)
 
-    pub none_mended : map_from start es ≡ mended_at op (map_from start es)
-    none_mended = sym (ap mend none_there)
+    pub none_repaired : map_from start es ≡ repaired_at op (map_from start es)
+    none_repaired = sym (ap repair none_there)

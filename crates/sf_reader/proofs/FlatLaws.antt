@@ -5,7 +5,7 @@ use Rattle.sf_base.specs.Fields.{field_at}
 use Rattle.generators.specs.Levels.{target_operator}
 use Rattle.flat_records.specs.Bags as flat
 use Rattle.bank_owner_bags.specs.Owned.{all_bags, flat_of}
-use Rattle.bank_parts.specs.declared.parts.WithZones.{WithZones}
+use Rattle.bank_parts.specs.declared.parts.ZoneOwner.{ZoneOwner}
 use Rattle.bank_parts.specs.declared.parts.Parts.{Parts}
 use Rattle.bank_parts.specs.Bagged.{bags_of}
 use Rattle.bank_parts.specs.Sound.{IsSound}
@@ -17,7 +17,7 @@ use Rattle.bank_core.proofs.FlatLaws.{same_bank}
 use Rattle.hydra_records.specs.declared.head.PresetHead.{PresetHead}
 use Rattle.hydra_records.specs.declared.head.InstrumentHead.{InstrumentHead}
 use Rattle.bank_format.specs.Ids.{IFIL}
-use Rattle.bank_format.specs.Windows.{together, rows}
+use Rattle.bank_format.specs.Windows.{zip_with, without_terminal}
 use Rattle.bank_format.specs.Zones.{Bagged}
 use Rattle.bank_format.specs.Tables.{Tables, Headers, presets, instruments}
 use Rattle.bank_format.specs.Chunks.{body_in, points_in}
@@ -25,7 +25,7 @@ use Rattle.bank_format.specs.Reading.{bags_in, preset_windows, instrument_window
 use Rattle.bank_format.specs.Reading.{counts_of, content_of}
 use Rattle.sf_reader.specs.Lists.{ListChunks}
 use Rattle.sf_reader.specs.Bags.{own_bags}
-use Rattle.sf_reader.specs.Owners.{members_of}
+use Rattle.sf_reader.specs.Owners.{bank_owners_of}
 use Rattle.sf_reader.specs.FlatContent.{heads_of, tables_at, flat_bank, flat_content}
 use Rattle.sf_reader.specs.Content.{content_with}
 use Rattle.sf_reader.proofs.TableLaws.{rows_windows}
@@ -34,24 +34,24 @@ use Rattle.sf_reader.proofs.TableLaws.{rows_windows}
 
 module _ {H R : Type 0} (h : Headers H R) where
   heads_together : (rs : List R) (ws : List (List Bagged)) → length rs ≡ length ws
-      → map (λ (x : WithZones H). x.head) (together (owner_read h) rs ws) ≡ map h.read rs
+      → map (λ (x : ZoneOwner H). x.head) (zip_with (owner_read h) rs ws) ≡ map h.read rs
   heads_together [] ws e = refl
   heads_together (r ∷ rs) [] e = absurd (omega (arith, e))
   heads_together (r ∷ rs) (w ∷ ws) e = ap (λ xs. h.read r ∷ xs) (heads_together rs ws (omega (arith, e)))
 
   bags_together : (rs : List R) (ws : List (List Bagged)) → length rs ≡ length ws
-      → map (bags_of (target_operator h.level)) (together (owner_read h) rs ws) ≡ map (own_bags h.level) ws
+      → map (bags_of (target_operator h.level)) (zip_with (owner_read h) rs ws) ≡ map (own_bags h.level) ws
   bags_together [] [] e = refl
   bags_together [] (w ∷ ws) e = absurd (omega (arith, e))
   bags_together (r ∷ rs) [] e = absurd (omega (arith, e))
   bags_together (r ∷ rs) (w ∷ ws) e = ap (λ bs. own_bags h.level w ∷ bs) (bags_together rs ws (omega (arith, e)))
 
   module _ (rs : List R) (ws : List (List Bagged)) (e : length rs ≡ length ws) where
-    heads_flat : heads_of h.level (together (owner_read h) rs ws)
+    heads_flat : heads_of h.level (zip_with (owner_read h) rs ws)
         ≡ head_records (map h.read rs) (flat_of (map (own_bags h.level) ws)).begins
     heads_flat = λ i. head_records (heads_together rs ws e i) (flat_of (bags_together rs ws e i)).begins
 
-    records_flat : tables_at h.level (together (owner_read h) rs ws)
+    records_flat : tables_at h.level (zip_with (owner_read h) rs ws)
         ≡ flat.tables_of (all_bags (map (own_bags h.level) ws))
     records_flat = ap (λ bs. flat.tables_of (all_bags bs)) (bags_together rs ws e)
 
@@ -59,19 +59,19 @@ module _ {H R : Type 0} (h : Headers H R) where
 
 pub content_flat : (w : ListChunks) (t : Tables)
     → flat_content (content_of w.info w.sdta t)
-    ≡ content_with (field_at 2 2 (body_in IFIL w.info)) w t (members_of t)
-    (samples_read (points_in w.sdta) (rows t.shdr))
+    ≡ content_with (field_at 2 2 (body_in IFIL w.info)) w t (bank_owners_of t)
+    (samples_read (points_in w.sdta) (without_terminal t.shdr))
 unfolding bank_of counts_of content_with preset_windows instrument_windows
 content_flat w t =
     let of_presets = rows_windows (bags_in t.pbag t.pgen t.pmod) (λ (h : PresetHead). h.bag) t.phdr in
     let of_instruments = rows_windows (bags_in t.ibag t.igen t.imod) (λ (h : InstrumentHead). h.bag) t.inst in
-    let preset_heads = heads_flat presets (rows t.phdr) (preset_windows t) of_presets in
-    let preset_records = records_flat presets (rows t.phdr) (preset_windows t) of_presets in
-    let inst_heads = heads_flat instruments (rows t.inst) (instrument_windows t) of_instruments in
-    let inst_records = records_flat instruments (rows t.inst) (instrument_windows t) of_instruments in
+    let preset_heads = heads_flat presets (without_terminal t.phdr) (preset_windows t) of_presets in
+    let preset_records = records_flat presets (without_terminal t.phdr) (preset_windows t) of_presets in
+    let inst_heads = heads_flat instruments (without_terminal t.inst) (instrument_windows t) of_instruments in
+    let inst_records = records_flat instruments (without_terminal t.inst) (instrument_windows t) of_instruments in
     let all =
-    content_with (field_at 2 2 (body_in IFIL w.info)) w t (members_of t)
-    (samples_read (points_in w.sdta) (rows t.shdr)) in
+    content_with (field_at 2 2 (body_in IFIL w.info)) w t (bank_owners_of t)
+    (samples_read (points_in w.sdta) (without_terminal t.shdr)) in
     λ i. record {
       bank = record {
         minor = all.bank.minor;

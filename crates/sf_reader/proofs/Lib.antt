@@ -1,7 +1,7 @@
-pub mod StepLaws
+pub mod CheckLaws
 pub mod WindowLaws
 pub mod CountLaws
-pub mod Adding
+pub mod BagAppends
 pub mod OwnerLaws
 pub mod MemberLaws
 pub mod HydraLaws
@@ -12,8 +12,8 @@ pub mod FlatLaws
 pub mod ReadLaws
 pub mod ContentLaws
 pub mod ByteLaws
-pub mod Kept
+pub mod KeptRecords
 pub mod EntryLaws
-pub mod Mending
+pub mod RangeRepairs
 pub mod Reading
-pub mod Later
+pub mod BagSequences

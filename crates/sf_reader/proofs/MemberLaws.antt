@@ -11,36 +11,36 @@ use Rattle.bank_parts.specs.declared.parts.Head.{Head}
 use Rattle.sf_base.specs.declared.memory.Failure.{Failure}
 use Rattle.bank_format.specs.declared.fault.ReadFault.{ReadFault}
 use Rattle.bank_format.specs.declared.fault.ReadFault.TheVariants.{BadInstrument, BadSample}
-use Rattle.bank_format.specs.Steps.{Step, first_broken, Fails, PassesGivenMemory}
-use Rattle.bank_format.specs.Windows.{rows, windows}
+use Rattle.bank_format.specs.FaultChecks.{Check, first_fault, Fails, PassesOrOutOfMemory}
+use Rattle.bank_format.specs.Windows.{without_terminal, windows}
 use Rattle.bank_format.specs.Zones.{Bagged}
 use Rattle.bank_format.specs.Tables as format
 use Rattle.bank_format.specs.Tables.{Tables, Headers}
 use Rattle.bank_format.specs.Reading.{bags_in, preset_windows, instrument_windows}
-use Rattle.bank_format.specs.ReadSteps.{count_steps}
+use Rattle.bank_format.specs.ReadChecks.{count_checks}
 use Rattle.sf_reader.specs.declared.hydra.LevelTables.{LevelTables}
-use Rattle.sf_reader.specs.declared.owners.Members.{Members}
+use Rattle.sf_reader.specs.declared.owners.BankOwners.{BankOwners}
 use Rattle.sf_reader.specs.Hydra.{AreLists}
-use Rattle.sf_reader.specs.Owners.{AreSmall, added, windows_of, FlatOwners, FlatMembers, members_seen}
-use Rattle.sf_reader.specs.Owners.{owners_with_counts, zone_steps, members_of, member_steps}
-use Rattle.bank_format.proofs.StepLaws.{then_none}
-use Rattle.sf_reader.proofs.StepLaws.{given_by, given_front, given_after}
+use Rattle.sf_reader.specs.Owners.{AreSmall, added, windows_of, FlatOwners, FlatBankOwners, bank_owners_seen}
+use Rattle.sf_reader.specs.Owners.{owners_with_counts, zone_checks, bank_owners_of, bank_owner_checks}
+use Rattle.bank_format.proofs.CheckLaws.{then_none}
+use Rattle.sf_reader.proofs.CheckLaws.{given_by, given_front, given_after}
 use Rattle.sf_reader.proofs.HydraLaws.{ModsInside, few_records, windows_are}
 use Rattle.sf_reader.proofs.CountLaws.{counts-few, both-small}
 
 -- ---- the nine lists
 
-abbrev pub preset_part : Tables → List (Step ReadFault)
-preset_part t = zone_steps level.Preset (length (rows t.inst)) BadInstrument (preset_windows t)
+abbrev pub preset_part : Tables → List (Check ReadFault)
+preset_part t = zone_checks level.Preset (length (without_terminal t.inst)) BadInstrument (preset_windows t)
 
-abbrev pub instrument_part : Tables → List (Step ReadFault)
-instrument_part t = zone_steps level.Inst (length (rows t.shdr)) BadSample (instrument_windows t)
+abbrev pub instrument_part : Tables → List (Check ReadFault)
+instrument_part t = zone_checks level.Inst (length (without_terminal t.shdr)) BadSample (instrument_windows t)
 
 -- ---- the four lists of one level
 
 -- the target checks of the zones
-abbrev pub steps_of : {H R : Type 0} → Headers H R → ReadFault → LevelTables R → ℕ → List (Step ReadFault)
-steps_of h missing l targets = zone_steps h.level targets missing (windows_of h.first_bag l)
+abbrev pub steps_of : {H R : Type 0} → Headers H R → ReadFault → LevelTables R → ℕ → List (Check ReadFault)
+steps_of h missing l targets = zone_checks h.level targets missing (windows_of h.first_bag l)
 
 -- the owners
 abbrev pub read_of : {H R : Type 0} → Headers H R → LevelTables R → FlatOwners H
@@ -57,9 +57,9 @@ module _ {H R : Type 0} (h : Headers H R) (l : LevelTables R) (heads : List R) (
   same_windows = windows_are h.first_bag l heads bags gens mods are within
 
   same_steps : (missing : ReadFault) (targets count : ℕ) → targets ≡ count
-      → steps_of h missing l targets ≡ zone_steps h.level count missing all
+      → steps_of h missing l targets ≡ zone_checks h.level count missing all
   same_steps missing targets count same =
-      ap (λ (n : ℕ). steps_of h missing l n) same ∙ ap (zone_steps h.level count missing) same_windows
+      ap (λ (n : ℕ). steps_of h missing l n) same ∙ ap (zone_checks h.level count missing) same_windows
 
   same_value : read_of h l ≡ owners_with_counts h heads all
   same_value =
@@ -68,10 +68,10 @@ module _ {H R : Type 0} (h : Headers H R) (l : LevelTables R) (heads : List R) (
 
 -- ---- both levels
 
-abbrev pub preset_steps : LevelTables PresetHead → ℕ → List (Step ReadFault)
+abbrev pub preset_steps : LevelTables PresetHead → ℕ → List (Check ReadFault)
 preset_steps = steps_of format.presets BadInstrument
 
-abbrev pub instrument_steps : LevelTables InstrumentHead → ℕ → List (Step ReadFault)
+abbrev pub instrument_steps : LevelTables InstrumentHead → ℕ → List (Check ReadFault)
 instrument_steps = steps_of format.instruments BadSample
 
 -- the lists of presets and of instruments, and the numbers of possible targets
@@ -80,8 +80,8 @@ pub record Levels (t : Tables) (p : LevelTables PresetHead) (i : LevelTables Ins
   pub presets_are : AreLists p t.phdr t.pbag t.pgen t.pmod
   pub instruments_are : AreLists i t.inst t.ibag t.igen t.imod
   pub mods : ModsInside t.pbag t.pmod × ModsInside t.ibag t.imod
-  pub instruments_count : instruments ≡ length (rows t.inst)
-  pub samples_count : samples ≡ length (rows t.shdr)
+  pub instruments_count : instruments ≡ length (without_terminal t.inst)
+  pub samples_count : samples ≡ length (without_terminal t.shdr)
 
 module _ (t : Tables) (p : LevelTables PresetHead) (i : LevelTables InstrumentHead) (instruments samples : ℕ)
     (l : Levels t p i instruments samples) where
@@ -89,58 +89,58 @@ module _ (t : Tables) (p : LevelTables PresetHead) (i : LevelTables InstrumentHe
   unfolding preset_windows
   preset_steps_are =
       same_steps format.presets p t.phdr t.pbag t.pgen t.pmod l.presets_are l.mods.0 BadInstrument instruments
-      (length (rows t.inst)) l.instruments_count
+      (length (without_terminal t.inst)) l.instruments_count
 
   instrument_steps_are : instrument_steps i samples ≡ instrument_part t
   unfolding instrument_windows
   instrument_steps_are =
       same_steps format.instruments i t.inst t.ibag t.igen t.imod l.instruments_are l.mods.1 BadSample samples
-      (length (rows t.shdr)) l.samples_count
+      (length (without_terminal t.shdr)) l.samples_count
 
-  presets_value : read_of format.presets p ≡ (members_of t).presets
+  presets_value : read_of format.presets p ≡ (bank_owners_of t).presets
   unfolding preset_windows
   presets_value = same_value format.presets p t.phdr t.pbag t.pgen t.pmod l.presets_are l.mods.0
 
-  instruments_value : read_of format.instruments i ≡ (members_of t).instruments
+  instruments_value : read_of format.instruments i ≡ (bank_owners_of t).instruments
   unfolding instrument_windows
   instruments_value = same_value format.instruments i t.inst t.ibag t.igen t.imod l.instruments_are l.mods.1
 
-  module _ (r : Result Members (Failure ReadFault)) (e : Failure ReadFault) (is : IsErrAnd r (λ d. d ≡ e)) where
-    pub presets_fail : Fails e (first_broken (preset_steps p instruments))
-        → PassesGivenMemory members_seen r (member_steps t) (members_of t)
+  module _ (r : Result BankOwners (Failure ReadFault)) (e : Failure ReadFault) (is : IsErrAnd r (λ d. d ≡ e)) where
+    pub presets_fail : Fails e (first_fault (preset_steps p instruments))
+        → PassesOrOutOfMemory bank_owners_seen r (bank_owner_checks t) (bank_owners_of t)
     presets_fail h =
-        given_front members_seen (members_of t) r e (preset_part t) (instrument_part t) is
-        (subst (λ (s : List (Step ReadFault)). Fails e (first_broken s)) preset_steps_are h)
+        given_front bank_owners_seen (bank_owners_of t) r e (preset_part t) (instrument_part t) is
+        (subst (λ (s : List (Check ReadFault)). Fails e (first_fault s)) preset_steps_are h)
 
-    pub instruments_fail : first_broken (preset_steps p instruments) ≡ None
-        → Fails e (first_broken (instrument_steps i samples))
-        → PassesGivenMemory members_seen r (member_steps t) (members_of t)
+    pub instruments_fail : first_fault (preset_steps p instruments) ≡ None
+        → Fails e (first_fault (instrument_steps i samples))
+        → PassesOrOutOfMemory bank_owners_seen r (bank_owner_checks t) (bank_owners_of t)
     instruments_fail none h =
-        given_after members_seen (members_of t) r (preset_part t) (instrument_part t)
-        (sym (ap first_broken preset_steps_are) ∙ none)
-        (given_by members_seen (members_of t) r e (instrument_part t) is
-        (subst (λ (s : List (Step ReadFault)). Fails e (first_broken s)) instrument_steps_are h))
+        given_after bank_owners_seen (bank_owners_of t) r (preset_part t) (instrument_part t)
+        (sym (ap first_fault preset_steps_are) ∙ none)
+        (given_by bank_owners_seen (bank_owners_of t) r e (instrument_part t) is
+        (subst (λ (s : List (Check ReadFault)). Fails e (first_fault s)) instrument_steps_are h))
 
   pub members_hold : (presets : FlatOwners Head) (of_instruments : FlatOwners (List ℕ))
-      → first_broken (preset_steps p instruments) ≡ None → presets ≡ read_of format.presets p
-      → first_broken (instrument_steps i samples) ≡ None → of_instruments ≡ read_of format.instruments i
-      → (first_broken (member_steps t) ≡ None)
-      × (◌≡◌ {A = FlatMembers} (record { presets = presets; instruments = of_instruments }) (members_of t))
+      → first_fault (preset_steps p instruments) ≡ None → presets ≡ read_of format.presets p
+      → first_fault (instrument_steps i samples) ≡ None → of_instruments ≡ read_of format.instruments i
+      → (first_fault (bank_owner_checks t) ≡ None)
+      × (◌≡◌ {A = FlatBankOwners} (record { presets = presets; instruments = of_instruments }) (bank_owners_of t))
   members_hold presets of_instruments none presets_are none_too instruments_are =
       let first = presets_are ∙ presets_value in
       let second = instruments_are ∙ instruments_value in (
-        then_none (preset_part t) (instrument_part t) (sym (ap first_broken preset_steps_are) ∙ none)
-            (sym (ap first_broken instrument_steps_are) ∙ none_too),
+        then_none (preset_part t) (instrument_part t) (sym (ap first_fault preset_steps_are) ∙ none)
+            (sym (ap first_fault instrument_steps_are) ∙ none_too),
         λ k. record { presets = first k; instruments = second k },
       )
 
 -- ---- their counts
 
-pub members_small : (t : Tables) → first_broken (count_steps t) ≡ None
-    → AreSmall (added (members_of t).presets.counts (members_of t).instruments.counts)
+pub members_small : (t : Tables) → first_fault (count_checks t) ≡ None
+    → AreSmall (added (bank_owners_of t).presets.counts (bank_owners_of t).instruments.counts)
 unfolding preset_windows instrument_windows
 members_small t e =
     let few = few_records t e in
-    both-small (members_of t).presets.counts (members_of t).instruments.counts
+    both-small (bank_owners_of t).presets.counts (bank_owners_of t).instruments.counts
     (counts-few level.Preset format.presets.first_bag t.phdr t.pbag t.pgen t.pmod few.phdr few.pbag few.pgen)
     (counts-few level.Inst format.instruments.first_bag t.inst t.ibag t.igen t.imod few.inst few.ibag few.igen)

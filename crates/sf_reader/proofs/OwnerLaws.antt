@@ -17,25 +17,25 @@ use Rattle.bank_owner_bags.specs.Owned.{past_owner, all_bags}
 use Rattle.sf_base.specs.declared.memory.Failure.{Failure}
 use Rattle.bank_core.specs.Heads.{head_records}
 use Rattle.bank_format.specs.declared.fault.ReadFault.{ReadFault}
-use Rattle.bank_format.specs.Steps.{first_broken, Fails, PassesGivenMemory}
-use Rattle.bank_format.specs.Windows.{windows, rows}
-use Rattle.bank_format.specs.Zones.{Bagged, zones_read, ignored, gens_dropped, ranges_mended}
+use Rattle.bank_format.specs.FaultChecks.{first_fault, Fails, PassesOrOutOfMemory}
+use Rattle.bank_format.specs.Windows.{windows, without_terminal}
+use Rattle.bank_format.specs.Zones.{Bagged, zones_read, ignored, gens_dropped, repaired_range_count}
 use Rattle.bank_format.specs.Tables.{Headers}
 use Rattle.bank_format.specs.Reading.{bags_in}
-use Rattle.bank_format.specs.ReadSteps.{target_step}
+use Rattle.bank_format.specs.ReadChecks.{target_check}
 use Rattle.sf_reader.specs.declared.zones.ZoneCounts.{ZoneCounts}
 use Rattle.sf_reader.specs.declared.owners.OwnersSoFar.{OwnersSoFar}
 use Rattle.sf_reader.specs.declared.owners.OwnersRead.{OwnersRead}
-use Rattle.sf_reader.specs.Bags.{counts_read, own_bags, steps_of_bags}
+use Rattle.sf_reader.specs.Bags.{counts_read, own_bags, checks_of_bags}
 use Rattle.sf_reader.specs.Records.{AreSoFar}
 use Rattle.sf_reader.specs.declared.hydra.LevelTables.{LevelTables}
-use Rattle.sf_reader.specs.Owners.{AreSmall, added, counts_over, AreOwnersSoFar, AddsOwner, AreEnded, FlatOwners}
-use Rattle.sf_reader.specs.Owners.{owners_seen, owners_with_counts, zone_steps, window_of}
-use Rattle.sf_reader.proofs.Adding.{bags_so_far}
-use Rattle.bank_format.proofs.StepLaws.{first_broken-append}
-use Rattle.sf_reader.proofs.StepLaws.{fails_front, given_by}
+use Rattle.sf_reader.specs.Owners.{AreSmall, added, counts_over, AreOwnersSoFar, AppendsOwner, AreEnded, FlatOwners}
+use Rattle.sf_reader.specs.Owners.{owners_seen, owners_with_counts, zone_checks, window_of}
+use Rattle.sf_reader.proofs.BagAppends.{bags_so_far}
+use Rattle.bank_format.proofs.CheckLaws.{first_fault-append}
+use Rattle.sf_reader.proofs.CheckLaws.{fails_front, given_by}
 use Rattle.sf_reader.proofs.CountLaws.{AreFew, part-small}
-use Rattle.sf_reader.proofs.WindowLaws.{slice-bags_in, length-rows, length-windows}
+use Rattle.sf_reader.proofs.WindowLaws.{slice-bags_in, length-without_terminal, length-windows}
 
 -- ---- counts
 
@@ -44,7 +44,7 @@ counts_over-next : (at : Level) (w : List Bagged) (ws : List (List Bagged))
 counts_over-next at w ws =
     let zones = sum_by-cons (ignored at) w ws in
     let gens = sum_by-cons (gens_dropped at) w ws in
-    let ranges = sum_by-cons (ranges_mended at) w ws in
+    let ranges = sum_by-cons (repaired_range_count at) w ws in
     λ i. record { zones = zones i; gens = gens i; ranges = ranges i }
 
 added-assoc : (a b c : ZoneCounts) → added (added a b) c ≡ added a (added b c)
@@ -73,17 +73,17 @@ added-none c =
 
 -- ---- lists
 
-rows-next : {H : Type 0} (h n : H) (ns : List H) → rows (h ∷ n ∷ ns) ≡ h ∷ rows (n ∷ ns)
-rows-next h n ns =
+without_terminal-next : {H : Type 0} (h n : H) (ns : List H) → without_terminal (h ∷ n ∷ ns) ≡ h ∷ without_terminal (n ∷ ns)
+without_terminal-next h n ns =
     let count : length (h ∷ n ∷ ns) - 1 ≡ suc (length (n ∷ ns) - 1) = omega arith in
     rw count refl
 
 -- the checks of the first header's zones, then those of the others
-zone_steps-next : (at : Level) (targets : ℕ) (missing : ReadFault) (w : List Bagged) (ws : List (List Bagged))
-    → zone_steps at targets missing (w ∷ ws)
-    ≡ map (target_step targets missing) (zones_read at w) ++ zone_steps at targets missing ws
-zone_steps-next at targets missing w ws =
-    map-append (target_step targets missing) (zones_read at w) (flat_map (zones_read at) ws)
+zone_checks-next : (at : Level) (targets : ℕ) (missing : ReadFault) (w : List Bagged) (ws : List (List Bagged))
+    → zone_checks at targets missing (w ∷ ws)
+    ≡ map (target_check targets missing) (zones_read at w) ++ zone_checks at targets missing ws
+zone_checks-next at targets missing w ws =
+    map-append (target_check targets missing) (zones_read at w) (flat_map (zones_read at) ws)
 
 -- ---- appending one owner
 
@@ -105,7 +105,7 @@ begins-last at (x ∷ xs) own =
 
 pub one_more : {H : Type 0} (old new : OwnersSoFar H) (hs : List H) (owners : List (List flat.Bag)) (c : ZoneCounts)
     (head : H) (own : List flat.Bag) (more : ZoneCounts)
-    → AreOwnersSoFar old hs owners c → AddsOwner old new head own more
+    → AreOwnersSoFar old hs owners c → AppendsOwner old new head own more
     → AreOwnersSoFar new (hs ++ head ∷ []) (owners ++ own ∷ []) (added c more)
 one_more old new hs owners c head own more are adds =
     let all : all_bags owners ++ own ≡ all_bags (owners ++ own ∷ []) =
@@ -172,22 +172,22 @@ module _ {O H : Type 0} (k : Headers O H) (targets : ℕ) (missing : ReadFault) 
     all = windows table (map k.first_bag heads)
 
     -- the owners read so far, header h and the headers hs are all, and the remaining zones determine the fault
-    pub record Left (read : OwnersSoFar O) (h : H) (hs : List H) : Type 0 where
+    pub record Remaining (read : OwnersSoFar O) (h : H) (hs : List H) : Type 0 where
       pub names : List O
       pub owners : List (List flat.Bag)
       pub counts : ZoneCounts
       pub so_far : AreOwnersSoFar read names owners counts
-      pub names_are : names ++ map k.read (rows (h ∷ hs)) ≡ map k.read (rows heads)
+      pub names_are : names ++ map k.read (without_terminal (h ∷ hs)) ≡ map k.read (without_terminal heads)
       pub owners_are : owners ++ map (own_bags k.level) (windows table (map k.first_bag (h ∷ hs)))
           ≡ map (own_bags k.level) all
       pub counts_are : added counts (counts_over k.level (windows table (map k.first_bag (h ∷ hs))))
           ≡ counts_over k.level all
-      pub steps_are : first_broken (zone_steps k.level targets missing (windows table (map k.first_bag (h ∷ hs))))
-          ≡ first_broken (zone_steps k.level targets missing all)
+      pub steps_are : first_fault (zone_checks k.level targets missing (windows table (map k.first_bag (h ∷ hs))))
+          ≡ first_fault (zone_checks k.level targets missing all)
 
     -- before the first owner
     pub none_left : (read : OwnersSoFar O) (h : H) (hs : List H) → heads ≡ h ∷ hs → AreOwnersSoFar read [] [] no_counts
-        → Left read h hs
+        → Remaining read h hs
     none_left read h hs is so_far =
         let ws : windows table (map k.first_bag (h ∷ hs)) ≡ all =
         ap (λ (l : List H). windows table (map k.first_bag l)) (sym is) in
@@ -196,140 +196,140 @@ module _ {O H : Type 0} (k : Headers O H) (targets : ℕ) (missing : ReadFault) 
           owners = [];
           counts = no_counts;
           so_far = so_far;
-          names_are = ap (λ (l : List H). map k.read (rows l)) (sym is);
+          names_are = ap (λ (l : List H). map k.read (without_terminal l)) (sym is);
           owners_are = ap (map (own_bags k.level)) ws;
           counts_are =
               none-added (counts_over k.level (windows table (map k.first_bag (h ∷ hs))))
               ∙ ap (counts_over k.level) ws;
-          steps_are = ap (λ (l : List (List Bagged)). first_broken (zone_steps k.level targets missing l)) ws;
+          steps_are = ap (λ (l : List (List Bagged)). first_fault (zone_checks k.level targets missing l)) ws;
         }
 
     -- the bags of header h end at the first bag of the next header
     abbrev between : H → H → List Bagged
     between h n = slice_range table (k.first_bag h) (k.first_bag n)
 
-    module _ (read : OwnersSoFar O) (h n : H) (ns : List H) (left : Left read h (n ∷ ns)) where
+    module _ (read : OwnersSoFar O) (h n : H) (ns : List H) (remaining : Remaining read h (n ∷ ns)) where
       -- after one owner
       pub left_next : (new : OwnersSoFar O)
-          → first_broken (steps_of_bags k.level targets missing (between h n)) ≡ None
-          → AddsOwner read new (k.read h) (own_bags k.level (between h n)) (counts_read k.level (between h n))
-          → Left new n ns
+          → first_fault (checks_of_bags k.level targets missing (between h n)) ≡ None
+          → AppendsOwner read new (k.read h) (own_bags k.level (between h n)) (counts_read k.level (between h n))
+          → Remaining new n ns
       left_next new holds adds =
           let rest = windows table (map k.first_bag (n ∷ ns)) in record {
-            names = left.names ++ k.read h ∷ [];
-            owners = left.owners ++ own_bags k.level (between h n) ∷ [];
-            counts = added left.counts (counts_read k.level (between h n));
+            names = remaining.names ++ k.read h ∷ [];
+            owners = remaining.owners ++ own_bags k.level (between h n) ∷ [];
+            counts = added remaining.counts (counts_read k.level (between h n));
             so_far =
-                one_more read new left.names left.owners left.counts (k.read h) (own_bags k.level (between h n))
-                (counts_read k.level (between h n)) left.so_far adds;
+                one_more read new remaining.names remaining.owners remaining.counts (k.read h) (own_bags k.level (between h n))
+                (counts_read k.level (between h n)) remaining.so_far adds;
             names_are =
-                append_assoc left.names (k.read h ∷ []) (map k.read (rows (n ∷ ns)))
-                ∙ ap (λ (l : List H). left.names ++ map k.read l) (sym (rows-next h n ns))
-                ∙ left.names_are;
+                append_assoc remaining.names (k.read h ∷ []) (map k.read (without_terminal (n ∷ ns)))
+                ∙ ap (λ (l : List H). remaining.names ++ map k.read l) (sym (without_terminal-next h n ns))
+                ∙ remaining.names_are;
             owners_are =
-                append_assoc left.owners (own_bags k.level (between h n) ∷ []) (map (own_bags k.level) rest)
-                ∙ left.owners_are;
+                append_assoc remaining.owners (own_bags k.level (between h n) ∷ []) (map (own_bags k.level) rest)
+                ∙ remaining.owners_are;
             counts_are =
-                added-assoc left.counts (counts_read k.level (between h n)) (counts_over k.level rest)
-                ∙ ap (added left.counts) (sym (counts_over-next k.level (between h n) rest))
-                ∙ left.counts_are;
+                added-assoc remaining.counts (counts_read k.level (between h n)) (counts_over k.level rest)
+                ∙ ap (added remaining.counts) (sym (counts_over-next k.level (between h n) rest))
+                ∙ remaining.counts_are;
             steps_are =
                 sym
-                (first_broken-append (steps_of_bags k.level targets missing (between h n))
-                (zone_steps k.level targets missing rest) holds)
-                ∙ ap first_broken (sym (zone_steps-next k.level targets missing (between h n) rest))
-                ∙ left.steps_are;
+                (first_fault-append (checks_of_bags k.level targets missing (between h n))
+                (zone_checks k.level targets missing rest) holds)
+                ∙ ap first_fault (sym (zone_checks-next k.level targets missing (between h n) rest))
+                ∙ remaining.steps_are;
           }
 
       -- a zone of header h has a target that does not exist
       pub left_fails : {Y Z : Type 0} (view : Y → Z) (value : Z) (r : Result Y (Failure ReadFault))
           (e : Failure ReadFault)
           → IsErrAnd r (λ d. d ≡ e)
-          → Fails e (first_broken (steps_of_bags k.level targets missing (between h n)))
-          → PassesGivenMemory view r (zone_steps k.level targets missing all) value
+          → Fails e (first_fault (checks_of_bags k.level targets missing (between h n)))
+          → PassesOrOutOfMemory view r (zone_checks k.level targets missing all) value
       left_fails view value r e is h_fails =
           let rest = windows table (map k.first_bag (n ∷ ns)) in
           let here =
-          fails_front e (steps_of_bags k.level targets missing (between h n))
-          (zone_steps k.level targets missing rest) h_fails in
-          given_by view value r e (zone_steps k.level targets missing all) is
+          fails_front e (checks_of_bags k.level targets missing (between h n))
+          (zone_checks k.level targets missing rest) h_fails in
+          given_by view value r e (zone_checks k.level targets missing all) is
           (subst (λ (b : Option ReadFault). Fails e b)
-          (ap first_broken (sym (zone_steps-next k.level targets missing (between h n) rest)) ∙ left.steps_are)
+          (ap first_fault (sym (zone_checks-next k.level targets missing (between h n) rest)) ∙ remaining.steps_are)
           here)
 
       -- adding its counts does not overflow
       pub left_small : AreFew (counts_over k.level all) → AreSmall (added read.counts (counts_read k.level (between h n)))
       left_small few =
           let rest = windows table (map k.first_bag (n ∷ ns)) in
-          let so_far = left.so_far in
+          let so_far = remaining.so_far in
           part-small read.counts (counts_read k.level (between h n)) (counts_over k.level rest) (counts_over k.level all)
           (ap (λ (c : ZoneCounts). added c (added (counts_read k.level (between h n)) (counts_over k.level rest)))
           so_far.counts_are
-          ∙ ap (added left.counts) (sym (counts_over-next k.level (between h n) rest)) ∙ left.counts_are) few
+          ∙ ap (added remaining.counts) (sym (counts_over-next k.level (between h n) rest)) ∙ remaining.counts_are) few
 
     -- there are as many owners as headers without the terminal
-    pub as_many : length (map (own_bags k.level) all) ≡ length (map k.read (rows heads))
+    pub as_many : length (map (own_bags k.level) all) ≡ length (map k.read (without_terminal heads))
     as_many =
         omega (
           arith,
           length-map all (own_bags k.level),
-          length-map (rows heads) k.read,
+          length-map (without_terminal heads) k.read,
           length-windows table (map k.first_bag heads),
           length-map heads k.first_bag,
-          length-rows heads,
+          length-without_terminal heads,
         )
 
     -- after the last owner
     pub record AllRead (read : OwnersSoFar O) : Type 0 where
-      pub are : AreOwnersSoFar read (map k.read (rows heads)) (map (own_bags k.level) all) (counts_over k.level all)
-      pub hold : first_broken (zone_steps k.level targets missing all) ≡ None
+      pub are : AreOwnersSoFar read (map k.read (without_terminal heads)) (map (own_bags k.level) all) (counts_over k.level all)
+      pub hold : first_fault (zone_checks k.level targets missing all) ≡ None
 
     pub none_read : (read : OwnersSoFar O) → heads ≡ [] → AreOwnersSoFar read [] [] no_counts → AllRead read
     none_read read is so_far =
         let ws : [] ≡ all = ap (λ (l : List H). windows table (map k.first_bag l)) (sym is) in
-        let names : [] ≡ map k.read (rows heads) = ap (λ (l : List H). map k.read (rows l)) (sym is) in
+        let names : [] ≡ map k.read (without_terminal heads) = ap (λ (l : List H). map k.read (without_terminal l)) (sym is) in
         record {
           are =
-              are_as read [] (map k.read (rows heads)) [] (map (own_bags k.level) all) no_counts
+              are_as read [] (map k.read (without_terminal heads)) [] (map (own_bags k.level) all) no_counts
               (counts_over k.level all) names (ap (map (own_bags k.level)) ws) (ap (counts_over k.level) ws)
               so_far;
-          hold = ap (λ (l : List (List Bagged)). first_broken (zone_steps k.level targets missing l)) (sym ws);
+          hold = ap (λ (l : List (List Bagged)). first_fault (zone_checks k.level targets missing l)) (sym ws);
         }
 
-    pub all_read : (read : OwnersSoFar O) (h : H) (hs : List H) → hs ≡ [] → Left read h hs → AllRead read
-    all_read read h hs is left =
+    pub all_read : (read : OwnersSoFar O) (h : H) (hs : List H) → hs ≡ [] → Remaining read h hs → AllRead read
+    all_read read h hs is remaining =
         let ws : [] ≡ windows table (map k.first_bag (h ∷ hs)) =
         ap (λ (l : List H). windows table (map k.first_bag (h ∷ l))) (sym is) in
-        let no_rows : [] ≡ rows (h ∷ hs) = ap (λ (l : List H). rows (h ∷ l)) (sym is) in
+        let no_rows : [] ≡ without_terminal (h ∷ hs) = ap (λ (l : List H). without_terminal (h ∷ l)) (sym is) in
         let names =
-        sym (append-nil left.names) ∙ ap (λ (l : List H). left.names ++ map k.read l) no_rows ∙ left.names_are in
+        sym (append-nil remaining.names) ∙ ap (λ (l : List H). remaining.names ++ map k.read l) no_rows ∙ remaining.names_are in
         let owners =
-        sym (append-nil left.owners) ∙ ap (λ (l : List (List Bagged)). left.owners ++ map (own_bags k.level) l) ws
-        ∙ left.owners_are in
+        sym (append-nil remaining.owners) ∙ ap (λ (l : List (List Bagged)). remaining.owners ++ map (own_bags k.level) l) ws
+        ∙ remaining.owners_are in
         let counts =
-        sym (added-none left.counts)
-        ∙ ap (λ (l : List (List Bagged)). added left.counts (counts_over k.level l)) ws ∙ left.counts_are in
+        sym (added-none remaining.counts)
+        ∙ ap (λ (l : List (List Bagged)). added remaining.counts (counts_over k.level l)) ws ∙ remaining.counts_are in
         record {
           are =
-              are_as read left.names (map k.read (rows heads)) left.owners (map (own_bags k.level) all) left.counts
-              (counts_over k.level all) names owners counts left.so_far;
+              are_as read remaining.names (map k.read (without_terminal heads)) remaining.owners (map (own_bags k.level) all) remaining.counts
+              (counts_over k.level all) names owners counts remaining.so_far;
           hold =
-              sym left.steps_are
-              ∙ ap (λ (l : List (List Bagged)). first_broken (zone_steps k.level targets missing l)) (sym ws);
+              sym remaining.steps_are
+              ∙ ap (λ (l : List (List Bagged)). first_fault (zone_checks k.level targets missing l)) (sym ws);
         }
 
     module _ (read : OwnersSoFar O) (all_are : AllRead read) where
       pub can_end : length read.first_bags.items ≡ length read.heads.items + 1
       can_end =
-          places read (map k.read (rows heads)) (map (own_bags k.level) all) (counts_over k.level all) all_are.are
+          places read (map k.read (without_terminal heads)) (map (own_bags k.level) all) (counts_over k.level all) all_are.are
           as_many
 
       pub all_ended : (e : OwnersRead O) → AreEnded read e
-          → (first_broken (zone_steps k.level targets missing all) ≡ None)
+          → (first_fault (zone_checks k.level targets missing all) ≡ None)
           × (owners_seen e ≡ owners_with_counts k heads all)
       all_ended e ended = (
         all_are.hold,
-        ended_as read e (map k.read (rows heads)) (map (own_bags k.level) all) (counts_over k.level all) all_are.are
+        ended_as read e (map k.read (without_terminal heads)) (map (own_bags k.level) all) (counts_over k.level all) all_are.are
             ended,
       )
 

@@ -13,9 +13,9 @@ use Rattle.std.proofs.lemmas.Iterator.Consumers.{YieldsList-from_first}
 use Rattle.hydra_records.specs.declared.head.SampleHead.{SampleHead}
 use Rattle.bank_format.specs.declared.fault.ReadFault.{ReadFault}
 use Rattle.bank_format.specs.declared.fault.ReadFault.TheVariants.{TooMany}
-use Rattle.bank_format.specs.Steps.{Step, first_broken, Passes}
-use Rattle.bank_format.specs.ReadSteps.{total_steps}
-use Rattle.bank_format.proofs.StepLaws.{first_broken-append, first_broken-front, passes_by}
+use Rattle.bank_format.specs.FaultChecks.{Check, first_fault, Passes}
+use Rattle.bank_format.specs.ReadChecks.{total_checks}
+use Rattle.bank_format.proofs.CheckLaws.{first_fault-append, first_fault-front, passes_by}
 
 -- the next of at most n records is x, and at most m follow it
 module _ {X : Type 0} (n m : ℕ) (xs ys : List X) (x : X) (next : xs ≡ x ∷ ys) (fewer : m + 1 ≡ n) where
@@ -23,20 +23,20 @@ module _ {X : Type 0} (n m : ℕ) (xs ys : List X) (x : X) (next : xs ≡ x ∷ 
   take-next = let e : n ≡ suc m = omega (arith, fewer) in rw (e, next) refl
 
   -- its checks hold, so the result depends on the remaining records
-  pub steps_hold : (f : X → List (Step ReadFault)) (whole : Option ReadFault) → first_broken (f x) ≡ None
-      → first_broken (flat_map f (take n xs)) ≡ whole → first_broken (flat_map f (take m ys)) ≡ whole
-  steps_hold f whole holds so_far =
-      sym (first_broken-append (f x) (flat_map f (take m ys)) holds)
-      ∙ sym (ap (λ (l : List X). first_broken (flat_map f l)) take-next) ∙ so_far
+  pub checks_hold : (f : X → List (Check ReadFault)) (whole : Option ReadFault) → first_fault (f x) ≡ None
+      → first_fault (flat_map f (take n xs)) ≡ whole → first_fault (flat_map f (take m ys)) ≡ whole
+  checks_hold f whole holds so_far =
+      sym (first_fault-append (f x) (flat_map f (take m ys)) holds)
+      ∙ sym (ap (λ (l : List X). first_fault (flat_map f l)) take-next) ∙ so_far
 
   -- one of its checks fails
-  pub steps_fail : {Y : Type 0} (view : Y → Unit {0}) (f : X → List (Step ReadFault)) (r : Result Y ReadFault)
-      (e : ReadFault) (whole : List (Step ReadFault))
-      → IsErrAnd r (λ d. d ≡ e) → first_broken (f x) ≡ Some e
-      → first_broken (flat_map f (take n xs)) ≡ first_broken whole → Passes view r whole tt
-  steps_fail view f r e whole is h so_far =
-      let all = ap (λ (l : List X). first_broken (flat_map f l)) take-next in
-      passes_by view tt r e whole is (sym so_far ∙ all ∙ first_broken-front (f x) (flat_map f (take m ys)) e h)
+  pub checks_fail : {Y : Type 0} (view : Y → Unit {0}) (f : X → List (Check ReadFault)) (r : Result Y ReadFault)
+      (e : ReadFault) (whole : List (Check ReadFault))
+      → IsErrAnd r (λ d. d ≡ e) → first_fault (f x) ≡ Some e
+      → first_fault (flat_map f (take n xs)) ≡ first_fault whole → Passes view r whole tt
+  checks_fail view f r e whole is h so_far =
+      let all = ap (λ (l : List X). first_fault (flat_map f l)) take-next in
+      passes_by view tt r e whole is (sym so_far ∙ all ∙ first_fault-front (f x) (flat_map f (take m ys)) e h)
 
   -- a running sum
   pub sum_more : (f : X → ℕ) (total here whole : ℕ) → here ≡ f x → total + sum_by f (take n xs) ≡ whole
@@ -59,8 +59,8 @@ module _ {X : Type 0} (n m : ℕ) (xs ys : List X) (x : X) (next : xs ≡ x ∷ 
 -- ---- the total
 
 pub total_breaks : (heads : List SampleHead) → 500000000 < sum_by (λ (h : SampleHead). h.end - h.start + 46) heads
-    → first_broken (total_steps heads) ≡ Some TooMany
-unfolding total_steps
+    → first_fault (total_checks heads) ≡ Some TooMany
+unfolding total_checks
 total_breaks heads h = rw (lt-leb _ _ h) refl
 
 -- ---- checks of consecutive records

@@ -8,9 +8,9 @@ use Rattle.std.proofs.Math.Seq.{take-nil}
 use Rattle.modulators.specs.declared.modulator.Modulator.{Modulator}
 use Rattle.hydra_records.specs.declared.zone.Bag.{Bag}
 use Rattle.hydra_records.specs.declared.zone.Generator.{Generator}
-use Rattle.bank_format.specs.Windows.{windows, windows_from, together, rows}
+use Rattle.bank_format.specs.Windows.{windows, windows_from, zip_with, without_terminal}
 use Rattle.bank_format.specs.Tables.{modulator_end}
-use Rattle.bank_format.specs.Chunks.{or_zero}
+use Rattle.bank_format.specs.Chunks.{or_terminal}
 use Rattle.bank_format.specs.Reading.{bagged, bags_in}
 
 -- ---- a range of windows
@@ -37,23 +37,23 @@ drop-windows table (suc n) [] = refl
 drop-windows table (suc n) (i ∷ []) = sym (ap (windows table) (drop-none n))
 drop-windows table (suc n) (i ∷ j ∷ is) = drop-windows table n (j ∷ is)
 
-take-together : {X Y Z : Type 0} (f : X → Y → Z) (n : ℕ) (xs : List X) (ys : List Y)
-    → take n (together f xs ys) ≡ together f (take n xs) (take n ys)
-take-together f zero xs ys = refl
-take-together f (suc n) [] ys = refl
-take-together f (suc n) (x ∷ xs) [] = refl
-take-together f (suc n) (x ∷ xs) (y ∷ ys) = ap (λ l. f x y ∷ l) (take-together f n xs ys)
+take-zip_with : {X Y Z : Type 0} (f : X → Y → Z) (n : ℕ) (xs : List X) (ys : List Y)
+    → take n (zip_with f xs ys) ≡ zip_with f (take n xs) (take n ys)
+take-zip_with f zero xs ys = refl
+take-zip_with f (suc n) [] ys = refl
+take-zip_with f (suc n) (x ∷ xs) [] = refl
+take-zip_with f (suc n) (x ∷ xs) (y ∷ ys) = ap (λ l. f x y ∷ l) (take-zip_with f n xs ys)
 
-together-none : {X Y Z : Type 0} (f : X → Y → Z) (xs : List X) → together f xs [] ≡ []
-together-none f [] = refl
-together-none f (x ∷ xs) = refl
+zip_with-none : {X Y Z : Type 0} (f : X → Y → Z) (xs : List X) → zip_with f xs [] ≡ []
+zip_with-none f [] = refl
+zip_with-none f (x ∷ xs) = refl
 
-drop-together : {X Y Z : Type 0} (f : X → Y → Z) (n : ℕ) (xs : List X) (ys : List Y)
-    → drop n (together f xs ys) ≡ together f (drop n xs) (drop n ys)
-drop-together f zero xs ys = refl
-drop-together f (suc n) [] ys = refl
-drop-together f (suc n) (x ∷ xs) [] = sym (together-none f (drop n xs))
-drop-together f (suc n) (x ∷ xs) (y ∷ ys) = drop-together f n xs ys
+drop-zip_with : {X Y Z : Type 0} (f : X → Y → Z) (n : ℕ) (xs : List X) (ys : List Y)
+    → drop n (zip_with f xs ys) ≡ zip_with f (drop n xs) (drop n ys)
+drop-zip_with f zero xs ys = refl
+drop-zip_with f (suc n) [] ys = refl
+drop-zip_with f (suc n) (x ∷ xs) [] = sym (zip_with-none f (drop n xs))
+drop-zip_with f (suc n) (x ∷ xs) (y ∷ ys) = drop-zip_with f n xs ys
 
 map-take : {X Y : Type 0} (f : X → Y) (n : ℕ) (xs : List X) → map f (take n xs) ≡ take n (map f xs)
 map-take f zero xs = refl
@@ -79,10 +79,10 @@ unfolding bags_in
 range-bags bags gens mods n at =
     let gw = windows gens (map (λ (r : Bag). r.gens) bags) in
     let mw = windows mods (map (λ (r : Bag). r.mods) bags) in
-    ap (take n) (drop-together bagged at gw mw)
-    ∙ take-together bagged n (drop at gw) (drop at mw)
-    ∙ ap (λ l. together bagged l (take n (drop at mw))) (range-windows gens (λ (r : Bag). r.gens) bags n at)
-    ∙ ap (together bagged (windows gens (map (λ (r : Bag). r.gens) (take (suc n) (drop at bags)))))
+    ap (take n) (drop-zip_with bagged at gw mw)
+    ∙ take-zip_with bagged n (drop at gw) (drop at mw)
+    ∙ ap (λ l. zip_with bagged l (take n (drop at mw))) (range-windows gens (λ (r : Bag). r.gens) bags n at)
+    ∙ ap (zip_with bagged (windows gens (map (λ (r : Bag). r.gens) (take (suc n) (drop at bags)))))
     (range-windows mods (λ (r : Bag). r.mods) bags n at)
 
 no-bags : (bags : List Bag) (gens : List Generator) (mods : List Modulator) → length bags ≤ 1
@@ -128,18 +128,18 @@ zero-windows (i ∷ is) all =
     let both = split_and (leb i 0) (list_all (λ j. leb j 0) is) all in
     zero-windows_from i is (leb-true i 0 both.0) both.1
 
-pub or_zero-windows : (mods : List Modulator) (is : List ℕ)
-    → list_all (λ i. leb i (length (or_zero mods) - 1)) is ≡ true → windows (or_zero mods) is ≡ windows mods is
-or_zero-windows [] is all = zero-windows is all
-or_zero-windows (m ∷ mods) is all = refl
+pub or_terminal-windows : (mods : List Modulator) (is : List ℕ)
+    → list_all (λ i. leb i (length (or_terminal mods) - 1)) is ≡ true → windows (or_terminal mods) is ≡ windows mods is
+or_terminal-windows [] is all = zero-windows is all
+or_terminal-windows (m ∷ mods) is all = refl
 
-pub or_zero-bags : (bags : List Bag) (gens : List Generator) (mods : List Modulator)
-    → list_all (λ i. leb i (length (or_zero mods) - 1)) (map (λ (r : Bag). r.mods) bags) ≡ true
-    → bags_in bags gens (or_zero mods) ≡ bags_in bags gens mods
+pub or_terminal-bags : (bags : List Bag) (gens : List Generator) (mods : List Modulator)
+    → list_all (λ i. leb i (length (or_terminal mods) - 1)) (map (λ (r : Bag). r.mods) bags) ≡ true
+    → bags_in bags gens (or_terminal mods) ≡ bags_in bags gens mods
 unfolding bags_in
-or_zero-bags bags gens mods all =
-    ap (together bagged (windows gens (map (λ (r : Bag). r.gens) bags)))
-    (or_zero-windows mods (map (λ (r : Bag). r.mods) bags) all)
+or_terminal-bags bags gens mods all =
+    ap (zip_with bagged (windows gens (map (λ (r : Bag). r.gens) bags)))
+    (or_terminal-windows mods (map (λ (r : Bag). r.mods) bags) all)
 
 -- ---- the number of windows
 
@@ -152,5 +152,5 @@ pub length-windows : {X : Type 0} (table : List X) (is : List ℕ) → length (w
 length-windows table [] = refl
 length-windows table (i ∷ is) = let h = length-windows_from table i is in omega (arith, h)
 
-pub length-rows : {X : Type 0} (xs : List X) → length (rows xs) ≡ length xs - 1
-length-rows xs = length-take-le (length xs - 1) xs (omega arith)
+pub length-without_terminal : {X : Type 0} (xs : List X) → length (without_terminal xs) ≡ length xs - 1
+length-without_terminal xs = length-take-le (length xs - 1) xs (omega arith)

@@ -5,17 +5,17 @@ use Rattle.generators.specs.declared.level.Level.{Level}
 use Rattle.flat_records.specs.Bags.{Bag}
 use Rattle.bank_parts.specs.Bagged.{zone_bag, global_bags}
 use Rattle.bank_format.specs.declared.fault.ReadFault.{ReadFault}
-use Rattle.bank_format.specs.Steps.{Step}
-use Rattle.bank_format.specs.Zones.{Bagged, global_read, zones_read, ignored, gens_dropped, ranges_mended}
-use Rattle.bank_format.specs.ReadSteps.{target_step}
+use Rattle.bank_format.specs.FaultChecks.{Check}
+use Rattle.bank_format.specs.Zones.{Bagged, global_read, zones_read, ignored, gens_dropped, repaired_range_count}
+use Rattle.bank_format.specs.ReadChecks.{target_check}
 use Rattle.sf_reader.specs.declared.zones.ZoneCounts.{ZoneCounts}
 
 abbrev pub counts_read : Level → List Bagged → ZoneCounts
-counts_read at bags = record { zones = ignored at bags; gens = gens_dropped at bags; ranges = ranges_mended at bags }
+counts_read at bags = record { zones = ignored at bags; gens = gens_dropped at bags; ranges = repaired_range_count at bags }
 
 -- the check of each zone's target
-abbrev pub steps_of_bags : Level → ℕ → ReadFault → List Bagged → List (Step ReadFault)
-steps_of_bags at targets missing bags = map (target_step targets missing) (zones_read at bags)
+abbrev pub checks_of_bags : Level → ℕ → ReadFault → List Bagged → List (Check ReadFault)
+checks_of_bags at targets missing bags = map (target_check targets missing) (zones_read at bags)
 
 -- ---- as bags of a bank
 

@@ -3,7 +3,7 @@ use Rattle.std.specs.Prelude.{ℕ, List, map}
 use Rattle.generators.specs.declared.level.Level.{Level}
 use Rattle.generators.specs.declared.level.Level.TheVariants as level
 use Rattle.flat_records.specs.Bags.{Tables}
-use Rattle.bank_parts.specs.declared.parts.WithZones.{WithZones}
+use Rattle.bank_parts.specs.declared.parts.ZoneOwner.{ZoneOwner}
 use Rattle.bank_parts.specs.declared.parts.Parts.{Parts}
 use Rattle.bank_parts.specs.FlatLists.{lists_of}
 use Rattle.bank_core.specs.declared.flat_heads.HeadRecord.{HeadRecord}
@@ -18,10 +18,10 @@ pub record FlatContent : Type 0 where
 
 -- ---- of a bank
 
-abbrev pub heads_of : {H : Type 0} → Level → List (WithZones H) → List (HeadRecord H)
+abbrev pub heads_of : {H : Type 0} → Level → List (ZoneOwner H) → List (HeadRecord H)
 heads_of at owners = head_records (map (λ x. x.head) owners) (lists_of at owners).first_bags
 
-abbrev pub tables_at : {H : Type 0} → Level → List (WithZones H) → Tables
+abbrev pub tables_at : {H : Type 0} → Level → List (ZoneOwner H) → Tables
 tables_at at owners =
     record { bags = (lists_of at owners).bags; gens = (lists_of at owners).gens; mods = (lists_of at owners).mods }
 

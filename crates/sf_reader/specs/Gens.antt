@@ -4,12 +4,12 @@ use Rattle.std.specs.FinMap.{get, insert}
 use Rattle.generators.specs.Gens.{Gens}
 use Rattle.generators.specs.declared.level.Level.{Level}
 use Rattle.hydra_records.specs.declared.zone.Generator.{Generator}
-use Rattle.bank_format.specs.Zones.{before_target, allowed_in, kept, range_mended, is_mended, target_of, dropped}
+use Rattle.bank_format.specs.Zones.{before_target, allowed_in, kept, repaired_range, needs_repair, target_of, dropped}
 use Rattle.sf_reader.specs.declared.bag.GensRead.{GensRead}
 
 abbrev pub gens_read_of : Level → List Generator → GensRead
 gens_read_of at rs =
-    record { target = target_of at rs; dropped = dropped at rs; ranges = count_by is_mended (kept at rs) }
+    record { target = target_of at rs; dropped = dropped at rs; ranges = count_by needs_repair (kept at rs) }
 
 -- ---- while they are read
 
@@ -25,8 +25,8 @@ one_if b = if b then 1 else 0
 
 -- the operator is set to a range that must be repaired
 abbrev pub is_out_of_order : ℕ → Gens → Bool
-is_out_of_order op gs = elim (get gs op) [ None ↦ false | Some w ↦ not (range_mended w == w) ]
+is_out_of_order op gs = elim (get gs op) [ None ↦ false | Some w ↦ not (repaired_range w == w) ]
 
 -- the map with this operator's range repaired
-abbrev pub mended_at : ℕ → Gens → Gens
-mended_at op gs = elim (get gs op) [ None ↦ gs | Some w ↦ insert gs op (range_mended w) ]
+abbrev pub repaired_at : ℕ → Gens → Gens
+repaired_at op gs = elim (get gs op) [ None ↦ gs | Some w ↦ insert gs op (repaired_range w) ]

@@ -5,15 +5,15 @@ use Rattle.modulators.specs.declared.modulator.Modulator.{Modulator}
 use Rattle.hydra_records.specs.declared.zone.Bag.{Bag}
 use Rattle.hydra_records.specs.declared.zone.Generator.{Generator}
 use Rattle.hydra_records.specs.Records.{records}
-use Rattle.hydra_records.specs.Spelling.{preset_head_of, bag_of, modulator_of, generator_of, instrument_head_of}
-use Rattle.hydra_records.specs.Spelling.{sample_head_of}
+use Rattle.hydra_records.specs.Encoding.{preset_head_of, bag_of, modulator_of, generator_of, instrument_head_of}
+use Rattle.hydra_records.specs.Encoding.{sample_head_of}
 use Rattle.bank_format.specs.declared.fault.ReadFault.{ReadFault}
 use Rattle.bank_format.specs.declared.fault.ReadFault.TheVariants.{RecordSize}
 use Rattle.bank_format.specs.Ids as id
-use Rattle.bank_format.specs.Steps.{Step, step}
+use Rattle.bank_format.specs.FaultChecks.{Check, check}
 use Rattle.bank_format.specs.Tables.{Tables}
-use Rattle.bank_format.specs.Chunks.{body_in, or_zero}
-use Rattle.bank_format.specs.ReadSteps.{index_steps, bag_steps}
+use Rattle.bank_format.specs.Chunks.{body_in, or_terminal}
+use Rattle.bank_format.specs.ReadChecks.{index_checks, bag_checks}
 use Rattle.sf_reader.specs.declared.hydra.LevelChunks.{LevelChunks}
 use Rattle.sf_reader.specs.declared.hydra.LevelTables.{LevelTables}
 
@@ -48,15 +48,15 @@ bodies_in pdta = record {
 -- ---- records
 
 -- the length of a body is a multiple of the record size
-abbrev pub whole_step : ℕ → List ℕ → Step ReadFault
-whole_step size body = step (length body % size == 0) RecordSize
+abbrev pub body_size_check : ℕ → List ℕ → Check ReadFault
+body_size_check size body = check (length body % size == 0) RecordSize
 
 -- the size check of each of the nine bodies
-unfoldable pub whole_steps : Bodies → List (Step ReadFault)
-whole_steps b =
-    whole_step 38 b.phdr ∷ whole_step 4 b.pbag ∷ whole_step 10 b.pmod ∷ whole_step 4 b.pgen
-    ∷ whole_step 22 b.inst ∷ whole_step 4 b.ibag ∷ whole_step 10 b.imod ∷ whole_step 4 b.igen
-    ∷ whole_step 46 b.shdr
+unfoldable pub body_size_checks : Bodies → List (Check ReadFault)
+body_size_checks b =
+    body_size_check 38 b.phdr ∷ body_size_check 4 b.pbag ∷ body_size_check 10 b.pmod ∷ body_size_check 4 b.pgen
+    ∷ body_size_check 22 b.inst ∷ body_size_check 4 b.ibag ∷ body_size_check 10 b.imod ∷ body_size_check 4 b.igen
+    ∷ body_size_check 46 b.shdr
     ∷ []
 
 -- the nine lists of records
@@ -64,11 +64,11 @@ unfoldable pub tables_from : Bodies → Tables
 tables_from b = record {
   phdr = records 38 preset_head_of b.phdr;
   pbag = records 4 bag_of b.pbag;
-  pmod = or_zero (records 10 modulator_of b.pmod);
+  pmod = or_terminal (records 10 modulator_of b.pmod);
   pgen = records 4 generator_of b.pgen;
   inst = records 22 instrument_head_of b.inst;
   ibag = records 4 bag_of b.ibag;
-  imod = or_zero (records 10 modulator_of b.imod);
+  imod = or_terminal (records 10 modulator_of b.imod);
   igen = records 4 generator_of b.igen;
   shdr = records 46 sample_head_of b.shdr;
 }
@@ -76,10 +76,10 @@ tables_from b = record {
 -- ---- presets or instruments
 
 -- the size checks of the four bodies, where `size` is the size of a header
-abbrev pub level_whole_steps : ℕ → LevelChunks → List (Step ReadFault)
-level_whole_steps size c =
-    whole_step size c.heads.now ∷ whole_step 4 c.bags.now ∷ whole_step 10 c.modulators.now
-    ∷ whole_step 4 c.generators.now ∷ []
+abbrev pub level_size_checks : ℕ → LevelChunks → List (Check ReadFault)
+level_size_checks size c =
+    body_size_check size c.heads.now ∷ body_size_check 4 c.bags.now ∷ body_size_check 10 c.modulators.now
+    ∷ body_size_check 4 c.generators.now ∷ []
 
 -- the four lists of records
 abbrev pub level_of : {H : Type 0} → ℕ → (List ℕ → H) → LevelChunks → LevelTables H
@@ -91,9 +91,9 @@ level_of size of_bytes c = record {
 }
 
 -- the checks of the indexes in headers and bags
-abbrev pub level_index_steps : {H : Type 0} → List ℕ → LevelTables H → List (Step ReadFault)
-level_index_steps first_bags l =
-    index_steps first_bags (length l.bags) ++ bag_steps l.bags (length l.generators) (length (or_zero l.modulators))
+abbrev pub level_index_checks : {H : Type 0} → List ℕ → LevelTables H → List (Check ReadFault)
+level_index_checks first_bags l =
+    index_checks first_bags (length l.bags) ++ bag_checks l.bags (length l.generators) (length (or_terminal l.modulators))
 
 -- the four lists are these; an empty list of modulators reads as one zero record
 pub record AreLists {H : Type 0} (l : LevelTables H) (heads : List H) (bags : List Bag) (generators : List Generator)
@@ -101,4 +101,4 @@ pub record AreLists {H : Type 0} (l : LevelTables H) (heads : List H) (bags : Li
   pub heads_are : l.heads ≡ heads
   pub bags_are : l.bags ≡ bags
   pub generators_are : l.generators ≡ generators
-  pub modulators_are : or_zero l.modulators ≡ modulators
+  pub modulators_are : or_terminal l.modulators ≡ modulators

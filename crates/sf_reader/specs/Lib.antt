@@ -1,9 +1,9 @@
 pub use Rattle.bank_parts.specs.Valid
 pub use Rattle.bank_parts.specs.Fits
-pub use Rattle.bank_format.specs.Steps
+pub use Rattle.bank_format.specs.FaultChecks
 pub use Rattle.bank_format.specs.Chunks
 pub use Rattle.bank_format.specs.Reading
-pub use Rattle.bank_format.specs.ReadSteps
+pub use Rattle.bank_format.specs.ReadChecks
 pub mod Lists
 pub mod Hydra
 pub mod Owners
@@ -14,4 +14,4 @@ pub mod Records
 pub mod Entries
 pub mod Gens
 pub mod Bags
-pub mod Later
+pub mod LaterBags

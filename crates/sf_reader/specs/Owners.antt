@@ -12,19 +12,19 @@ use Rattle.bank_core.specs.declared.flat_heads.HeadRecord.{HeadRecord}
 use Rattle.bank_core.specs.Heads.{head_records}
 use Rattle.bank_format.specs.declared.fault.ReadFault.{ReadFault}
 use Rattle.bank_format.specs.declared.fault.ReadFault.TheVariants.{BadInstrument, BadSample}
-use Rattle.bank_format.specs.Steps.{Step}
-use Rattle.bank_format.specs.Windows.{windows, rows}
-use Rattle.bank_format.specs.Zones.{Bagged, zones_read, ignored, gens_dropped, ranges_mended}
+use Rattle.bank_format.specs.FaultChecks.{Check}
+use Rattle.bank_format.specs.Windows.{windows, without_terminal}
+use Rattle.bank_format.specs.Zones.{Bagged, zones_read, ignored, gens_dropped, repaired_range_count}
 use Rattle.bank_format.specs.Tables.{Tables, Headers, presets, instruments}
 use Rattle.bank_format.specs.Reading.{bags_in, preset_windows, instrument_windows}
-use Rattle.bank_format.specs.ReadSteps.{target_step}
+use Rattle.bank_format.specs.ReadChecks.{target_check}
 use Rattle.sf_reader.specs.declared.zones.ZoneCounts.{ZoneCounts}
 use Rattle.sf_reader.specs.Bags.{own_bags}
-use Rattle.sf_reader.specs.Records.{AreSoFar, Adds}
+use Rattle.sf_reader.specs.Records.{AreSoFar, Appends}
 use Rattle.sf_reader.specs.declared.hydra.LevelTables.{LevelTables}
 use Rattle.sf_reader.specs.declared.owners.OwnersSoFar.{OwnersSoFar}
 use Rattle.sf_reader.specs.declared.owners.OwnersRead.{OwnersRead}
-use Rattle.sf_reader.specs.declared.owners.Members.{Members}
+use Rattle.sf_reader.specs.declared.owners.BankOwners.{BankOwners}
 
 -- ---- counts
 
@@ -41,7 +41,7 @@ pub record AreSmall (c : ZoneCounts) : Type 0 where
 abbrev pub counts_over : Level → List (List Bagged) → ZoneCounts
 counts_over at ws =
     record
-    { zones = sum_by (ignored at) ws; gens = sum_by (gens_dropped at) ws; ranges = sum_by (ranges_mended at) ws }
+    { zones = sum_by (ignored at) ws; gens = sum_by (gens_dropped at) ws; ranges = sum_by (repaired_range_count at) ws }
 
 -- ---- lists under construction
 
@@ -54,11 +54,11 @@ pub record AreOwnersSoFar {H : Type 0} (r : OwnersSoFar H) (hs : List H) (owners
   pub counts_are : r.counts ≡ c
 
 -- an owner with this head and these bags is appended, and its counts are added
-pub record AddsOwner {H : Type 0} (old new : OwnersSoFar H) (head : H) (own : List Bag) (more : ZoneCounts) : Type 0
+pub record AppendsOwner {H : Type 0} (old new : OwnersSoFar H) (head : H) (own : List Bag) (more : ZoneCounts) : Type 0
   where
     pub heads_grow : new.heads.items ≡ old.heads.items ++ head ∷ []
     pub first_bags_grow : new.first_bags.items ≡ old.first_bags.items ++ (length new.records.bags.items - 1) ∷ []
-    pub records_grow : Adds old.records new.records own
+    pub records_grow : Appends old.records new.records own
     pub counts_grow : new.counts ≡ added old.counts more
 
 -- the lists are completed by their terminals
@@ -93,29 +93,29 @@ flat_owners hs owners counts =
     { heads = head_records hs (flat_of owners).begins; records = tables_of (all_bags owners); counts = counts }
 
 abbrev pub owners_with_counts : {H R : Type 0} → Headers H R → List R → List (List Bagged) → FlatOwners H
-owners_with_counts h rs ws = flat_owners (map h.read (rows rs)) (map (own_bags h.level) ws) (counts_over h.level ws)
+owners_with_counts h rs ws = flat_owners (map h.read (without_terminal rs)) (map (own_bags h.level) ws) (counts_over h.level ws)
 
 -- the target checks of the zones
-abbrev pub zone_steps : Level → ℕ → ReadFault → List (List Bagged) → List (Step ReadFault)
-zone_steps at targets missing ws = map (target_step targets missing) (flat_map (zones_read at) ws)
+abbrev pub zone_checks : Level → ℕ → ReadFault → List (List Bagged) → List (Check ReadFault)
+zone_checks at targets missing ws = map (target_check targets missing) (flat_map (zones_read at) ws)
 
 -- ---- both levels
 
-pub record FlatMembers : Type 0 where
+pub record FlatBankOwners : Type 0 where
   pub presets : FlatOwners Head
   pub instruments : FlatOwners (List ℕ)
 
-abbrev pub members_seen : Members → FlatMembers
-members_seen m = record { presets = owners_seen m.presets; instruments = owners_seen m.instruments }
+abbrev pub bank_owners_seen : BankOwners → FlatBankOwners
+bank_owners_seen m = record { presets = owners_seen m.presets; instruments = owners_seen m.instruments }
 
-abbrev pub members_of : Tables → FlatMembers
-members_of t = record {
+abbrev pub bank_owners_of : Tables → FlatBankOwners
+bank_owners_of t = record {
   presets = owners_with_counts presets t.phdr (preset_windows t);
   instruments = owners_with_counts instruments t.inst (instrument_windows t);
 }
 
 -- the target checks of presets, then those of instruments
-abbrev pub member_steps : Tables → List (Step ReadFault)
-member_steps t =
-    zone_steps level.Preset (length (rows t.inst)) BadInstrument (preset_windows t)
-    ++ zone_steps level.Inst (length (rows t.shdr)) BadSample (instrument_windows t)
+abbrev pub bank_owner_checks : Tables → List (Check ReadFault)
+bank_owner_checks t =
+    zone_checks level.Preset (length (without_terminal t.inst)) BadInstrument (preset_windows t)
+    ++ zone_checks level.Inst (length (without_terminal t.shdr)) BadSample (instrument_windows t)

@@ -12,8 +12,8 @@ pub record AreSoFar (r : RecordsSoFar) (all : List Bag) : Type 0 where
   pub mods : r.mods.items ≡ mods_in all
 
 -- the records of these bags are appended
-abbrev pub Adds : RecordsSoFar → RecordsSoFar → List Bag → Type 0
-Adds old new more = (all : List Bag) → AreSoFar old all → AreSoFar new (all ++ more)
+abbrev pub Appends : RecordsSoFar → RecordsSoFar → List Bag → Type 0
+Appends old new more = (all : List Bag) → AreSoFar old all → AreSoFar new (all ++ more)
 
 -- only the generators of another bag are appended
 pub record HoldsGens (before now : RecordsSoFar) (gens : List (ℕ × ℕ)) : Type 0 where

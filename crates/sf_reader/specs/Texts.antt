@@ -20,8 +20,8 @@ texts_in info = record {
 }
 
 -- truncated to their maximum lengths, with a default engine
-unfoldable pub cut_of : Texts → Texts
-cut_of t = record {
+unfoldable pub truncated_to_limits : Texts → Texts
+truncated_to_limits t = record {
   engine = engine_read (take TEXT_LENGTH t.engine);
   name = take TEXT_LENGTH t.name;
   date = take TEXT_LENGTH t.date;
@@ -33,8 +33,8 @@ cut_of t = record {
 }
 
 -- how many are too long
-unfoldable pub cut_count : Texts → ℕ
-cut_count t =
+unfoldable pub too_long_count : Texts → ℕ
+too_long_count t =
     over TEXT_LENGTH t.engine + over TEXT_LENGTH t.name + over TEXT_LENGTH t.date + over TEXT_LENGTH t.engineers
     + over TEXT_LENGTH t.product + over TEXT_LENGTH t.copyright + over COMMENT_LENGTH t.comment
     + over TEXT_LENGTH t.software

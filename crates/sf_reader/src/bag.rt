@@ -4,9 +4,9 @@ ghost use Rattle.std.specs.FinMap.{entries};
 ghost use Rattle.bank_format.specs.Zones.{target_of, gens_read};
 ghost use Rattle.generators.specs.Gens.{set_in_order};
 ghost use Rattle.sf_reader.specs.Entries.{EndsInMap, map_from};
-ghost use Rattle.sf_reader.specs.Gens.{entries_in, gens_read_of, is_out_of_order, mended_at, one_if};
+ghost use Rattle.sf_reader.specs.Gens.{entries_in, gens_read_of, is_out_of_order, repaired_at, one_if};
 
-use crate::entries::{mend_from, set_from};
+use crate::entries::{repair_from, set_from};
 use generators::operators::{KEY_RANGE, VEL_RANGE};
 use generators::{Level, allowed};
 use hydra_records::{Generator, Table};
@@ -38,7 +38,7 @@ pub(crate) fn read_gens(
     let target = set_gens(gens, start, level, records)?;
     let used = gens.len() - start + usize::from(target.is_some());
     let dropped = (records.len() - used) as u64;
-    let ranges = mend_ranges(gens, start);
+    let ranges = repair_ranges(gens, start);
     Ok(GensRead {
         target,
         dropped,
@@ -71,14 +71,14 @@ fn set_gens(
 }
 
 // Repairs the key range and the velocity range in that map, and returns how many changed.
-fn mend_ranges(gens: &mut Vec<(u16, u16)>, start: usize) -> u64
+fn repair_ranges(gens: &mut Vec<(u16, u16)>, start: usize) -> u64
     requires { EndsInMap start gens.old.items }
     ensures front { take start gens.new.items ≡ take start gens.old.items }
     ensures map { EndsInMap start gens.new.items }
     ensures count { result ≡ one_if (is_out_of_order 43 (map_from start gens.old.items)) + one_if (is_out_of_order 44 (map_from start gens.old.items)) }
-    ensures mended { map_from start gens.new.items ≡ mended_at 44 (mended_at 43 (map_from start gens.old.items)) }
+    ensures repaired { map_from start gens.new.items ≡ repaired_at 44 (repaired_at 43 (map_from start gens.old.items)) }
 {
-    let keys = mend_from(gens, start, KEY_RANGE);
-    let velocities = mend_from(gens, start, VEL_RANGE);
+    let keys = repair_from(gens, start, KEY_RANGE);
+    let velocities = repair_from(gens, start, VEL_RANGE);
     u64::from(keys) + u64::from(velocities)
 }

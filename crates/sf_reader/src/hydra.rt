@@ -1,11 +1,11 @@
 //! The nine record lists of `pdta` (SoundFont 2.04, section 7).
 ghost use Rattle.std.specs.Prelude.{◌≡◌, [], ◌∷◌, length, map, nat_le};
 ghost use Rattle.std.specs.List.{list_all};
-ghost use Rattle.bank_format.specs.Steps.{Passes};
-ghost use Rattle.bank_format.specs.Windows.{rows};
-ghost use Rattle.bank_format.specs.Chunks.{body_in, or_zero};
-ghost use Rattle.bank_format.specs.ReadSteps.{chunk_step, nine, record_counts, count_steps, all_index_steps};
-ghost use Rattle.sf_reader.specs.Hydra.{bodies_in, whole_steps, tables_from, level_whole_steps, level_of, level_index_steps, AreLists};
+ghost use Rattle.bank_format.specs.FaultChecks.{Passes};
+ghost use Rattle.bank_format.specs.Windows.{without_terminal};
+ghost use Rattle.bank_format.specs.Chunks.{body_in, or_terminal};
+ghost use Rattle.bank_format.specs.ReadChecks.{chunk_check, nine, record_counts, count_checks, all_index_checks};
+ghost use Rattle.sf_reader.specs.Hydra.{bodies_in, body_size_checks, tables_from, level_size_checks, level_of, level_index_checks, AreLists};
 
 use crate::indexes::{FirstBag, FirstGenerator, FirstModulator, Index, check_indexes};
 use bank_format::ReadFault;
@@ -19,7 +19,7 @@ use std::marker::Model;
 
 /// Returns the body of the first chunk with an id, or `MissingChunk`.
 pub(crate) fn needed_body<'a>(chunks: &FirstChunks<'a>, id: [u8; 4]) -> Result<&'a [u8], ReadFault>
-    ensures { Passes (λ body. body.now) result (chunk_step chunks.now id ∷ []) (body_in id chunks.now) }
+    ensures { Passes (λ body. body.now) result (chunk_check chunks.now id ∷ []) (body_in id chunks.now) }
 {
     chunks.body_of(id).ok_or(ReadFault::MissingChunk)
 }
@@ -63,7 +63,7 @@ impl<'a> HydraChunks<'a> {
     /// Finds the first chunk with each of the nine ids.
     #[tactic(auto, unfolding(crate::specs::Hydra::bodies_in, bank_format::specs::Ids::PHDR, bank_format::specs::Ids::PBAG, bank_format::specs::Ids::PMOD, bank_format::specs::Ids::PGEN, bank_format::specs::Ids::INST, bank_format::specs::Ids::IBAG, bank_format::specs::Ids::IMOD, bank_format::specs::Ids::IGEN, bank_format::specs::Ids::SHDR))]
     pub(crate) fn of(pdta: &FirstChunks<'a>) -> Result<HydraChunks<'a>, ReadFault>
-        ensures { Passes (λ bodies. bodies) result (map (chunk_step pdta.now) nine)
+        ensures { Passes (λ bodies. bodies) result (map (chunk_check pdta.now) nine)
             (bodies_in pdta.now) }
     {
         Ok(HydraChunks {
@@ -84,9 +84,9 @@ impl<'a> HydraChunks<'a> {
     }
 
     /// The nine lists of records; the length of each body must be a multiple of its record size.
-    #[tactic(auto, unfolding(crate::specs::Hydra::whole_steps, crate::specs::Hydra::tables_from))]
+    #[tactic(auto, unfolding(crate::specs::Hydra::body_size_checks, crate::specs::Hydra::tables_from))]
     pub(crate) fn tables(&self) -> Result<Tables<'a>, ReadFault>
-        ensures { Passes (λ tables. tables) result (whole_steps self.now) (tables_from self.now) }
+        ensures { Passes (λ tables. tables) result (body_size_checks self.now) (tables_from self.now) }
     {
         Ok(Tables {
             presets: self.presets.tables()?,
@@ -115,7 +115,7 @@ pub(crate) struct LevelTables<'a, H: Record> {
 impl<'a> LevelChunks<'a> {
     // The four lists of records; the length of each body must be a multiple of its record size.
     fn tables<H: Record>(&self) -> Result<LevelTables<'a, H>, ReadFault>
-        ensures { Passes (λ level. level) result (level_whole_steps H.SIZE self.now)
+        ensures { Passes (λ level. level) result (level_size_checks H.SIZE self.now)
             (level_of H.SIZE H.of_bytes self.now) }
     {
         Ok(LevelTables {
@@ -130,15 +130,15 @@ impl<'a> LevelChunks<'a> {
 impl<'a, H: Record + Copy> LevelTables<'a, H> {
     // The number of modulators; an empty list reads as one zero record.
     fn modulator_count(&self) -> usize
-        ensures { result ≡ length (or_zero self.now.modulators) }
+        ensures { result ≡ length (or_terminal self.now.modulators) }
     {
         self.modulators.len().max(1)
     }
 
     // Checks the bag indexes of headers, and the generator and modulator indexes of bags.
-    #[tactic(auto, unfolding(bank_format::specs::ReadSteps::index_steps))]
+    #[tactic(auto, unfolding(bank_format::specs::ReadChecks::index_checks))]
     fn check_indexes<I: Index<H>>(&self) -> Result<(), ReadFault>
-        ensures { Passes (λ u. u) result (level_index_steps (map I.index self.now.heads) self.now) tt }
+        ensures { Passes (λ u. u) result (level_index_checks (map I.index self.now.heads) self.now) tt }
     {
         check_indexes::<H, I>(&self.heads, self.bags.len())?;
         check_indexes::<Bag, FirstGenerator>(&self.bags, self.generators.len())?;
@@ -156,18 +156,18 @@ pub(crate) struct Tables<'a> {
 
 impl<'a> Model for Tables<'a> {
     ghost use Rattle.bank_format.specs.Tables as nine_lists;
-    ghost use Rattle.bank_format.specs.Chunks.{or_zero};
+    ghost use Rattle.bank_format.specs.Chunks.{or_terminal};
 
     ghost Value = { nine_lists.Tables };
 
     ghost view = { λ t. record {
       phdr = t.presets.heads;
       pbag = t.presets.bags;
-      pmod = or_zero t.presets.modulators;
+      pmod = or_terminal t.presets.modulators;
       pgen = t.presets.generators;
       inst = t.instruments.heads;
       ibag = t.instruments.bags;
-      imod = or_zero t.instruments.modulators;
+      imod = or_terminal t.instruments.modulators;
       igen = t.instruments.generators;
       shdr = t.samples;
     } };
@@ -213,9 +213,9 @@ impl<'a> Tables<'a> {
     }
 
     /// Checks that each of the nine lists has a terminal, and none has too many records.
-    #[tactic(auto, using(crate::proofs::StepLaws::same_fault), unfolding(bank_format::specs::ReadSteps::count_steps))]
+    #[tactic(auto, using(crate::proofs::CheckLaws::same_fault), unfolding(bank_format::specs::ReadChecks::count_checks))]
     pub(crate) fn check_counts(&self) -> Result<(), ReadFault>
-        ensures { Passes (λ u. u) result (count_steps self.now) tt }
+        ensures { Passes (λ u. u) result (count_checks self.now) tt }
     {
         let counts = self.counts();
         if !all_at_least(1, &counts) {
@@ -229,7 +229,7 @@ impl<'a> Tables<'a> {
 
     /// Checks that the indexes of each list are non-decreasing and inside the list that they refer to.
     pub(crate) fn check_indexes(&self) -> Result<(), ReadFault>
-        ensures { Passes (λ u. u) result (all_index_steps self.now) tt }
+        ensures { Passes (λ u. u) result (all_index_checks self.now) tt }
     {
         self.presets.check_indexes::<FirstBag<Head>>()?;
         self.instruments.check_indexes::<FirstBag<Name20>>()
@@ -238,7 +238,7 @@ impl<'a> Tables<'a> {
 
 /// The number of headers without the terminal.
 pub(crate) fn row_count<H: Record>(heads: &Table<H>) -> usize
-    ensures { result ≡ length (rows heads.now) }
+    ensures { result ≡ length (without_terminal heads.now) }
 {
     heads.len().saturating_sub(1)
 }

@@ -1,7 +1,7 @@
 //! Indexes of records into other lists.
 ghost use Rattle.std.specs.Prelude.{◌≡◌, ℕ, map};
-ghost use Rattle.bank_format.specs.Steps.{Passes};
-ghost use Rattle.bank_format.specs.ReadSteps.{index_steps};
+ghost use Rattle.bank_format.specs.FaultChecks.{Passes};
+ghost use Rattle.bank_format.specs.ReadChecks.{index_checks};
 
 use bank_format::{ReadFault, RecordedHead};
 use hydra_records::{Bag, Record, Table};
@@ -51,12 +51,12 @@ impl Index<Bag> for FirstModulator {
 }
 
 /// Checks that the indexes into a list of `count` records are non-decreasing, and at most that of its last record.
-#[tactic(auto, unfolding(bank_format::specs::ReadSteps::index_steps))]
+#[tactic(auto, unfolding(bank_format::specs::ReadChecks::index_checks))]
 pub(crate) fn check_indexes<R: Record + Copy, I: Index<R>>(
     records: &Table<R>,
     count: usize,
 ) -> Result<(), ReadFault>
-    ensures { Passes (λ u. u) result (index_steps (map I.index records.now) count) tt }
+    ensures { Passes (λ u. u) result (index_checks (map I.index records.now) count) tt }
 {
     let mut last = 0;
     for row in records.iter() {

@@ -4,9 +4,9 @@
 
 mod bag;
 mod entries;
-mod frame;
 mod hydra;
 mod indexes;
+mod lists;
 mod owners;
 mod reader;
 mod records;

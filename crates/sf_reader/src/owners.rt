@@ -1,13 +1,13 @@
 //! The presets and the instruments of a file, with their zones (SoundFont 2.04, sections 7.2 to 7.9).
 ghost use Rattle.std.specs.Prelude.{◌≡◌, ◌≤◌, ◌+◌, None, [], length, IfOk, OnOk};
 ghost use Rattle.sf_base.specs.declared.limits.TheConstants.{RECORDS};
-ghost use Rattle.bank_format.specs.Steps.{PassesGivenMemory, first_broken};
-ghost use Rattle.bank_format.specs.ReadSteps.{count_steps, all_index_steps};
-ghost use Rattle.sf_reader.specs.Bags.{counts_read, own_bags, steps_of_bags};
-ghost use Rattle.sf_reader.specs.Owners.{added, AreSmall, AreOwnersSoFar, AddsOwner, AreEnded, window_of, windows_of, owners_seen, owners_with_counts, zone_steps, members_seen, members_of, member_steps};
+ghost use Rattle.bank_format.specs.FaultChecks.{PassesOrOutOfMemory, first_fault};
+ghost use Rattle.bank_format.specs.ReadChecks.{count_checks, all_index_checks};
+ghost use Rattle.sf_reader.specs.Bags.{counts_read, own_bags, checks_of_bags};
+ghost use Rattle.sf_reader.specs.Owners.{added, AreSmall, AreOwnersSoFar, AppendsOwner, AreEnded, window_of, windows_of, owners_seen, owners_with_counts, zone_checks, bank_owners_seen, bank_owners_of, bank_owner_checks};
 
 use crate::hydra::{LevelTables, Tables, row_count};
-use crate::records::{RecordsSoFar, bag_count, no_records};
+use crate::records::{RecordsSoFar, bag_count, empty_records};
 use crate::zones::{NO_COUNTS, Targets, ZoneCounts, read_bags};
 use bank_core::{FlatHeads, Recs};
 use bank_format::{ReadFault, RecordedHead};
@@ -98,16 +98,19 @@ impl<H: Drop> OwnersRead<H> {
 
 /// The presets and the instruments of a file.
 #[derive(Drop)]
-pub(crate) struct Members {
+pub(crate) struct BankOwners {
     pub(crate) presets: OwnersRead<Head>,
     pub(crate) instruments: OwnersRead<Name20>,
 }
 
 /// Reads the presets, then the instruments. The target of each zone must exist.
-pub(crate) fn read_members(alloc: Global, tables: &Tables) -> Result<Members, Failure<ReadFault>>
-    requires counts { first_broken (count_steps tables.now) ≡ None }
-    requires indexes { first_broken (all_index_steps tables.now) ≡ None }
-    ensures { PassesGivenMemory members_seen result (member_steps tables.now) (members_of tables.now) }
+pub(crate) fn read_bank_owners(
+    alloc: Global,
+    tables: &Tables,
+) -> Result<BankOwners, Failure<ReadFault>>
+    requires counts { first_fault (count_checks tables.now) ≡ None }
+    requires indexes { first_fault (all_index_checks tables.now) ≡ None }
+    ensures { PassesOrOutOfMemory bank_owners_seen result (bank_owner_checks tables.now) (bank_owners_of tables.now) }
 {
     let instruments = Targets {
         count: row_count(&tables.instruments().heads),
@@ -119,7 +122,7 @@ pub(crate) fn read_members(alloc: Global, tables: &Tables) -> Result<Members, Fa
         missing: ReadFault::BadSample,
     };
     let instruments = read_owners(alloc, tables.instruments(), samples)?;
-    Ok(Members {
+    Ok(BankOwners {
         presets,
         instruments,
     })
@@ -134,11 +137,11 @@ fn read_owners<H: RecordedHead>(
     requires heads { length level.now.heads ≤ RECORDS }
     requires bags { length level.now.bags ≤ RECORDS }
     requires generators { length level.now.generators ≤ RECORDS }
-    ensures { PassesGivenMemory owners_seen result
-        (zone_steps H.headers.level targets.count targets.missing (windows_of H.headers.first_bag level.now))
+    ensures { PassesOrOutOfMemory owners_seen result
+        (zone_checks H.headers.level targets.count targets.missing (windows_of H.headers.first_bag level.now))
         (owners_with_counts H.headers level.now.heads (windows_of H.headers.first_bag level.now)) }
 {
-    let mut read = no_owners(alloc, level)?;
+    let mut read = empty_owners(alloc, level)?;
     let mut heads = level.heads.iter();
     let Some(mut head) = heads.next() else {
         return Ok(read.ended()?);
@@ -151,7 +154,7 @@ fn read_owners<H: RecordedHead>(
 }
 
 // Empty lists with capacity for all records of the tables.
-fn no_owners<H: RecordedHead>(
+fn empty_owners<H: RecordedHead>(
     alloc: Global,
     level: &LevelTables<H::Record>,
 ) -> Result<OwnersSoFar<H>, OutOfMemory>
@@ -160,7 +163,7 @@ fn no_owners<H: RecordedHead>(
     let heads = Vec::with_capacity(alloc, row_count(&level.heads))?;
     let mut first_bags = Vec::with_capacity(alloc, level.heads.len())?;
     first_bags.push(0)?;
-    let records = no_records(
+    let records = empty_records(
         alloc,
         level.bags.len(),
         level.generators.len(),
@@ -185,9 +188,9 @@ fn read_owner<H: RecordedHead>(
     requires bags { length level.now.bags ≤ RECORDS }
     requires generators { length level.now.generators ≤ RECORDS }
     requires counts { AreSmall (added read.old.counts (counts_read H.headers.level (window_of H.headers.first_bag level.now head.now next.now))) }
-    ensures passes { PassesGivenMemory (λ u. u) result
-        (steps_of_bags H.headers.level targets.count targets.missing (window_of H.headers.first_bag level.now head.now next.now)) tt }
-    ensures read { OnOk result (AddsOwner read.old read.new (H.headers.read head.now)
+    ensures passes { PassesOrOutOfMemory (λ u. u) result
+        (checks_of_bags H.headers.level targets.count targets.missing (window_of H.headers.first_bag level.now head.now next.now)) tt }
+    ensures read { OnOk result (AppendsOwner read.old read.new (H.headers.read head.now)
         (own_bags H.headers.level (window_of H.headers.first_bag level.now head.now next.now))
         (counts_read H.headers.level (window_of H.headers.first_bag level.now head.now next.now))) }
 {

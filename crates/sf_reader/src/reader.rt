@@ -4,21 +4,21 @@ ghost use Rattle.sf_base.specs.Fields.{field_at};
 ghost use Rattle.bank_parts.specs.Valid.{IsValid};
 ghost use Rattle.bank_parts.specs.Fits.{Fits};
 ghost use Rattle.bank_format.specs.Ids.{SMPL};
-ghost use Rattle.bank_format.specs.Steps.{Passes, PassesGivenMemory, Fails};
+ghost use Rattle.bank_format.specs.FaultChecks.{Passes, PassesOrOutOfMemory, Fails};
 ghost use Rattle.bank_format.specs.Chunks.{body_in};
 ghost use Rattle.bank_format.specs.Reading.{sm24_dropped};
-ghost use Rattle.bank_format.specs.ReadSteps.{ReadsAs, fault_of};
-ghost use Rattle.sf_reader.specs.Content.{list_content_steps, list_content, version_steps, checked_steps, table_steps, table_content, content_with};
-ghost use Rattle.sf_reader.specs.Owners.{added, AreSmall, members_seen};
+ghost use Rattle.bank_format.specs.ReadChecks.{ReadsAs, fault_of};
+ghost use Rattle.sf_reader.specs.Content.{list_content_checks, list_content, version_checks, early_table_checks, table_checks, table_content, content_with};
+ghost use Rattle.sf_reader.specs.Owners.{added, AreSmall, bank_owners_seen};
 ghost use Rattle.sf_reader.specs.FlatContent.{content_seen};
 
-use crate::frame::{Lists, lists_of};
 use crate::hydra::{HydraChunks, Tables, needed_body};
-use crate::owners::{Members, add, read_members};
+use crate::lists::{Lists, lists_of};
+use crate::owners::{BankOwners, add, read_bank_owners};
 use crate::samples::{
     check_samples, check_total, count_lost_links, count_lost_loops, read_samples,
 };
-use crate::texts::{count_cut, cut_texts, texts_of};
+use crate::texts::{count_too_long, texts_of, truncated_texts};
 use bank_core::{Bank, Flat, Sample};
 use bank_format::{Counts, ReadFault, read_banks_are_valid, window_of};
 use bank_linked_members::LinkedMembers;
@@ -59,7 +59,7 @@ fn read_lists<'a>(
     alloc: Global,
     lists: &Lists<'a>,
 ) -> Result<(Flat<'a>, Counts), Failure<ReadFault>>
-    ensures { PassesGivenMemory content_seen result (list_content_steps lists.now)
+    ensures { PassesOrOutOfMemory content_seen result (list_content_checks lists.now)
         (list_content lists.now) }
 {
     let version = needed_body(&lists.info, *b"ifil")?;
@@ -72,7 +72,7 @@ fn read_lists<'a>(
 
 // Returns the minor version; the major version must be 2 (SoundFont 2.04, section 5.1).
 fn minor_of(ifil: &[u8]) -> Result<u16, ReadFault>
-    ensures { Passes (λ minor. minor) result (version_steps ifil.now) (field_at 2 2 ifil.now) }
+    ensures { Passes (λ minor. minor) result (version_checks ifil.now) (field_at 2 2 ifil.now) }
 {
     if ifil.len() != 4 || u16_at(ifil, 0) != 2 {
         return Err(ReadFault::Version);
@@ -96,20 +96,20 @@ fn read_tables<'a>(
     tables: &Tables,
     smpl: &'a [u8],
 ) -> Result<(Flat<'a>, Counts), Failure<ReadFault>>
-    ensures { PassesGivenMemory content_seen result (table_steps tables.now smpl.now)
+    ensures { PassesOrOutOfMemory content_seen result (table_checks tables.now smpl.now)
         (table_content minor lists.now tables.now smpl.now) }
 {
     check_tables(tables, smpl)?;
-    let members = read_members(alloc, tables)?;
+    let members = read_bank_owners(alloc, tables)?;
     check_total(tables.samples())?;
     let samples = read_samples(alloc, tables.samples(), smpl)?;
     Ok(content_of(minor, lists, tables, members, samples))
 }
 
 // Makes the checks of the nine lists and the points that precede reading presets and instruments.
-#[tactic(auto, unfolding(crate::specs::Content::checked_steps))]
+#[tactic(auto, unfolding(crate::specs::Content::early_table_checks))]
 fn check_tables(tables: &Tables, smpl: &[u8]) -> Result<(), ReadFault>
-    ensures passes { Passes (λ u. u) result (checked_steps tables.now smpl.now) tt }
+    ensures passes { Passes (λ u. u) result (early_table_checks tables.now smpl.now) tt }
     ensures even { OnOk result (length smpl.now % 2 ≡ 0) }
 {
     tables.check_counts()?;
@@ -125,16 +125,16 @@ fn content_of<'a>(
     minor: u16,
     lists: &Lists<'a>,
     tables: &Tables,
-    members: Members,
+    members: BankOwners,
     samples: LinkedMembers<Sample<'a>>,
 ) -> (Flat<'a>, Counts)
     requires { AreSmall (added members.presets.counts members.instruments.counts) }
-    ensures { content_seen result ≡ content_with minor lists.now tables.now (members_seen members) samples.entry }
+    ensures { content_seen result ≡ content_with minor lists.now tables.now (bank_owners_seen members) samples.entry }
 {
     let texts = texts_of(&lists.info);
     let zone_counts = add(members.presets.counts, members.instruments.counts);
     let counts = Counts {
-        texts: count_cut(&texts),
+        texts: count_too_long(&texts),
         sm24: count_sm24(&lists.sdta),
         zones: zone_counts.zones,
         gens: zone_counts.gens,
@@ -142,7 +142,7 @@ fn content_of<'a>(
         loops: count_lost_loops(tables.samples()),
         links: count_lost_links(tables.samples()),
     };
-    let Members {
+    let BankOwners {
         presets,
         instruments,
     } = members;
@@ -150,7 +150,7 @@ fn content_of<'a>(
     let (inst_heads, inst) = instruments.into_lists();
     let flat = Flat {
         minor,
-        texts: cut_texts(&texts),
+        texts: truncated_texts(&texts),
         preset_heads,
         inst_heads,
         preset,

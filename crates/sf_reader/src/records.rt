@@ -5,7 +5,7 @@ ghost use Rattle.sf_reader.specs.declared.records.RecordsSoFar.{RecordsSoFar};
 ghost use Rattle.flat_records.specs.Bags.{Bag, tables_of};
 ghost use Rattle.bank_parts.specs.declared.parts.GlobalZone.{GlobalZone};
 ghost use Rattle.bank_parts.specs.Bagged.{global_bags};
-ghost use Rattle.sf_reader.specs.Records.{AreSoFar, Adds, HoldsGens, EndsBag};
+ghost use Rattle.sf_reader.specs.Records.{AreSoFar, Appends, HoldsGens, EndsBag};
 
 use bank_core::Recs;
 use hydra_records::Table;
@@ -47,7 +47,7 @@ impl RecordsSoFar {
 }
 
 /// Empty lists with capacity for these numbers of records.
-pub(crate) fn no_records(
+pub(crate) fn empty_records(
     alloc: Global,
     bags: usize,
     gens: usize,
@@ -84,7 +84,7 @@ pub(crate) fn end_global(
 ) -> Result<(), OutOfMemory>
     requires { start ≤ length records.old.gens.items }
     ensures { OnOk result ((before : RecordsSoFar) (g : GlobalZone) → HoldsGens before records.old (entries g.gens) → start ≡ length before.gens.items
-        → g.mods ≡ modulators.now → Adds before records.new (global_bags g)) }
+        → g.mods ≡ modulators.now → Appends before records.new (global_bags g)) }
 {
     let gens = records.gens.len() - start;
     let mods = modulators.len();

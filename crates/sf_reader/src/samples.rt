@@ -2,11 +2,11 @@
 ghost use Rattle.std.specs.Prelude.{◌≡◌, ◌+◌, ◌-◌, ◌%◌, ◌/◌, ◌==◌, not, flat_map, length, map, take, count_by, slice_range, IfOk};
 ghost use Rattle.std.specs.Iterator.Adapters.{take_source, take_count};
 ghost use Rattle.sample_view.specs.Words.{words};
-ghost use Rattle.bank_format.specs.Steps.{Passes};
-ghost use Rattle.bank_format.specs.Windows.{rows};
+ghost use Rattle.bank_format.specs.FaultChecks.{Passes};
+ghost use Rattle.bank_format.specs.Windows.{without_terminal};
 ghost use Rattle.bank_format.specs.Samples.{has_loop, loop_read, kind_read, sample_read, is_loop_lost, is_link_lost};
 ghost use Rattle.bank_format.specs.Reading.{samples_read};
-ghost use Rattle.bank_format.specs.ReadSteps.{sample_step, total_steps};
+ghost use Rattle.bank_format.specs.ReadChecks.{sample_checks, total_checks};
 
 use crate::hydra::row_count;
 use bank_core::{Kind, Sample};
@@ -38,26 +38,26 @@ const PACKED: u16 = 0x0010;
 const ROM: u16 = 0x8000;
 
 // The headers of the samples without the terminal.
-fn rows<'a>(heads: &Table<'a, SampleHead>) -> Take<Records<'a, SampleHead>>
-    ensures { take (take_count result) (take_source result) ≡ rows heads.now }
+fn without_terminal<'a>(heads: &Table<'a, SampleHead>) -> Take<Records<'a, SampleHead>>
+    ensures { take (take_count result) (take_source result) ≡ without_terminal heads.now }
 {
     heads.iter().take(row_count(heads))
 }
 
 /// Checks that each sample can be read, where `points` is the number of points in the file.
 pub(crate) fn check_samples(heads: &Table<SampleHead>, points: usize) -> Result<(), ReadFault>
-    ensures { Passes (λ u. u) result (flat_map (sample_step points) (rows heads.now)) tt }
+    ensures { Passes (λ u. u) result (flat_map (sample_checks points) (without_terminal heads.now)) tt }
 {
-    for head in rows(heads) {
+    for head in without_terminal(heads) {
         check_sample(&head, points)?;
     }
     Ok(())
 }
 
 // Checks that the sample is neither packed nor in ROM, and its range is within the points.
-#[tactic(auto, unfolding(bank_format::specs::ReadSteps::sample_step))]
+#[tactic(auto, unfolding(bank_format::specs::ReadChecks::sample_checks))]
 fn check_sample(head: &SampleHead, points: usize) -> Result<(), ReadFault>
-    ensures { Passes (λ u. u) result (sample_step points head.now) tt }
+    ensures { Passes (λ u. u) result (sample_checks points head.now) tt }
 {
     if is_packed(head.kind) {
         return Err(ReadFault::SampleType);
@@ -72,12 +72,12 @@ fn check_sample(head: &SampleHead, points: usize) -> Result<(), ReadFault>
 }
 
 /// Checks that the points of all samples, with the zero points after each, are not too many.
-#[tactic(auto, unfolding(bank_format::specs::ReadSteps::total_steps))]
+#[tactic(auto, unfolding(bank_format::specs::ReadChecks::total_checks))]
 pub(crate) fn check_total(heads: &Table<SampleHead>) -> Result<(), ReadFault>
-    ensures { Passes (λ u. u) result (total_steps (rows heads.now)) tt }
+    ensures { Passes (λ u. u) result (total_checks (without_terminal heads.now)) tt }
 {
     let mut total = 0;
-    for head in rows(heads) {
+    for head in without_terminal(heads) {
         total += u64::from(point_count(&head)) + ZERO_POINTS as u64;
         if total > POINTS {
             return Err(ReadFault::TooMany);
@@ -100,11 +100,11 @@ pub(crate) fn read_samples<'a>(
     smpl: &'a [u8],
 ) -> Result<LinkedMembers<Sample<'a>>, OutOfMemory>
     requires { length smpl.now % 2 ≡ 0 }
-    ensures { IfOk result (λ samples. samples ≡ samples_read (words smpl.now) (rows heads.now)) }
+    ensures { IfOk result (λ samples. samples ≡ samples_read (words smpl.now) (without_terminal heads.now)) }
 {
     let count = row_count(heads);
     let mut samples = Vec::with_capacity(alloc, count)?;
-    for head in rows(heads) {
+    for head in without_terminal(heads) {
         samples.push(read_sample(alloc, &head, count, smpl))?;
     }
     Ok(LinkedMembers::from_vec(samples))
@@ -173,9 +173,11 @@ fn kind_of(head: &SampleHead, count: usize) -> Kind
 
 /// Returns how many loops are dropped: those that are not inside their sample, unless their ends are equal.
 pub(crate) fn count_lost_loops(heads: &Table<SampleHead>) -> u64
-    ensures { result ≡ count_by is_loop_lost (rows heads.now) }
+    ensures { result ≡ count_by is_loop_lost (without_terminal heads.now) }
 {
-    rows(heads).filter(|head| is_loop_lost(head)).count() as u64
+    without_terminal(heads)
+        .filter(|head| is_loop_lost(head))
+        .count() as u64
 }
 
 // Whether the loop is dropped.
@@ -188,10 +190,12 @@ fn is_loop_lost(head: &SampleHead) -> bool
 
 /// Returns how many samples have an unknown type other than 0, or a link to a sample that does not exist.
 pub(crate) fn count_lost_links(heads: &Table<SampleHead>) -> u64
-    ensures { result ≡ count_by (is_link_lost (length (rows heads.now))) (rows heads.now) }
+    ensures { result ≡ count_by (is_link_lost (length (without_terminal heads.now))) (without_terminal heads.now) }
 {
     let count = row_count(heads);
-    rows(heads).filter(|head| is_link_lost(head, count)).count() as u64
+    without_terminal(heads)
+        .filter(|head| is_link_lost(head, count))
+        .count() as u64
 }
 
 // Whether the sample has an unknown type other than 0, or a link to a sample that does not exist.

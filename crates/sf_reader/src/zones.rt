@@ -1,11 +1,11 @@
 //! Reading the zones of presets and instruments from bags.
 ghost use Rattle.std.specs.Prelude.{◌≡◌, ◌≤◌, ◌∷◌, [], length, nat_lt, slice_range, OnOk};
 ghost use Rattle.sf_base.specs.declared.limits.TheConstants.{RECORDS};
-ghost use Rattle.bank_format.specs.Steps.{Passes, PassesGivenMemory, step};
+ghost use Rattle.bank_format.specs.FaultChecks.{Passes, PassesOrOutOfMemory, check};
 ghost use Rattle.bank_format.specs.Reading.{bagged, bags_in};
-ghost use Rattle.sf_reader.specs.Bags.{counts_read, own_bags, zone_bags, steps_of_bags};
-ghost use Rattle.sf_reader.specs.Later.{AreFew, counts_with_later};
-ghost use Rattle.sf_reader.specs.Records.{Adds};
+ghost use Rattle.sf_reader.specs.Bags.{counts_read, own_bags, zone_bags, checks_of_bags};
+ghost use Rattle.sf_reader.specs.LaterBags.{AreFew, counts_with_later};
+ghost use Rattle.sf_reader.specs.Records.{Appends};
 
 use crate::bag::{GensRead, read_gens};
 use crate::records::{RecordsSoFar, end_global, end_zone};
@@ -59,10 +59,10 @@ pub(crate) fn read_bags(
 ) -> Result<ZoneCounts, Failure<ReadFault>>
     requires bags { length bags.now ≤ RECORDS }
     requires generators { length generators.now ≤ RECORDS }
-    ensures passes { PassesGivenMemory (λ counts. counts) result
-        (steps_of_bags level targets.count targets.missing (bags_in bags.now generators.now modulators.now))
+    ensures passes { PassesOrOutOfMemory (λ counts. counts) result
+        (checks_of_bags level targets.count targets.missing (bags_in bags.now generators.now modulators.now))
         (counts_read level (bags_in bags.now generators.now modulators.now)) }
-    ensures records { OnOk result (Adds records.old records.new (own_bags level (bags_in bags.now generators.now modulators.now))) }
+    ensures records { OnOk result (Appends records.old records.new (own_bags level (bags_in bags.now generators.now modulators.now))) }
 {
     let mut rest = bags.iter();
     let Some(first) = rest.next() else {
@@ -105,10 +105,10 @@ fn read_first(
     targets: Targets,
     records: &mut RecordsSoFar,
 ) -> Result<ZoneCounts, Failure<ReadFault>>
-    ensures passes { PassesGivenMemory (λ counts. counts) result
-        (steps_of_bags level targets.count targets.missing (bagged generators.now modulators.now ∷ []))
+    ensures passes { PassesOrOutOfMemory (λ counts. counts) result
+        (checks_of_bags level targets.count targets.missing (bagged generators.now modulators.now ∷ []))
         (counts_read level (bagged generators.now modulators.now ∷ [])) }
-    ensures records { OnOk result (Adds records.old records.new (own_bags level (bagged generators.now modulators.now ∷ []))) }
+    ensures records { OnOk result (Appends records.old records.new (own_bags level (bagged generators.now modulators.now ∷ []))) }
 {
     let start = records.gens.len();
     let GensRead {
@@ -141,10 +141,10 @@ fn read_later(
 ) -> Result<ZoneCounts, Failure<ReadFault>>
     requires few { AreFew counts }
     requires generators { length generators.now ≤ RECORDS }
-    ensures passes { PassesGivenMemory (λ counts. counts) result
-        (steps_of_bags level targets.count targets.missing (bagged generators.now modulators.now ∷ []))
+    ensures passes { PassesOrOutOfMemory (λ counts. counts) result
+        (checks_of_bags level targets.count targets.missing (bagged generators.now modulators.now ∷ []))
         (counts_with_later level counts (bagged generators.now modulators.now ∷ [])) }
-    ensures records { OnOk result (Adds records.old records.new (zone_bags level (bagged generators.now modulators.now ∷ []))) }
+    ensures records { OnOk result (Appends records.old records.new (zone_bags level (bagged generators.now modulators.now ∷ []))) }
 {
     let start = records.gens.len();
     let GensRead {
@@ -170,7 +170,7 @@ fn read_later(
 
 // Checks that the target exists.
 fn check_target(target: u16, targets: Targets) -> Result<(), ReadFault>
-    ensures { Passes (λ u. u) result (step (nat_lt target targets.count) targets.missing ∷ []) tt }
+    ensures { Passes (λ u. u) result (check (nat_lt target targets.count) targets.missing ∷ []) tt }
 {
     if target as usize >= targets.count {
         return Err(targets.missing);

@@ -6,8 +6,8 @@ use Rattle.std.proofs.lemmas.Bool.{ne_eqb}
 use Rattle.std.proofs.lemmas.List.{length-append, append-nil, at_drop_more}
 use Rattle.std.proofs.lemmas.List.Concat.{flat_map-append}
 use Rattle.riff_chunks.specs.Walk.{LIST}
-use Rattle.riff_chunks.specs.Spelling.{pad, chunk, chunk_head}
-use Rattle.riff_chunks.proofs.SpellingLaws.{length-chunk}
+use Rattle.riff_chunks.specs.Encoding.{pad, chunk, chunk_head}
+use Rattle.riff_chunks.proofs.EncodingLaws.{length-chunk}
 use Rattle.base_outputs.specs.declared.output.Output.{Output}
 use Rattle.base_outputs.specs.Output.{Puts}
 use Rattle.base_outputs.proofs.OutputLaws.{puts_row}
@@ -67,15 +67,15 @@ pub flat_map-next : {X Y : Type 0} (f : X → List Y) (xs : List X) (i : ℕ) (d
 flat_map-next f xs i d lt = at_drop_more (flat_map f) xs i d lt
 
 -- the same for bytes of a flat map
-pub spelled-next : {X Y Z : Type 0} (g : Y → List Z) (f : X → List Y) (xs : List X) (i : ℕ) (d : X) → i < length xs
+pub encoding-next : {X Y Z : Type 0} (g : Y → List Z) (f : X → List Y) (xs : List X) (i : ℕ) (d : X) → i < length xs
     → flat_map g (flat_map f (drop i xs)) ≡ flat_map g (f (get_or xs i d)) ++ flat_map g (flat_map f (drop (i + 1) xs))
-spelled-next g f xs i d lt =
+encoding-next g f xs i d lt =
     ap (flat_map g) (flat_map-next f xs i d lt)
     ∙ flat_map-append g (f (get_or xs i d)) (flat_map f (drop (i + 1) xs))
 
 -- the same for an element that was read
-pub spelled-read : {X Y Z : Type 0} (g : Y → List Z) (f : X → List Y) (xs : List X) (i : ℕ) (x : X) → i < length xs
+pub encoding-read : {X Y Z : Type 0} (g : Y → List Z) (f : X → List Y) (xs : List X) (i : ℕ) (x : X) → i < length xs
     → x ≡ get_or xs i x
     → flat_map g (flat_map f (drop i xs)) ≡ flat_map g (f x) ++ flat_map g (flat_map f (drop (i + 1) xs))
-spelled-read g f xs i x lt is =
-    spelled-next g f xs i x lt ∙ ap (λ y. flat_map g (f y) ++ flat_map g (flat_map f (drop (i + 1) xs))) (sym is)
+encoding-read g f xs i x lt is =
+    encoding-next g f xs i x lt ∙ ap (λ y. flat_map g (f y) ++ flat_map g (flat_map f (drop (i + 1) xs))) (sym is)

@@ -2,8 +2,8 @@
 use Rattle.std.proofs.Common.{◌≡◌, ◌+◌, ◌%◌, ℕ, List, ◌++◌, length, refl, ap, arith}
 use Rattle.std.proofs.lemmas.List.{length-append, append-nil}
 use Rattle.riff_chunks.specs.Walk.{LIST}
-use Rattle.riff_chunks.specs.Spelling.{spell}
-use Rattle.riff_chunks.proofs.SpellingLaws.{length-chunk}
+use Rattle.riff_chunks.specs.Encoding.{encode}
+use Rattle.riff_chunks.proofs.EncodingLaws.{length-chunk}
 use Rattle.bank_parts.specs.declared.parts.Parts.{Parts}
 use Rattle.bank_format.specs.Ids.{RIFF, SFBK, INFO, SDTA, PDTA}
 use Rattle.bank_format.specs.Tables.{tables_of}
@@ -21,12 +21,12 @@ abbrev pdta_list : Parts → List ℕ
 pdta_list b = list_bytes PDTA (pdta (tables_of b))
 
 -- the three lists
-pub lists-is : (b : Parts) → spell (lists b) ≡ info_list b ++ (sdta_list b ++ pdta_list b)
+pub lists-is : (b : Parts) → encode (lists b) ≡ info_list b ++ (sdta_list b ++ pdta_list b)
 unfolding lists
 lists-is b = ap (λ (t : List ℕ). info_list b ++ (sdta_list b ++ t)) (append-nil (pdta_list b))
 
 pub length-lists : (b : Parts)
-    → length (spell (lists b)) ≡ length (info_list b) + length (sdta_list b) + length (pdta_list b)
+    → length (encode (lists b)) ≡ length (info_list b) + length (sdta_list b) + length (pdta_list b)
 length-lists b =
     omega (
       arith,
@@ -40,18 +40,18 @@ unfolding SFBK
 length-SFBK = refl
 
 -- each list has an even length
-pub lists-even : (b : Parts) → length (spell (lists b)) % 2 ≡ 0
+pub lists-even : (b : Parts) → length (encode (lists b)) % 2 ≡ 0
 lists-even b =
     omega (
       arith,
       length-lists b,
-      length-chunk LIST (INFO ++ spell (info b)) length-LIST,
-      length-chunk LIST (SDTA ++ spell (sdta b)) length-LIST,
-      length-chunk LIST (PDTA ++ spell (pdta (tables_of b))) length-LIST,
+      length-chunk LIST (INFO ++ encode (info b)) length-LIST,
+      length-chunk LIST (SDTA ++ encode (sdta b)) length-LIST,
+      length-chunk LIST (PDTA ++ encode (pdta (tables_of b))) length-LIST,
     )
 
-pub length-canon : (b : Parts) → length (canon b) ≡ 8 + length (SFBK ++ spell (lists b))
+pub length-canon : (b : Parts) → length (canon b) ≡ 8 + length (SFBK ++ encode (lists b))
 unfolding canon RIFF
-length-canon b = length-form-even RIFF SFBK (spell (lists b)) refl length-SFBK (lists-even b)
+length-canon b = length-form-even RIFF SFBK (encode (lists b)) refl length-SFBK (lists-even b)
 
 pub ruleset file_size = (length-canon)

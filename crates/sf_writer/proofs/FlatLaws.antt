@@ -7,8 +7,8 @@ use Rattle.generators.specs.declared.level.Level.{Level}
 use Rattle.modulators.specs.declared.modulator.Modulator.{Modulator}
 use Rattle.hydra_records.specs.declared.zone.Bag.{Bag}
 use Rattle.hydra_records.specs.declared.zone.Generator.{Generator}
-use Rattle.hydra_records.specs.Spelling.{bag_bytes, modulator_bytes, generator_bytes}
-use Rattle.bank_parts.specs.declared.parts.WithZones.{WithZones}
+use Rattle.hydra_records.specs.Encoding.{bag_bytes, modulator_bytes, generator_bytes}
+use Rattle.bank_parts.specs.declared.parts.ZoneOwner.{ZoneOwner}
 use Rattle.bank_parts.specs.Valid.{owner_total, zone_count, gen_count, mod_count}
 use Rattle.bank_parts.specs.FlatLists.{lists_of}
 use Rattle.bank_parts.proofs.FlatListLaws.{bags_size, gens_size, mods_size}
@@ -21,16 +21,16 @@ use Rattle.bank_format.proofs.FlatLaws.{bags-flat, mods-flat, gens-flat}
 pub records_at : {X R : Type 0} (bytes_of : R → List ℕ) (f : X → R) (xs : List X) (i : ℕ) (d : X) (bytes : List ℕ)
     → i < length xs → bytes ≡ bytes_of (f (get_or xs i d))
     → flat_map bytes_of (map f (drop i xs)) ≡ bytes ++ flat_map bytes_of (map f (drop (i + 1) xs))
-records_at bytes_of f xs i d bytes lt spelled =
+records_at bytes_of f xs i d bytes lt encoding =
     at_drop_more (λ ys. flat_map bytes_of (map f ys)) xs i d lt
-    ∙ ap (λ (t : List ℕ). t ++ flat_map bytes_of (map f (drop (i + 1) xs))) (sym spelled)
+    ∙ ap (λ (t : List ℕ). t ++ flat_map bytes_of (map f (drop (i + 1) xs))) (sym encoding)
 
 pub mods_at : (ms : List Modulator) (i : ℕ) (d : Modulator) (bytes : List ℕ) → i < length ms
     → bytes ≡ modulator_bytes (get_or ms i d)
     → flat_map modulator_bytes (drop i ms) ≡ bytes ++ flat_map modulator_bytes (drop (i + 1) ms)
-mods_at ms i d bytes lt spelled =
+mods_at ms i d bytes lt encoding =
     at_drop_more (flat_map modulator_bytes) ms i d lt
-    ∙ ap (λ (t : List ℕ). t ++ flat_map modulator_bytes (drop (i + 1) ms)) (sym spelled)
+    ∙ ap (λ (t : List ℕ). t ++ flat_map modulator_bytes (drop (i + 1) ms)) (sym encoding)
 
 -- ---- lengths of records
 
@@ -51,20 +51,20 @@ length-gens (g ∷ gs) = let e = length-gens gs in omega (arith, e)
 
 -- ---- the lists of all presets or instruments
 
-module _ {H : Type 0} (at : Level) (owners : List (WithZones H)) where
+module _ {H : Type 0} (at : Level) (owners : List (ZoneOwner H)) where
   -- the borrowed flat lists are the records of the tables
-  pub bags-lent : (bags : List (ℕ × ℕ)) → bags ≡ (lists_of at owners).bags
+  pub bags-borrowed : (bags : List (ℕ × ℕ)) → bags ≡ (lists_of at owners).bags
       → flat_map bag_bytes (map bag_of bags) ≡ flat_map bag_bytes (bag_list (all_bags at owners))
-  bags-lent bags e =
+  bags-borrowed bags e =
       ap (λ bs. flat_map bag_bytes (map bag_of bs)) e ∙ ap (flat_map bag_bytes) (sym (bags-flat at owners))
 
-  pub mods-lent : (mods : List Modulator) → mods ≡ (lists_of at owners).mods
+  pub mods-borrowed : (mods : List Modulator) → mods ≡ (lists_of at owners).mods
       → flat_map modulator_bytes mods ≡ flat_map modulator_bytes (mod_list (all_bags at owners))
-  mods-lent mods e = ap (flat_map modulator_bytes) (e ∙ sym (mods-flat at owners))
+  mods-borrowed mods e = ap (flat_map modulator_bytes) (e ∙ sym (mods-flat at owners))
 
-  pub gens-lent : (gens : List (ℕ × ℕ)) → gens ≡ (lists_of at owners).gens
+  pub gens-borrowed : (gens : List (ℕ × ℕ)) → gens ≡ (lists_of at owners).gens
       → flat_map generator_bytes (map generator_of gens) ≡ flat_map generator_bytes (gen_list (all_bags at owners))
-  gens-lent gens e =
+  gens-borrowed gens e =
       ap (λ gs. flat_map generator_bytes (map generator_of gs)) e
       ∙ ap (flat_map generator_bytes) (sym (gens-flat at owners))
 

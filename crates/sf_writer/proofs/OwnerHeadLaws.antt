@@ -8,9 +8,9 @@ use Rattle.byteorder.specs.Endian.{little_bytes}
 use Rattle.generators.specs.declared.level.Level.{Level}
 use Rattle.hydra_records.specs.declared.head.PresetHead.{PresetHead}
 use Rattle.hydra_records.specs.declared.head.InstrumentHead.{InstrumentHead}
-use Rattle.hydra_records.specs.Spelling.{preset_head_bytes, instrument_head_bytes}
+use Rattle.hydra_records.specs.Encoding.{preset_head_bytes, instrument_head_bytes}
 use Rattle.bank_parts.specs.declared.parts.Head.{Head}
-use Rattle.bank_parts.specs.declared.parts.WithZones.{WithZones}
+use Rattle.bank_parts.specs.declared.parts.ZoneOwner.{ZoneOwner}
 use Rattle.bank_parts.specs.declared.parts.Parts.{Parts}
 use Rattle.bank_parts.specs.Owners.{head_at}
 use Rattle.bank_parts.specs.Valid.{IsPreset, IsInstrument, IsValid}
@@ -37,57 +37,57 @@ left_at xs i x d lt e = at_drop_more (λ ys. ys) xs i d lt ∙ ap (λ y. y ∷ d
 
 module _ {H R : Type 0} (bytes_of : R → List ℕ) (h : Headers H R) where
   -- the bytes of the headers of these owners, with these first bags, and of the terminal
-  abbrev spelled : List (WithZones H) → List ℕ → List ℕ
-  spelled owners first_bags = flat_map bytes_of (headers_of h owners first_bags)
+  abbrev encoding : List (ZoneOwner H) → List ℕ → List ℕ
+  encoding owners first_bags = flat_map bytes_of (headers_of h owners first_bags)
 
-  pub heads-start : (at : Level) (owners : List (WithZones H)) (first_bags : List ℕ) → h.level ≡ at
+  pub heads-start : (at : Level) (owners : List (ZoneOwner H)) (first_bags : List ℕ) → h.level ≡ at
       → first_bags ≡ (lists_of at owners).first_bags
-      → flat_map bytes_of (heads_from h 0 owners) ≡ spelled owners first_bags
+      → flat_map bytes_of (heads_from h 0 owners) ≡ encoding owners first_bags
   heads-start at owners first_bags level e =
       ap (flat_map bytes_of) (heads-flat h owners)
-      ∙ (ap (λ (l : Level). spelled owners (lists_of l owners).first_bags) level
-      ∙ ap (spelled owners) (sym e))
+      ∙ (ap (λ (l : Level). encoding owners (lists_of l owners).first_bags) level
+      ∙ ap (encoding owners) (sym e))
 
   -- the headers from index i on are that of owner i, and those after it
-  pub heads-next : (owners : List (WithZones H)) (first_bags : List ℕ) (i at : ℕ) (head : H) (r : R) (bytes : List ℕ)
+  pub heads-next : (owners : List (ZoneOwner H)) (first_bags : List ℕ) (i at : ℕ) (head : H) (r : R) (bytes : List ℕ)
       → i < length owners → i < length first_bags
       → head_at owners i ≡ Some head → at ≡ get_or first_bags i 0 → r ≡ h.written at head → bytes ≡ bytes_of r
-      → spelled (drop i owners) (drop i first_bags) ≡ bytes ++ spelled (drop (i + 1) owners) (drop (i + 1) first_bags)
+      → encoding (drop i owners) (drop i first_bags) ≡ bytes ++ encoding (drop (i + 1) owners) (drop (i + 1) first_bags)
   heads-next owners first_bags i at head r bytes lt within found is made put =
       let (x, has) = there owners i lt in
       let own : x.head ≡ head = cc in
       let record_is : bytes_of (h.written at x.head) ≡ bytes =
       ap (λ (k : H). bytes_of (h.written at k)) own ∙ ap bytes_of (sym made) ∙ sym put in
       (λ j.
-      spelled (left_at owners i x x lt (sym (get_or_from_slice_get owners i x x has)) j)
+      encoding (left_at owners i x x lt (sym (get_or_from_slice_get owners i x x has)) j)
       (left_at first_bags i at 0 within is j))
-      ∙ ap (λ (t : List ℕ). t ++ spelled (drop (i + 1) owners) (drop (i + 1) first_bags)) record_is
+      ∙ ap (λ (t : List ℕ). t ++ encoding (drop (i + 1) owners) (drop (i + 1) first_bags)) record_is
 
   -- after the last owner, only the terminal remains
-  pub heads-last : (owners : List (WithZones H)) (first_bags : List ℕ) (n at : ℕ) (r : R) (bytes : List ℕ)
+  pub heads-last : (owners : List (ZoneOwner H)) (first_bags : List ℕ) (n at : ℕ) (r : R) (bytes : List ℕ)
       → n ≡ length owners → n < length first_bags
       → at ≡ get_or first_bags n 0 → r ≡ h.last at → bytes ≡ bytes_of r
-      → spelled (drop n owners) (drop n first_bags) ≡ bytes
+      → encoding (drop n owners) (drop n first_bags) ≡ bytes
   heads-last owners first_bags n at r bytes all within is made put =
-      (λ j. spelled (drop_all n owners (omega (arith, all)) j) (left_at first_bags n at 0 within is j))
+      (λ j. encoding (drop_all n owners (omega (arith, all)) j) (left_at first_bags n at 0 within is j))
       ∙ append-nil (bytes_of (h.last at)) ∙ ap bytes_of (sym made) ∙ sym put
 
   -- the bytes of the headers of these owners and of the terminal, if `at` bags precede theirs
-  abbrev spelled_from : ℕ → List (WithZones H) → List ℕ
-  spelled_from at owners = flat_map bytes_of (heads_from h at owners)
+  abbrev encoding_from : ℕ → List (ZoneOwner H) → List ℕ
+  encoding_from at owners = flat_map bytes_of (heads_from h at owners)
 
   -- if each header and the terminal have one size
-  length-heads : (size : ℕ) (Fits : WithZones H → Type 0)
-      → ((at : ℕ) (x : WithZones H) → Fits x → length (bytes_of (h.written at x.head)) ≡ size)
+  length-heads : (size : ℕ) (Fits : ZoneOwner H → Type 0)
+      → ((at : ℕ) (x : ZoneOwner H) → Fits x → length (bytes_of (h.written at x.head)) ≡ size)
       → ((at : ℕ) → length (bytes_of (h.last at)) ≡ size)
-      → (at : ℕ) (owners : List (WithZones H)) → AllByRecursion Fits owners
-      → length (spelled_from at owners) ≡ (length owners + 1) * size
+      → (at : ℕ) (owners : List (ZoneOwner H)) → AllByRecursion Fits owners
+      → length (encoding_from at owners) ≡ (length owners + 1) * size
   length-heads size Fits one end at [] v = omega (arith, length-append (bytes_of (h.last at)) [], end at)
   length-heads size Fits one end at (x ∷ owners) v =
       let next = at + length (bags_of h.level x) in
       omega (
         arith,
-        length-append (bytes_of (h.written at x.head)) (spelled_from next owners),
+        length-append (bytes_of (h.written at x.head)) (encoding_from next owners),
         one at x v.0,
         length-heads size Fits one end next owners v.1,
       )
@@ -123,10 +123,10 @@ length_phdr b v =
     0 b.presets v.presets
 
 -- the headers of the borrowed presets are those of the table
-pub phdr-lent : (b : Parts) (owners : List (WithZones Head)) → owners ≡ b.presets
+pub phdr-borrowed : (b : Parts) (owners : List (ZoneOwner Head)) → owners ≡ b.presets
     → flat_map preset_head_bytes (heads_from presets 0 owners) ≡ flat_map preset_head_bytes (tables_of b).phdr
-phdr-lent b owners e =
-    ap (λ (ps : List (WithZones Head)). flat_map preset_head_bytes (heads_from presets 0 ps)) e
+phdr-borrowed b owners e =
+    ap (λ (ps : List (ZoneOwner Head)). flat_map preset_head_bytes (heads_from presets 0 ps)) e
     ∙ ap (flat_map preset_head_bytes) (sym (phdr-is b))
 
 pub phdr-even : (b : Parts) → IsValid b → length (flat_map preset_head_bytes (tables_of b).phdr) % 2 ≡ 0
@@ -154,11 +154,11 @@ length_inst b v =
     (λ at x v. length-instrument_head (instrument_written at x.head) (length-filled x.head v.name.0))
     length-instrument_end 0 b.instruments v.instruments
 
-pub inst-lent : (b : Parts) (owners : List (WithZones (List ℕ))) → owners ≡ b.instruments
+pub inst-borrowed : (b : Parts) (owners : List (ZoneOwner (List ℕ))) → owners ≡ b.instruments
     → flat_map instrument_head_bytes (heads_from instruments 0 owners)
     ≡ flat_map instrument_head_bytes (tables_of b).inst
-inst-lent b owners e =
-    ap (λ (is : List (WithZones (List ℕ))). flat_map instrument_head_bytes (heads_from instruments 0 is)) e
+inst-borrowed b owners e =
+    ap (λ (is : List (ZoneOwner (List ℕ))). flat_map instrument_head_bytes (heads_from instruments 0 is)) e
     ∙ ap (flat_map instrument_head_bytes) (sym (inst-is b))
 
 pub inst-even : (b : Parts) → IsValid b → length (flat_map instrument_head_bytes (tables_of b).inst) % 2 ≡ 0

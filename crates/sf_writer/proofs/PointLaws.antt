@@ -6,7 +6,7 @@ use Rattle.std.proofs.lemmas.List.{length-append, append-nil, at_drop_more}
 use Rattle.std.proofs.lemmas.List.Concat.{flat_map-append}
 use Rattle.std.proofs.lemmas.List.Sums.{sum_by-cons}
 use Rattle.riff_chunks.specs.Walk.{LIST}
-use Rattle.riff_chunks.specs.Spelling.{chunk, spell}
+use Rattle.riff_chunks.specs.Encoding.{chunk, encode}
 use Rattle.sample_view.specs.Words.{word_bytes}
 use Rattle.sample_view.proofs.WordLaws.{length-word_bytes}
 use Rattle.bank_parts.specs.declared.parts.Sample.{Sample}
@@ -50,22 +50,22 @@ all_points-even b = omega (arith, length_all_points b)
 -- ---- the list
 
 -- the list has one chunk
-pub sdta-is : (b : Parts) → spell (sdta b) ≡ chunk SMPL (flat_map word_bytes (all_points b))
+pub sdta-is : (b : Parts) → encode (sdta b) ≡ chunk SMPL (flat_map word_bytes (all_points b))
 unfolding sdta
 sdta-is b = append-nil (chunk SMPL (flat_map word_bytes (all_points b)))
 
-pub length-sdta : (b : Parts) → length (spell (sdta b)) ≡ 8 + length (flat_map word_bytes (all_points b))
+pub length-sdta : (b : Parts) → length (encode (sdta b)) ≡ 8 + length (flat_map word_bytes (all_points b))
 unfolding sdta SMPL
 length-sdta b =
     let points = flat_map word_bytes (all_points b) in
     omega (arith, length-append (chunk SMPL points) [], length-chunk-even SMPL points refl (all_points-even b))
 
-pub sdta-even : (b : Parts) → length (spell (sdta b)) % 2 ≡ 0
+pub sdta-even : (b : Parts) → length (encode (sdta b)) % 2 ≡ 0
 sdta-even b = omega (arith, length-sdta b, all_points-even b)
 
 pub length-SDTA : length SDTA ≡ 4
 unfolding SDTA
 length-SDTA = refl
 
-pub length-sdta_list : (b : Parts) → length (chunk LIST (SDTA ++ spell (sdta b))) ≡ 8 + length (SDTA ++ spell (sdta b))
-length-sdta_list b = length-form-even LIST SDTA (spell (sdta b)) length-LIST length-SDTA (sdta-even b)
+pub length-sdta_list : (b : Parts) → length (chunk LIST (SDTA ++ encode (sdta b))) ≡ 8 + length (SDTA ++ encode (sdta b))
+length-sdta_list b = length-form-even LIST SDTA (encode (sdta b)) length-LIST length-SDTA (sdta-even b)

@@ -8,10 +8,10 @@ use Rattle.std.proofs.lemmas.List.Concat.{flat_map-append}
 use Rattle.byteorder.specs.Endian.{little_bytes}
 use Rattle.generators.specs.declared.level.Level.TheVariants as level
 use Rattle.riff_chunks.specs.Walk.{Chunk, LIST}
-use Rattle.riff_chunks.specs.Spelling.{chunk, spell}
-use Rattle.riff_chunks.proofs.SpellingLaws.{length-chunk}
+use Rattle.riff_chunks.specs.Encoding.{chunk, encode}
+use Rattle.riff_chunks.proofs.EncodingLaws.{length-chunk}
 use Rattle.hydra_records.specs.declared.head.SampleHead.{SampleHead}
-use Rattle.hydra_records.specs.Spelling.{preset_head_bytes, instrument_head_bytes, sample_head_bytes}
+use Rattle.hydra_records.specs.Encoding.{preset_head_bytes, instrument_head_bytes, sample_head_bytes}
 use Rattle.bank_parts.specs.declared.parts.Sample.{Sample}
 use Rattle.bank_parts.specs.declared.parts.Parts.{Parts}
 use Rattle.bank_parts.specs.Valid.{IsSample, IsValid}
@@ -88,12 +88,12 @@ pub shdr-even : (b : Parts) → IsValid b → length (heads b) % 2 ≡ 0
 shdr-even b v = omega (arith, length_shdr b v)
 
 -- the headers of the samples from index i on, and the terminal
-unfoldable pub heads_left : ℕ → ℕ → List Sample → List ℕ
-heads_left start i samples =
+unfoldable pub remaining_heads : ℕ → ℕ → List Sample → List ℕ
+remaining_heads start i samples =
     flat_map sample_head_bytes (sample_heads_from start (drop i samples)) ++ sample_head_bytes sample_end
 
-pub heads-start : (b : Parts) (samples : List Sample) → samples ≡ b.samples → heads b ≡ heads_left 0 0 samples
-unfolding heads_left
+pub heads-start : (b : Parts) (samples : List Sample) → samples ≡ b.samples → heads b ≡ remaining_heads 0 0 samples
+unfolding remaining_heads
 heads-start b samples e =
     shdr-is b
     ∙ ap
@@ -105,9 +105,9 @@ heads-start b samples e =
 pub heads-next : (samples : List Sample) (i start : ℕ) (s : Sample) (h : SampleHead) (bytes : List ℕ)
     → i < length samples → s ≡ get_or samples i s
     → h ≡ sample_head start s → bytes ≡ sample_head_bytes h
-    → heads_left start i samples ≡ bytes ++ heads_left (h.end + 46) (i + 1) samples
-unfolding heads_left
-heads-next samples i start s h bytes lt is made spelled =
+    → remaining_heads start i samples ≡ bytes ++ remaining_heads (h.end + 46) (i + 1) samples
+unfolding remaining_heads
+heads-next samples i start s h bytes lt is made encoding =
     at_drop_more
     (λ (xs : List Sample).
     flat_map sample_head_bytes (sample_heads_from start xs) ++ sample_head_bytes sample_end)
@@ -120,20 +120,20 @@ heads-next samples i start s h bytes lt is made spelled =
     ∙ append_assoc (sample_head_bytes (sample_head start s))
     (flat_map sample_head_bytes (sample_heads_from (start + length s.points + 46) (drop (i + 1) samples)))
     (sample_head_bytes sample_end)
-    ∙ ap (λ (x : SampleHead). sample_head_bytes x ++ heads_left (x.end + 46) (i + 1) samples) (sym made)
-    ∙ ap (λ (t : List ℕ). t ++ heads_left (h.end + 46) (i + 1) samples) (sym spelled)
+    ∙ ap (λ (x : SampleHead). sample_head_bytes x ++ remaining_heads (x.end + 46) (i + 1) samples) (sym made)
+    ∙ ap (λ (t : List ℕ). t ++ remaining_heads (h.end + 46) (i + 1) samples) (sym encoding)
 
 -- after the last sample, only the terminal remains
 pub heads-last : (samples : List Sample) (i start : ℕ) (h : SampleHead) (bytes : List ℕ) → length samples ≤ i
     → h ≡ sample_end → bytes ≡ sample_head_bytes h
-    → heads_left start i samples ≡ bytes
-unfolding heads_left
-heads-last samples i start h bytes le made spelled =
+    → remaining_heads start i samples ≡ bytes
+unfolding remaining_heads
+heads-last samples i start h bytes le made encoding =
     ap
     (λ (xs : List Sample).
     flat_map sample_head_bytes (sample_heads_from start xs) ++ sample_head_bytes sample_end)
     (drop_all i samples le)
-    ∙ ap sample_head_bytes (sym made) ∙ sym spelled
+    ∙ ap sample_head_bytes (sym made) ∙ sym encoding
 
 -- ---- all nine
 
@@ -144,18 +144,18 @@ abbrev inst : Parts → List ℕ
 inst b = chunk INST (flat_map instrument_head_bytes (tables_of b).inst)
 
 abbrev preset_lists : Parts → List ℕ
-preset_lists b = spell (zone_lists level.Preset (all_bags level.Preset b.presets))
+preset_lists b = encode (zone_lists level.Preset (all_bags level.Preset b.presets))
 
 abbrev instrument_lists : Parts → List ℕ
-instrument_lists b = spell (zone_lists level.Inst (all_bags level.Inst b.instruments))
+instrument_lists b = encode (zone_lists level.Inst (all_bags level.Inst b.instruments))
 
 pub pdta-is : (b : Parts)
-    → spell (pdta (tables_of b))
+    → encode (pdta (tables_of b))
     ≡ phdr b ++ (preset_lists b ++ (inst b ++ (instrument_lists b ++ chunk SHDR (heads b))))
 unfolding pdta tables_of zone_lists
 pdta-is b =
     let shdr : List Chunk = record { id = SHDR; body = heads b } ∷ [] in
-    let last : spell (zone_lists level.Inst (all_bags level.Inst b.instruments) ++ shdr)
+    let last : encode (zone_lists level.Inst (all_bags level.Inst b.instruments) ++ shdr)
     ≡ instrument_lists b ++ chunk SHDR (heads b) =
     flat_map-append (λ (c : Chunk). chunk c.id c.body)
     (zone_lists level.Inst (all_bags level.Inst b.instruments)) shdr
@@ -168,7 +168,7 @@ pdta-is b =
     ∙ ap (λ (t : List ℕ). phdr b ++ (preset_lists b ++ (inst b ++ t))) last
 
 pub length-pdta : (b : Parts)
-    → length (spell (pdta (tables_of b)))
+    → length (encode (pdta (tables_of b)))
     ≡ length (phdr b) + length (preset_lists b) + length (inst b) + length (instrument_lists b)
     + length (chunk SHDR (heads b))
 length-pdta b =
@@ -181,7 +181,7 @@ length-pdta b =
       length-append (instrument_lists b) (chunk SHDR (heads b)),
     )
 
-pub pdta-even : (b : Parts) → length (spell (pdta (tables_of b))) % 2 ≡ 0
+pub pdta-even : (b : Parts) → length (encode (pdta (tables_of b))) % 2 ≡ 0
 unfolding PHDR INST
 pdta-even b =
     omega (
@@ -199,5 +199,5 @@ unfolding PDTA
 length-PDTA = refl
 
 pub length-pdta_list : (b : Parts)
-    → length (chunk LIST (PDTA ++ spell (pdta (tables_of b)))) ≡ 8 + length (PDTA ++ spell (pdta (tables_of b)))
-length-pdta_list b = length-form-even LIST PDTA (spell (pdta (tables_of b))) length-LIST length-PDTA (pdta-even b)
+    → length (chunk LIST (PDTA ++ encode (pdta (tables_of b)))) ≡ 8 + length (PDTA ++ encode (pdta (tables_of b)))
+length-pdta_list b = length-form-even LIST PDTA (encode (pdta (tables_of b))) length-LIST length-PDTA (pdta-even b)

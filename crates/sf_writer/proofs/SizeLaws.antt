@@ -5,12 +5,12 @@ use Rattle.std.proofs.lemmas.List.{length-append}
 use Rattle.generators.specs.declared.level.Level.{Level}
 use Rattle.generators.specs.declared.level.Level.TheVariants as level
 use Rattle.sample_view.specs.Words.{word_bytes}
-use Rattle.riff_chunks.specs.Spelling.{spell}
-use Rattle.riff_chunks.proofs.SpellingLaws.{length-chunk}
-use Rattle.hydra_records.specs.Spelling.{preset_head_bytes, bag_bytes, modulator_bytes, generator_bytes}
-use Rattle.hydra_records.specs.Spelling.{instrument_head_bytes, sample_head_bytes}
+use Rattle.riff_chunks.specs.Encoding.{encode}
+use Rattle.riff_chunks.proofs.EncodingLaws.{length-chunk}
+use Rattle.hydra_records.specs.Encoding.{preset_head_bytes, bag_bytes, modulator_bytes, generator_bytes}
+use Rattle.hydra_records.specs.Encoding.{instrument_head_bytes, sample_head_bytes}
 use Rattle.bank_parts.specs.declared.parts.Parts.{Parts}
-use Rattle.bank_parts.specs.declared.parts.WithZones.{WithZones}
+use Rattle.bank_parts.specs.declared.parts.ZoneOwner.{ZoneOwner}
 use Rattle.bank_validity.specs.declared.totals.LevelTotals.{LevelTotals}
 use Rattle.bank_validity.specs.declared.totals.Totals.{Totals}
 use Rattle.bank_validity.specs.Limits.{totals_of, level_totals}
@@ -31,13 +31,13 @@ use Rattle.sf_writer.proofs.RecordLaws.{length-PDTA, length-pdta, length-shdr_li
 use Rattle.sf_writer.proofs.FileLaws.{length-SFBK, length-lists}
 
 pub file_size : (b : Parts)
-    → length (SFBK ++ spell (lists b))
-    ≡ 28 + length (INFO ++ spell (info b)) + length (SDTA ++ spell (sdta b))
-    + length (PDTA ++ spell (pdta (tables_of b)))
+    → length (SFBK ++ encode (lists b))
+    ≡ 28 + length (INFO ++ encode (info b)) + length (SDTA ++ encode (sdta b))
+    + length (PDTA ++ encode (pdta (tables_of b)))
 file_size b =
     omega (
       arith,
-      length-append SFBK (spell (lists b)),
+      length-append SFBK (encode (lists b)),
       length-SFBK,
       length-lists b,
       length-info_list b,
@@ -45,11 +45,11 @@ file_size b =
       length-pdta_list b,
     )
 
-pub info_size : (b : Parts) → length (INFO ++ spell (info b)) ≡ 4 + length (spell (info b))
-info_size b = omega (arith, length-append INFO (spell (info b)), length-INFO)
+pub info_size : (b : Parts) → length (INFO ++ encode (info b)) ≡ 4 + length (encode (info b))
+info_size b = omega (arith, length-append INFO (encode (info b)), length-INFO)
 
-pub sdta_size : (b : Parts) → length (SDTA ++ spell (sdta b)) ≡ 12 + length (flat_map word_bytes (all_points b))
-sdta_size b = omega (arith, length-append SDTA (spell (sdta b)), length-SDTA, length-sdta b)
+pub sdta_size : (b : Parts) → length (SDTA ++ encode (sdta b)) ≡ 12 + length (flat_map word_bytes (all_points b))
+sdta_size b = omega (arith, length-append SDTA (encode (sdta b)), length-SDTA, length-sdta b)
 
 -- the length of the bag, modulator and generator records of these bags
 abbrev pub zone_records : List Bagged → ℕ
@@ -57,7 +57,7 @@ zone_records bags =
     length (flat_map bag_bytes (bag_list bags)) + length (flat_map modulator_bytes (mod_list bags))
     + length (flat_map generator_bytes (gen_list bags))
 
-zone_lists_size : (at : Level) (bags : List Bagged) → length (spell (zone_lists at bags)) ≡ 24 + zone_records bags
+zone_lists_size : (at : Level) (bags : List Bagged) → length (encode (zone_lists at bags)) ≡ 24 + zone_records bags
 zone_lists_size at bags =
     omega (
       arith,
@@ -68,7 +68,7 @@ zone_lists_size at bags =
     )
 
 pub pdta_size : (b : Parts) → IsValid b
-    → length (PDTA ++ spell (pdta (tables_of b)))
+    → length (PDTA ++ encode (pdta (tables_of b)))
     ≡ 76 + length (flat_map preset_head_bytes (tables_of b).phdr) + zone_records (all_bags level.Preset b.presets)
     + length (flat_map instrument_head_bytes (tables_of b).inst)
     + zone_records (all_bags level.Inst b.instruments)
@@ -77,7 +77,7 @@ unfolding PHDR INST
 pdta_size b v =
     omega (
       arith,
-      length-append PDTA (spell (pdta (tables_of b))),
+      length-append PDTA (encode (pdta (tables_of b))),
       length-PDTA,
       length-pdta b,
       length-chunk PHDR (flat_map preset_head_bytes (tables_of b).phdr) refl,
@@ -136,7 +136,7 @@ module _ (b : Parts) (t : Totals) (is : t ≡ totals_of b) (w : IsWithin b) wher
   few_points = rw is (let p = w.points in omega (arith, p))
 
 -- the sizes of the bag, modulator and generator lists of all presets, or of all instruments
-pub zone_sizes : {H : Type 0} (at : Level) (owners : List (WithZones H)) (l : LevelTotals) (sizes : ZoneSizes)
+pub zone_sizes : {H : Type 0} (at : Level) (owners : List (ZoneOwner H)) (l : LevelTotals) (sizes : ZoneSizes)
     → l ≡ level_totals owners
     → sizes.bags ≡ 4 * (l.records.zones + 1) → sizes.mods ≡ 10 * (l.records.mods + 1)
     → sizes.gens ≡ 4 * (l.records.gens + 1) → AreZoneSizes (all_bags at owners) sizes

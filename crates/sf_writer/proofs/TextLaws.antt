@@ -6,7 +6,7 @@ use Rattle.std.proofs.lemmas.Bool.{cases_eq, eq-eqb, ne_eqb}
 use Rattle.std.proofs.lemmas.List.{length-append, append-nil}
 use Rattle.std.proofs.lemmas.List.Concat.{flat_map-append}
 use Rattle.riff_chunks.specs.Walk.{Chunk, LIST}
-use Rattle.riff_chunks.specs.Spelling.{chunk, spell}
+use Rattle.riff_chunks.specs.Encoding.{chunk, encode}
 use Rattle.bank_parts.specs.declared.parts.Parts.{Parts}
 use Rattle.bank_parts.specs.declared.texts.InfoId.{InfoId}
 use Rattle.bank_parts.specs.declared.texts.InfoId.TheVariants.{Engine, Name, Date, Engineers, Product, Copyright}
@@ -61,20 +61,20 @@ length-text which text = length-chunk-even (text_id which) (text_body text) (len
 
 -- ---- a text that is omitted if empty
 
-text_chunk_if-empty : (id text : List ℕ) → length text ≡ 0 → spell (text_chunk_if id text) ≡ []
+text_chunk_if-empty : (id text : List ℕ) → length text ≡ 0 → encode (text_chunk_if id text) ≡ []
 text_chunk_if-empty id [] e = refl
 text_chunk_if-empty id (c ∷ text) e = absurd (omega arith)
 
-text_chunk_if-there : (id text : List ℕ) → length text ≢ 0 → spell (text_chunk_if id text) ≡ chunk id (text_body text)
+text_chunk_if-there : (id text : List ℕ) → length text ≢ 0 → encode (text_chunk_if id text) ≡ chunk id (text_body text)
 text_chunk_if-there id [] there = absurd (there refl)
 text_chunk_if-there id (c ∷ text) there = append-nil (chunk id (text_body (c ∷ text)))
 
 pub optional-empty : (b : Parts) (which : InfoId) → length (text_of b.texts which) ≡ 0
-    → spell (optional_chunk b which) ≡ []
+    → encode (optional_chunk b which) ≡ []
 optional-empty b which e = text_chunk_if-empty (text_id which) (text_of b.texts which) e
 
 pub optional-there : (b : Parts) (which : InfoId) → length (text_of b.texts which) ≢ 0
-    → spell (optional_chunk b which) ≡ chunk (text_id which) (text_body (text_of b.texts which))
+    → encode (optional_chunk b which) ≡ chunk (text_id which) (text_body (text_of b.texts which))
 optional-there b which there = text_chunk_if-there (text_id which) (text_of b.texts which) there
 
 pub ruleset texts = (length-text_of-le, length-text_body, length-text, optional-empty, optional-there)
@@ -89,9 +89,9 @@ spelled_text b which = chunk (text_id which) (text_body (text_of b.texts which))
 
 -- the version, the engine, the name, and the texts that may be omitted
 pub info-parts : (b : Parts)
-    → spell (info b)
+    → encode (info b)
     ≡ chunk IFIL (version b)
-    ++ (spelled_text b Engine ++ (spelled_text b Name ++ spell (flat_map (optional_chunk b) optional_texts)))
+    ++ (spelled_text b Engine ++ (spelled_text b Name ++ encode (flat_map (optional_chunk b) optional_texts)))
 unfolding info
 info-parts b = refl
 
@@ -100,11 +100,11 @@ unfolding IFIL
 length-version b = length-chunk-even IFIL (version b) refl refl
 
 pub length-info : (b : Parts)
-    → length (spell (info b))
+    → length (encode (info b))
     ≡ 12 + length (spelled_text b Engine) + length (spelled_text b Name)
-    + length (spell (flat_map (optional_chunk b) optional_texts))
+    + length (encode (flat_map (optional_chunk b) optional_texts))
 length-info b =
-    let others = spell (flat_map (optional_chunk b) optional_texts) in
+    let others = encode (flat_map (optional_chunk b) optional_texts) in
     omega (
       arith,
       ap length (info-parts b),
@@ -114,7 +114,7 @@ length-info b =
       length-append (spelled_text b Name) others,
     )
 
-text_chunk_if-even : (which : InfoId) (text : List ℕ) → length (spell (text_chunk_if (text_id which) text)) % 2 ≡ 0
+text_chunk_if-even : (which : InfoId) (text : List ℕ) → length (encode (text_chunk_if (text_id which) text)) % 2 ≡ 0
 text_chunk_if-even which [] = refl
 text_chunk_if-even which (c ∷ text) =
     omega (
@@ -124,19 +124,19 @@ text_chunk_if-even which (c ∷ text) =
       length-append (chunk (text_id which) (text_body (c ∷ text))) [],
     )
 
-optional-even : (b : Parts) (ws : List InfoId) → length (spell (flat_map (optional_chunk b) ws)) % 2 ≡ 0
+optional-even : (b : Parts) (ws : List InfoId) → length (encode (flat_map (optional_chunk b) ws)) % 2 ≡ 0
 optional-even b [] = refl
 optional-even b (w ∷ ws) =
     let rest = flat_map (optional_chunk b) ws in
     omega (
       arith,
       ap length (flat_map-append (λ (c : Chunk). chunk c.id c.body) (optional_chunk b w) rest),
-      length-append (spell (optional_chunk b w)) (spell rest),
+      length-append (encode (optional_chunk b w)) (encode rest),
       text_chunk_if-even w (text_of b.texts w),
       optional-even b ws,
     )
 
-pub info-even : (b : Parts) → length (spell (info b)) % 2 ≡ 0
+pub info-even : (b : Parts) → length (encode (info b)) % 2 ≡ 0
 info-even b =
     omega (
       arith,
@@ -155,5 +155,5 @@ unfolding INFO
 length-INFO = refl
 
 -- the list
-pub length-info_list : (b : Parts) → length (chunk LIST (INFO ++ spell (info b))) ≡ 8 + length (INFO ++ spell (info b))
-length-info_list b = length-form-even LIST INFO (spell (info b)) length-LIST length-INFO (info-even b)
+pub length-info_list : (b : Parts) → length (chunk LIST (INFO ++ encode (info b))) ≡ 8 + length (INFO ++ encode (info b))
+length-info_list b = length-form-even LIST INFO (encode (info b)) length-LIST length-INFO (info-even b)

@@ -4,8 +4,8 @@ use Rattle.std.specs.List.{flat_map}
 use Rattle.std.proofs.lemmas.List.{length-append, append-nil}
 use Rattle.generators.specs.declared.level.Level.{Level}
 use Rattle.generators.specs.declared.level.Level.TheVariants.{Preset, Inst}
-use Rattle.riff_chunks.specs.Spelling.{chunk, spell}
-use Rattle.hydra_records.specs.Spelling.{bag_bytes, modulator_bytes, generator_bytes}
+use Rattle.riff_chunks.specs.Encoding.{chunk, encode}
+use Rattle.hydra_records.specs.Encoding.{bag_bytes, modulator_bytes, generator_bytes}
 use Rattle.bank_format.specs.Ids.{PBAG, PMOD, PGEN, IBAG, IMOD, IGEN}
 use Rattle.bank_format.specs.Zones.{Bagged}
 use Rattle.bank_format.specs.Tables.{bag_list, mod_list, gen_list}
@@ -63,7 +63,7 @@ length-gen_chunk at bags = length-chunk-even (gen_id at) (gen_records bags) (len
 -- ---- all three
 
 pub zone_lists-is : (at : Level) (bags : List Bagged)
-    → spell (zone_lists at bags)
+    → encode (zone_lists at bags)
     ≡ chunk (bag_id at) (bag_records bags)
     ++ (chunk (mod_id at) (mod_records bags) ++ chunk (gen_id at) (gen_records bags))
 unfolding zone_lists
@@ -72,7 +72,7 @@ zone_lists-is at bags =
     (append-nil (chunk (gen_id at) (gen_records bags)))
 
 pub length-zone_chunks : (at : Level) (bags : List Bagged)
-    → length (spell (zone_lists at bags))
+    → length (encode (zone_lists at bags))
     ≡ length (chunk (bag_id at) (bag_records bags)) + length (chunk (mod_id at) (mod_records bags))
     + length (chunk (gen_id at) (gen_records bags))
 length-zone_chunks at bags =
@@ -84,7 +84,7 @@ length-zone_chunks at bags =
       length-append (chunk (mod_id at) (mod_records bags)) (chunk (gen_id at) (gen_records bags)),
     )
 
-pub zone_lists-even : (at : Level) (bags : List Bagged) → length (spell (zone_lists at bags)) % 2 ≡ 0
+pub zone_lists-even : (at : Level) (bags : List Bagged) → length (encode (zone_lists at bags)) % 2 ≡ 0
 zone_lists-even at bags =
     omega (
       arith,

@@ -1,7 +1,7 @@
 -- The texts of a bank as chunks, by `InfoId`.
 use Rattle.std.specs.Prelude.{ℕ, List}
 use Rattle.riff_chunks.specs.Walk.{Chunk}
-use Rattle.riff_chunks.specs.Spelling.{chunk}
+use Rattle.riff_chunks.specs.Encoding.{chunk}
 use Rattle.bank_parts.specs.declared.parts.Parts.{Parts}
 use Rattle.bank_parts.specs.declared.texts.InfoId.{InfoId}
 use Rattle.bank_parts.specs.declared.texts.InfoId.TheVariants.{Engine, Name, Date, Engineers, Product, Copyright}

@@ -2,9 +2,9 @@
 use Rattle.std.specs.Prelude.{◌≡◌, ◌≤◌, List, ◌++◌, length, flat_map}
 use Rattle.generators.specs.declared.level.Level.TheVariants as level
 use Rattle.sample_view.specs.Words.{word_bytes}
-use Rattle.riff_chunks.specs.Spelling.{spell}
-use Rattle.hydra_records.specs.Spelling.{preset_head_bytes, bag_bytes, modulator_bytes, generator_bytes}
-use Rattle.hydra_records.specs.Spelling.{instrument_head_bytes, sample_head_bytes}
+use Rattle.riff_chunks.specs.Encoding.{encode}
+use Rattle.hydra_records.specs.Encoding.{preset_head_bytes, bag_bytes, modulator_bytes, generator_bytes}
+use Rattle.hydra_records.specs.Encoding.{instrument_head_bytes, sample_head_bytes}
 use Rattle.bank_parts.specs.declared.counting.Records.{Records}
 use Rattle.bank_parts.specs.declared.parts.Parts.{Parts}
 use Rattle.bank_format.specs.Ids.{SFBK, INFO, SDTA, PDTA}
@@ -28,11 +28,11 @@ pub record AreZoneSizes (all : List Bagged) (sizes : ZoneSizes) : Type 0 where
 
 -- the sizes of all chunks but those of texts
 pub record AreSizes (b : Parts) (sizes : Sizes) : Type 0 where
-  pub file : sizes.file ≡ length (SFBK ++ spell (lists b))
-  pub info : sizes.info ≡ length (INFO ++ spell (info b))
-  pub sdta : sizes.sdta ≡ length (SDTA ++ spell (sdta b))
+  pub file : sizes.file ≡ length (SFBK ++ encode (lists b))
+  pub info : sizes.info ≡ length (INFO ++ encode (info b))
+  pub sdta : sizes.sdta ≡ length (SDTA ++ encode (sdta b))
   pub smpl : sizes.smpl ≡ length (flat_map word_bytes (all_points b))
-  pub pdta : sizes.pdta ≡ length (PDTA ++ spell (pdta (tables_of b)))
+  pub pdta : sizes.pdta ≡ length (PDTA ++ encode (pdta (tables_of b)))
   pub phdr : sizes.phdr ≡ length (flat_map preset_head_bytes (tables_of b).phdr)
   pub presets : AreZoneSizes (all_bags level.Preset b.presets) sizes.presets
   pub inst : sizes.inst ≡ length (flat_map instrument_head_bytes (tables_of b).inst)

@@ -1,7 +1,7 @@
 //! Writing chunks of even length. All chunks of a canonical file are such, so none has a pad byte.
 ghost use Rattle.std.specs.Prelude.{◌≡◌, ◌<◌, ◌%◌, ◌^◌, ◌++◌, length};
 ghost use Rattle.base_outputs.specs.Output.{Puts};
-ghost use Rattle.riff_chunks.specs.Spelling.{chunk, chunk_head};
+ghost use Rattle.riff_chunks.specs.Encoding.{chunk, chunk_head};
 
 use base_outputs::Output;
 use riff_chunks::ChunkWriter;

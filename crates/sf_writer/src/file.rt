@@ -2,7 +2,7 @@
 ghost use Rattle.std.specs.Prelude.{◌≡◌, ◌++◌, length};
 ghost use Rattle.base_outputs.specs.Output.{Puts};
 ghost use Rattle.base_outputs.specs.Writing.{Writes};
-ghost use Rattle.riff_chunks.specs.Spelling.{spell};
+ghost use Rattle.riff_chunks.specs.Encoding.{encode};
 ghost use Rattle.bank_format.specs.Canon.{canon, lists};
 ghost use Rattle.sf_writer.specs.Sizes.{AreSizes};
 
@@ -51,7 +51,7 @@ pub fn encoded_len(bank: &Bank<'_>) -> u64
 // Puts the three lists.
 fn put_lists<W: Write>(output: &mut Output<'_, W>, bank: &Bank<'_>, sizes: Sizes)
     requires { AreSizes bank.now sizes }
-    ensures { Puts W.contents output.old output.new (spell (lists bank.now)) }
+    ensures { Puts W.contents output.old output.new (encode (lists bank.now)) }
 {
     put_info(output, bank, sizes.info);
     put_sdta(output, bank, sizes.sdta, sizes.smpl);

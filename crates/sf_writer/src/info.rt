@@ -1,7 +1,7 @@
 //! The list `INFO`: the version and the texts (SoundFont 2.04, section 5).
 ghost use Rattle.std.specs.Prelude.{◌≡◌, ◌+◌, ◌<◌, ◌≤◌, ◌%◌, ◌^◌, ◌==◌, ◌++◌, ◌∷◌, [], flat_map, length, replicate, if◌then◌else◌};
 ghost use Rattle.base_outputs.specs.Output.{Puts};
-ghost use Rattle.riff_chunks.specs.Spelling.{chunk, spell};
+ghost use Rattle.riff_chunks.specs.Encoding.{chunk, encode};
 ghost use Rattle.bank_format.specs.Canon.{info, version};
 ghost use Rattle.bank_format.specs.Ids.{IFIL, INFO};
 ghost use Rattle.bank_format.specs.Texts.{text_body};
@@ -30,7 +30,7 @@ const OPTIONAL_TEXTS: [InfoId; 6] = [
 // The length of all chunks of the list.
 #[tactic(auto, using(crate::proofs::TextLaws::info_size))]
 pub(crate) fn chunks_size(bank: &Bank<'_>) -> u32
-    ensures value { result ≡ length (spell (info bank.now)) }
+    ensures value { result ≡ length (encode (info bank.now)) }
     ensures small { result < 2 ^ 21 }
 {
     let kept = text_size(bank, InfoId::Engine) + text_size(bank, InfoId::Name);
@@ -40,7 +40,7 @@ pub(crate) fn chunks_size(bank: &Bank<'_>) -> u32
 // The length of the chunks of these texts; empty texts are omitted.
 fn texts_size(bank: &Bank<'_>, texts: &[InfoId]) -> u32
     requires { length texts.now ≤ 8 }
-    ensures value { result ≡ length (spell (flat_map (optional_chunk bank.now) texts.now)) }
+    ensures value { result ≡ length (encode (flat_map (optional_chunk bank.now) texts.now)) }
     ensures small { result < 2 ^ 20 }
 {
     let mut size = 0;
@@ -53,7 +53,7 @@ fn texts_size(bank: &Bank<'_>, texts: &[InfoId]) -> u32
 // The length of a text's chunk; 0 if the text is empty.
 #[tactic(auto, using(crate::proofs::TextLaws::texts))]
 fn optional_text_size(bank: &Bank<'_>, which: InfoId) -> u32
-    ensures value { result ≡ length (spell (optional_chunk bank.now which)) }
+    ensures value { result ≡ length (encode (optional_chunk bank.now which)) }
     ensures small { result < 2 ^ 17 }
 {
     if bank.info(which).is_empty() {
@@ -107,7 +107,7 @@ fn id_of(which: InfoId) -> [u8; 4]
 
 // Puts the list `INFO`.
 pub(crate) fn put_info<W: Write>(output: &mut Output<'_, W>, bank: &Bank<'_>, size: u32)
-    requires { size ≡ length (INFO ++ spell (info bank.now)) }
+    requires { size ≡ length (INFO ++ encode (info bank.now)) }
     ensures { Puts W.contents output.old output.new (list_bytes INFO (info bank.now)) }
 {
     put_form_head(output, LIST_ID, *b"INFO", size);
@@ -116,7 +116,7 @@ pub(crate) fn put_info<W: Write>(output: &mut Output<'_, W>, bank: &Bank<'_>, si
 
 // Puts the chunks in the list.
 fn put_chunks<W: Write>(output: &mut Output<'_, W>, bank: &Bank<'_>)
-    ensures { Puts W.contents output.old output.new (spell (info bank.now)) }
+    ensures { Puts W.contents output.old output.new (encode (info bank.now)) }
 {
     put_version(output, bank);
     put_text(output, bank, InfoId::Engine);
@@ -147,7 +147,7 @@ fn put_text<W: Write>(output: &mut Output<'_, W>, bank: &Bank<'_>, which: InfoId
 #[tactic(auto, using(base_outputs::proofs::OutputLaws::putting_start, base_outputs::proofs::OutputLaws::putting_end))]
 fn put_texts<W: Write>(output: &mut Output<'_, W>, bank: &Bank<'_>, texts: &[InfoId])
     ensures { Puts W.contents output.old output.new
-        (spell (flat_map (optional_chunk bank.now) texts.now)) }
+        (encode (flat_map (optional_chunk bank.now) texts.now)) }
 {
     for which in texts {
         put_optional_text(output, bank, *which);
@@ -157,7 +157,7 @@ fn put_texts<W: Write>(output: &mut Output<'_, W>, bank: &Bank<'_>, texts: &[Inf
 // Puts the chunk of a text; nothing if the text is empty.
 #[tactic(auto, using(crate::proofs::TextLaws::texts, base_outputs::proofs::OutputLaws::puts_nothing))]
 fn put_optional_text<W: Write>(output: &mut Output<'_, W>, bank: &Bank<'_>, which: InfoId)
-    ensures { Puts W.contents output.old output.new (spell (optional_chunk bank.now which)) }
+    ensures { Puts W.contents output.old output.new (encode (optional_chunk bank.now which)) }
 {
     if bank.info(which).is_empty() {
         return;

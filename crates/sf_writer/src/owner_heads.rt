@@ -1,7 +1,7 @@
 //! The lists `phdr` and `inst`: the headers of presets and of instruments (SoundFont 2.04, sections 7.2 and 7.6).
 ghost use Rattle.std.specs.Prelude.{◌≡◌, ◌<◌, ◌^◌, length, flat_map, slice_index_or};
 ghost use Rattle.base_outputs.specs.Output.{Puts};
-ghost use Rattle.hydra_records.specs.Spelling.{preset_head_bytes, instrument_head_bytes};
+ghost use Rattle.hydra_records.specs.Encoding.{preset_head_bytes, instrument_head_bytes};
 ghost use Rattle.bank_format.specs.Ids.{PHDR, INST};
 ghost use Rattle.bank_format.specs.Tables.{heads_from, tables_of};
 ghost use Rattle.sf_writer.specs.Lists.{table_bytes};
@@ -10,7 +10,7 @@ use bank_core::Bank;
 use bank_format::RecordedHead;
 use bank_parts::Owners;
 use base_outputs::Output;
-use hydra_records::Spelled;
+use hydra_records::Encoded;
 use riff_chunks::ChunkWriter;
 use std::io::Write;
 
@@ -40,7 +40,7 @@ fn put_heads<const N: usize, H: RecordedHead, W: Write>(
     owners: &Owners<H>,
 )
 where
-    H::Record: Spelled<N>,
+    H::Record: Encoded<N>,
     requires { N < 2 ^ 16 }
     ensures { Puts W.contents output.old output.new
         (flat_map H.Record.bytes_of (heads_from H.headers 0 owners.now)) }

@@ -1,7 +1,7 @@
 //! The list `sdta`: the points of all samples (SoundFont 2.04, section 6).
 ghost use Rattle.std.specs.Prelude.{◌≡◌, ◌++◌, length, flat_map};
 ghost use Rattle.base_outputs.specs.Output.{Puts};
-ghost use Rattle.riff_chunks.specs.Spelling.{spell};
+ghost use Rattle.riff_chunks.specs.Encoding.{encode};
 ghost use Rattle.sample_view.specs.Words.{word_bytes};
 ghost use Rattle.bank_format.specs.Canon.{sdta};
 ghost use Rattle.bank_format.specs.Ids.{SDTA};
@@ -20,7 +20,7 @@ const ZERO_BYTES: [u8; 92] = [0; 92];
 
 // Puts the list `sdta`.
 pub(crate) fn put_sdta<W: Write>(output: &mut Output<'_, W>, bank: &Bank<'_>, size: u32, smpl: u32)
-    requires size { size ≡ length (SDTA ++ spell (sdta bank.now)) }
+    requires size { size ≡ length (SDTA ++ encode (sdta bank.now)) }
     requires smpl { smpl ≡ length (flat_map word_bytes (all_points bank.now)) }
     ensures { Puts W.contents output.old output.new (list_bytes SDTA (sdta bank.now)) }
 {
@@ -31,7 +31,7 @@ pub(crate) fn put_sdta<W: Write>(output: &mut Output<'_, W>, bank: &Bank<'_>, si
 // Puts the chunk `smpl`.
 fn put_smpl<W: Write>(output: &mut Output<'_, W>, bank: &Bank<'_>, size: u32)
     requires { size ≡ length (flat_map word_bytes (all_points bank.now)) }
-    ensures { Puts W.contents output.old output.new (spell (sdta bank.now)) }
+    ensures { Puts W.contents output.old output.new (encode (sdta bank.now)) }
 {
     output.head(*b"smpl", size);
     put_samples(output, bank.samples());

@@ -1,7 +1,7 @@
 //! The list `pdta`: the nine lists of records (SoundFont 2.04, section 7).
 ghost use Rattle.std.specs.Prelude.{◌≡◌};
 ghost use Rattle.base_outputs.specs.Output.{Puts};
-ghost use Rattle.riff_chunks.specs.Spelling.{spell};
+ghost use Rattle.riff_chunks.specs.Encoding.{encode};
 ghost use Rattle.bank_format.specs.Canon.{pdta};
 ghost use Rattle.bank_format.specs.Ids.{PDTA};
 ghost use Rattle.bank_format.specs.Tables.{tables_of};
@@ -30,7 +30,7 @@ pub(crate) fn put_pdta<W: Write>(output: &mut Output<'_, W>, bank: &Bank<'_>, si
 // Puts the nine lists.
 fn put_lists<W: Write>(output: &mut Output<'_, W>, bank: &Bank<'_>, sizes: Sizes)
     requires { AreSizes bank.now sizes }
-    ensures { Puts W.contents output.old output.new (spell (pdta (tables_of bank.now))) }
+    ensures { Puts W.contents output.old output.new (encode (pdta (tables_of bank.now))) }
 {
     put_phdr(output, bank, sizes.phdr);
     put_zone_lists(output, bank.presets(), sizes.presets);

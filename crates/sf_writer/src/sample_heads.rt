@@ -1,7 +1,7 @@
 //! The list `shdr`: the headers of the samples (SoundFont 2.04, section 7.10).
 ghost use Rattle.std.specs.Prelude.{◌≡◌, ◌+◌, ◌*◌, ◌<◌, ◌≤◌, ◌%◌, ◌^◌, length, flat_map};
 ghost use Rattle.base_outputs.specs.Output.{Puts};
-ghost use Rattle.hydra_records.specs.Spelling.{sample_head_bytes};
+ghost use Rattle.hydra_records.specs.Encoding.{sample_head_bytes};
 ghost use Rattle.bank_parts.specs.Valid.{IsLoop, IsValid};
 ghost use Rattle.bank_format.specs.Ids.{SHDR};
 ghost use Rattle.bank_format.specs.Tables.{tables_of, sample_head, kind_word, link_word};
@@ -10,7 +10,7 @@ ghost use Rattle.sf_writer.specs.Lists.{table_bytes};
 use crate::terminals::sample_end;
 use bank_core::{Bank, Kind, Sample};
 use base_outputs::Output;
-use hydra_records::{SampleHead, Spelled};
+use hydra_records::{Encoded, SampleHead};
 use riff_chunks::ChunkWriter;
 use sf_base::limits::ZERO_POINTS;
 use std::io::Write;

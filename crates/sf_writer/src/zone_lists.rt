@@ -2,8 +2,8 @@
 //! instruments).
 ghost use Rattle.std.specs.Prelude.{◌≡◌, length, map, flat_map};
 ghost use Rattle.base_outputs.specs.Output.{Puts};
-ghost use Rattle.riff_chunks.specs.Spelling.{spell};
-ghost use Rattle.hydra_records.specs.Spelling.{bag_bytes, modulator_bytes, generator_bytes};
+ghost use Rattle.riff_chunks.specs.Encoding.{encode};
+ghost use Rattle.hydra_records.specs.Encoding.{bag_bytes, modulator_bytes, generator_bytes};
 ghost use Rattle.bank_format.specs.Tables.{all_bags};
 ghost use Rattle.bank_format.specs.FlatTables.{bag_of, generator_of};
 ghost use Rattle.sf_writer.specs.Lists.{bag_id, mod_id, gen_id, zone_lists};
@@ -13,7 +13,7 @@ use crate::sizes::ZoneSizes;
 use bank_parts::{OwnerHead, Owners};
 use base_outputs::Output;
 use generators::Level;
-use hydra_records::{Bag, Generator, Spelled};
+use hydra_records::{Bag, Encoded, Generator};
 use modulators::Modulator;
 use riff_chunks::ChunkWriter;
 use std::io::Write;
@@ -26,7 +26,7 @@ pub(crate) fn put_zone_lists<H: OwnerHead, W: Write>(
 )
     requires { AreZoneSizes (all_bags H.LEVEL owners.now) sizes }
     ensures { Puts W.contents output.old output.new
-        (spell (zone_lists H.LEVEL (all_bags H.LEVEL owners.now))) }
+        (encode (zone_lists H.LEVEL (all_bags H.LEVEL owners.now))) }
 {
     output.head(bag_id(H::LEVEL), sizes.bags);
     put_bag_records(output, owners.bag_records());

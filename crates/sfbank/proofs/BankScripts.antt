@@ -8,39 +8,39 @@ use Rattle.bank_format.specs.declared.fault.Counts.{Counts}
 use Rattle.bank_format.specs.declared.fault.ReadFault.{ReadFault}
 use Rattle.bank_format.specs.Canon.{canon}
 use Rattle.bank_format.specs.Reading.{Content}
-use Rattle.bank_format.specs.Steps.{Fails}
-use Rattle.bank_format.specs.ReadSteps.{fault_of, ReadsAs}
+use Rattle.bank_format.specs.FaultChecks.{Fails}
+use Rattle.bank_format.specs.ReadChecks.{fault_of, ReadsAs}
 use Rattle.bank_format.proofs.RoundTrip.{reads-again}
 use Rattle.bank_format.proofs.ReadValid.{read_valid, read_fits}
 use Rattle.edit_refusals.specs.Edits.{raw}
-use Rattle.bank_edits.specs.Runs.{AllTaken, undo_list}
+use Rattle.bank_edits.specs.Runs.{AllAccepted, undo_list}
 use Rattle.edit_script.specs.declared.parsing.Line.{Line}
 use Rattle.edit_script.specs.Script.{script_of}
 use Rattle.edit_script.specs.Printing.{texts_of}
 use Rattle.script_of_bank.specs.declared.samples.SamplePoints.{SamplePoints}
 use Rattle.script_of_bank.specs.declared.samples.SamplePoints.TheVariants.{Kept}
-use Rattle.script_of_bank.specs.Listed.{empty}
-use Rattle.script_of_bank.specs.Printed.{bank_script, IsScript}
-use Rattle.script_of_bank.proofs.Taken.{sound_empty}
-use Rattle.script_of_bank.proofs.PrintedLaws.{text_gives, text_tells}
+use Rattle.script_of_bank.specs.BankEdits.{empty}
+use Rattle.script_of_bank.specs.BankScript.{bank_script, IsScript}
+use Rattle.script_of_bank.proofs.AcceptedLaws.{sound_empty}
+use Rattle.script_of_bank.proofs.PrintedLaws.{text_gives, text_determines}
 use Rattle.program_files.specs.declared.run_fault.RunFault.{RunFault}
 use Rattle.program_files.specs.declared.run_fault.RunFault.TheVariants as run
 use Rattle.program_files.specs.declared.run_fault.Which.TheVariants.{Out}
 use Rattle.program_files.specs.RunFaults.{in_run}
 use Rattle.sfbank.specs.Outcome.{Done, edits_of, RefusedLine, first_refused, both_texts, unless_refused}
 use Rattle.sfbank.specs.Outcome.{after_script, after_reading, bank_in, outcome, canon_outcome, play_outcome}
-use Rattle.sfbank.specs.Written.{GoesOut, RunsAlone}
-use Rattle.sfbank.specs.BankScripts.{script_outcome, start_of, IsRemade, ScriptsTell, RemadeSounds}
-use Rattle.sfbank.proofs.Alone.{not_read, sent_text, canon_text}
+use Rattle.sfbank.specs.Written.{IsWritten, RunsOneText}
+use Rattle.sfbank.specs.BankScripts.{script_outcome, start_of, IsRemade, ScriptsDistinguish, RemadeRendersSame}
+use Rattle.sfbank.proofs.OneText.{not_read, sent_text, canon_text}
 use Rattle.sfbank.proofs.Restores.{reading_done, outcome_canon}
-use Rattle.sfbank.proofs.Sounds.{played_on_canon}
+use Rattle.sfbank.proofs.RenderLaws.{played_on_canon}
 
 -- ---- the run
 
 pub script_not_read : (U : Type 0) (points : SamplePoints) (failure : Failure ReadFault) (known : Option (List ℕ))
     (file : List ℕ)
     → Fails failure (fault_of file)
-    → RunsAlone {U = U} known known (script_outcome points file) (Err (in_run run.Read failure))
+    → RunsOneText {U = U} known known (script_outcome points file) (Err (in_run run.Read failure))
 unfolding script_outcome
 script_not_read U points failure known file h =
     not_read U failure known (fault_of file) (Ok (bank_script points (bank_in file))) h
@@ -54,24 +54,24 @@ script_text points file b counts r =
 
 pub script_runs : {U : Type 0} (points : SamplePoints) (old new : Option (List ℕ)) (file : List ℕ) (b : Parts)
     (counts : Counts) (r : Result U RunFault)
-    → ReadsAs file b counts → GoesOut Out old new (bank_script points b) r
-    → RunsAlone old new (script_outcome points file) r
+    → ReadsAs file b counts → IsWritten Out old new (bank_script points b) r
+    → RunsOneText old new (script_outcome points file) r
 script_runs points old new file b counts r reads h =
     sent_text old new (script_outcome points file) (bank_script points b) r (script_text points file b counts reads)
     h
 
 -- ---- a script that leads from one bank to another
 
-lines_taken : (b : Parts) (lines : List Line) → AllTaken b (edits_of lines) → first_refused b lines ≡ None
-lines_taken b [] h = refl
-lines_taken b (l ∷ lines) h = rw h.0.accepted (lines_taken (raw b l.edit) lines h.1)
+lines_accepted : (b : Parts) (lines : List Line) → AllAccepted b (edits_of lines) → first_refused b lines ≡ None
+lines_accepted b [] h = refl
+lines_accepted b (l ∷ lines) h = rw h.0.accepted (lines_accepted (raw b l.edit) lines h.1)
 
 pub led : (a : Parts) (text : List ℕ) (b : Parts) (s : IsScript a text b)
     → after_script a (script_of text) ≡ Ok (record { out = canon b; undo = texts_of (undo_list a (edits_of s.lines)) })
 led a text b s =
     let es = edits_of s.lines in
     ap (after_script a) s.read
-    ∙ ap (λ (o : Option RefusedLine). unless_refused o (both_texts a es)) (lines_taken a s.lines s.leads.taken)
+    ∙ ap (λ (o : Option RefusedLine). unless_refused o (both_texts a es)) (lines_accepted a s.lines s.leads.is_accepted)
     ∙ ap
     (λ (c : Parts). let r : Result Done RunFault =
     Ok (record { out = canon c; undo = texts_of (undo_list a es) }) in r)
@@ -101,14 +101,14 @@ remade file bytes text h =
     )
 
 -- banks with the same canonical file are equal
-told_by_canon : (a b : Parts) → IsSound a → IsSound b → canon a ≡ canon b → a ≡ b
-told_by_canon a b s r e =
+determined_by_canon : (a b : Parts) → IsSound a → IsSound b → canon a ≡ canon b → a ≡ b
+determined_by_canon a b s r e =
     let first = ap (λ (c : Content). c.bank) (reads-again a s.valid s.fits).1 in
     let second = ap (λ (c : Content). c.bank) (reads-again b r.valid r.fits).1 in
     sym first ∙ ap bank_in e ∙ second
 
-pub tells : ScriptsTell
-tells a b in_a in_b read_a read_b =
+pub distinguishes : ScriptsDistinguish
+distinguishes a b in_a in_b read_a read_b =
     let s = sound_in a in_a read_a in
     let r = sound_in b in_b read_b in
     let script_a = script_text Kept a (bank_in a) _ (read_a, refl) in
@@ -116,13 +116,13 @@ tells a b in_a in_b read_a read_b =
     let canon_a = canon_text a (bank_in a) _ (read_a, refl) in
     let canon_b = canon_text b (bank_in b) _ (read_b, refl) in (
       (λ e. let same : bank_script Kept (bank_in a) ≡ bank_script Kept (bank_in b) = cc in
-          canon_a ∙ ap (λ (c : Parts). Ok (canon c)) (text_tells (bank_in a) (bank_in b) s r same) ∙ sym canon_b),
+          canon_a ∙ ap (λ (c : Parts). Ok (canon c)) (text_determines (bank_in a) (bank_in b) s r same) ∙ sym canon_b),
       (λ e. let same : canon (bank_in a) ≡ canon (bank_in b) = cc in
-          script_a ∙ ap (λ (c : Parts). Ok (bank_script Kept c)) (told_by_canon (bank_in a) (bank_in b) s r same)
+          script_a ∙ ap (λ (c : Parts). Ok (bank_script Kept c)) (determined_by_canon (bank_in a) (bank_in b) s r same)
           ∙ sym script_b),
     )
 
-pub remade_sounds : RemadeSounds
+pub remade_sounds : RemadeRendersSame
 remade_sounds file text notes done bytes h run_done =
     let made = remade file bytes text h in
     let same : done.out ≡ canon (bank_in file) = cc in

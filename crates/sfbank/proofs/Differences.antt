@@ -12,33 +12,33 @@ use Rattle.hydra_records.specs.Records.{AreBytes}
 use Rattle.bank_format.specs.declared.fault.Counts.{Counts}
 use Rattle.bank_format.specs.declared.fault.ReadFault.{ReadFault}
 use Rattle.bank_format.specs.Canon.{canon}
-use Rattle.bank_format.specs.Steps.{Fails}
-use Rattle.bank_format.specs.ReadSteps.{fault_of, ReadsAs}
+use Rattle.bank_format.specs.FaultChecks.{Fails}
+use Rattle.bank_format.specs.ReadChecks.{fault_of, ReadsAs}
 use Rattle.edit_forms.specs.declared.edit.Edit.{Edit}
 use Rattle.bank_edits.specs.Runs.{undo_list}
 use Rattle.edit_script.specs.Script.{script_of}
 use Rattle.edit_script.specs.Printing.{texts_of, numbered}
 use Rattle.edit_script.proofs.LineLaws.{printed_spell}
-use Rattle.script_of_bank.specs.Printed.{IsScript}
-use Rattle.script_of_bank.specs.Whole.{Leads, edits_between}
+use Rattle.script_of_bank.specs.BankScript.{IsScript}
+use Rattle.script_of_bank.specs.LeadsTo.{Leads, edits_between}
 use Rattle.script_of_bank.proofs.PrintedLaws.{replaces}
 use Rattle.program_files.specs.declared.run_fault.RunFault.{RunFault}
 use Rattle.program_files.specs.declared.run_fault.RunFault.TheVariants as run
 use Rattle.program_files.specs.declared.run_fault.Which.TheVariants.{Out}
 use Rattle.program_files.specs.RunFaults.{in_run}
 use Rattle.sfbank.specs.Outcome.{Done, edits_of, after_script, after_reading, bank_in, outcome}
-use Rattle.sfbank.specs.Written.{GoesOut}
-use Rattle.sfbank.specs.Differences.{Pair, after_file, if_same, of_one_version, banks_in, pair_of, IsDifference}
-use Rattle.sfbank.specs.Differences.{SendsDifference, RunsDifference, WritesNothing, Pairs}
+use Rattle.sfbank.specs.Written.{IsWritten}
+use Rattle.sfbank.specs.Differences.{TwoBanks, after_file, if_same, of_one_version, banks_in, two_banks_of, IsDifference}
+use Rattle.sfbank.specs.Differences.{WritesDifference, RunsDifference, WritesNothing, ReadsTwoBanks}
 use Rattle.sfbank.proofs.Restores.{all_fit, edits_numbered, restores}
 use Rattle.sfbank.proofs.BankScripts.{sound_in, led}
 
 -- ---- reading both files
 
-pub first_not_read : (X : Type 0) (view : X → Pair) (failure : Failure ReadFault) (a b : List ℕ)
+pub first_not_read : (X : Type 0) (view : X → TwoBanks) (failure : Failure ReadFault) (a b : List ℕ)
     → Fails failure (fault_of a)
-    → Pairs view (pair_of a b) (Err (in_run run.ReadFirst failure))
-unfolding pair_of
+    → ReadsTwoBanks view (two_banks_of a b) (Err (in_run run.ReadFirst failure))
+unfolding two_banks_of
 first_not_read X view (failures.Fault fault) a b h =
     ap
     (λ (o : Option ReadFault).
@@ -48,52 +48,52 @@ first_not_read X view failures.OutOfMemory a b h = tt
 
 -- the first file is read
 pair_first : (a b : List ℕ) → fault_of a ≡ None
-    → pair_of a b ≡ after_file run.ReadSecond (fault_of b) (of_one_version (banks_in a b))
-unfolding pair_of
+    → two_banks_of a b ≡ after_file run.ReadSecond (fault_of b) (of_one_version (banks_in a b))
+unfolding two_banks_of
 pair_first a b h =
     ap
     (λ (o : Option ReadFault).
     after_file run.ReadFirst o (after_file run.ReadSecond (fault_of b) (of_one_version (banks_in a b))))
     h
 
-pub second_not_read : (X : Type 0) (view : X → Pair) (failure : Failure ReadFault) (a b : List ℕ) → fault_of a ≡ None
+pub second_not_read : (X : Type 0) (view : X → TwoBanks) (failure : Failure ReadFault) (a b : List ℕ) → fault_of a ≡ None
     → Fails failure (fault_of b)
-    → Pairs view (pair_of a b) (Err (in_run run.ReadSecond failure))
+    → ReadsTwoBanks view (two_banks_of a b) (Err (in_run run.ReadSecond failure))
 second_not_read X view (failures.Fault fault) a b r h =
     pair_first a b r ∙ ap (λ (o : Option ReadFault). after_file run.ReadSecond o (of_one_version (banks_in a b))) h
 second_not_read X view failures.OutOfMemory a b r h = tt
 
 -- both files are read
 pub pair_read : (a b : List ℕ) (x y : Parts) (c d : Counts) → ReadsAs a x c → ReadsAs b y d
-    → pair_of a b ≡ of_one_version (record { first = x; second = y })
+    → two_banks_of a b ≡ of_one_version (record { first = x; second = y })
 pair_read a b x y c d r s =
     pair_first a b r.0
     ∙ ap (λ (o : Option ReadFault). after_file run.ReadSecond o (of_one_version (banks_in a b))) s.0
     ∙ (λ i. of_one_version (record { first = (r.1 i).bank; second = (s.1 i).bank }))
 
-pub other_versions : (p : Pair) → p.first.minor ≢ p.second.minor → of_one_version p ≡ Err run.OtherVersion
+pub other_versions : (p : TwoBanks) → p.first.minor ≢ p.second.minor → of_one_version p ≡ Err run.OtherVersion
 other_versions p h = ap (λ (t : Bool). if_same t p) (ne_eqb p.first.minor p.second.minor h)
 
-pub one_version : (p : Pair) → p.first.minor ≡ p.second.minor → of_one_version p ≡ Ok p
+pub one_version : (p : TwoBanks) → p.first.minor ≡ p.second.minor → of_one_version p ≡ Ok p
 one_version p h = ap (λ (t : Bool). if_same t p) (eq-eqb p.first.minor p.second.minor h)
 
-record BothRead (a b : List ℕ) (p : Pair) : Type 0 where
+record BothRead (a b : List ℕ) (p : TwoBanks) : Type 0 where
   first : fault_of a ≡ None
   second : fault_of b ≡ None
   minors : (bank_in a).minor ≡ (bank_in b).minor
   banks : banks_in a b ≡ p
 
-file_done : (told : ReadFault → RunFault) (o : Option ReadFault) (r : Result Pair RunFault) (p : Pair)
-    → after_file told o r ≡ Ok p → (o ≡ None) × (r ≡ Ok p)
-file_done told None r p h = (refl, h)
-file_done told (Some f) r p h = absurd cc
+file_done : (reported : ReadFault → RunFault) (o : Option ReadFault) (r : Result TwoBanks RunFault) (p : TwoBanks)
+    → after_file reported o r ≡ Ok p → (o ≡ None) × (r ≡ Ok p)
+file_done reported None r p h = (refl, h)
+file_done reported (Some f) r p h = absurd cc
 
-same_done : (t : Bool) (q p : Pair) → if_same t q ≡ Ok p → (t ≡ true) × (q ≡ p)
+same_done : (t : Bool) (q p : TwoBanks) → if_same t q ≡ Ok p → (t ≡ true) × (q ≡ p)
 same_done true q p h = (refl, cc)
 same_done false q p h = absurd cc
 
-both_read : (a b : List ℕ) (p : Pair) → pair_of a b ≡ Ok p → BothRead a b p
-unfolding pair_of
+both_read : (a b : List ℕ) (p : TwoBanks) → two_banks_of a b ≡ Ok p → BothRead a b p
+unfolding two_banks_of
 both_read a b p h =
     let rest = after_file run.ReadSecond (fault_of b) (of_one_version (banks_in a b)) in
     let first = file_done run.ReadFirst (fault_of a) rest p h in
@@ -129,40 +129,40 @@ is_difference a b text bytes read s =
     }
 
 -- edits in canonical form
-pub printed_leads : (p : Pair) (es : List Edit) → Leads p.first es p.second → IsScript p.first (texts_of es) p.second
+pub printed_leads : (p : TwoBanks) (es : List Edit) → Leads p.first es p.second → IsScript p.first (texts_of es) p.second
 printed_leads p es h = record {
   lines = numbered 1 es;
-  read = printed_spell es (all_fit p.first es h.taken);
+  read = printed_spell es (all_fit p.first es h.is_accepted);
   leads = subst (λ (xs : List Edit). Leads p.first xs p.second) (sym (edits_numbered 1 es)) h;
 }
 
-pub replacement_is : (a b : List ℕ) (p : Pair) → AreBytes a → AreBytes b → pair_of a b ≡ Ok p
+pub replacement_is : (a b : List ℕ) (p : TwoBanks) → AreBytes a → AreBytes b → two_banks_of a b ≡ Ok p
     → IsScript p.first (texts_of (edits_between p.first p.second)) p.second
 replacement_is a b p in_a in_b h =
     let r = both_read a b p h in
     let whole = replaces (bank_in a) (bank_in b) (sound_in a in_a r.first) (sound_in b in_b r.second) r.minors in
-    subst (λ (q : Pair). IsScript q.first (texts_of (edits_between q.first q.second)) q.second) r.banks whole
+    subst (λ (q : TwoBanks). IsScript q.first (texts_of (edits_between q.first q.second)) q.second) r.banks whole
 
 -- ---- how the run ends
 
-sent : {U : Type 0} (old new : Option (List ℕ)) (a b : List ℕ) (p : Pair) (text : List ℕ) (r : Result U RunFault)
-    → AreBytes a → pair_of a b ≡ Ok p
-    → IsScript p.first text p.second → GoesOut Out old new text r → SendsDifference old new a b r
+sent : {U : Type 0} (old new : Option (List ℕ)) (a b : List ℕ) (p : TwoBanks) (text : List ℕ) (r : Result U RunFault)
+    → AreBytes a → two_banks_of a b ≡ Ok p
+    → IsScript p.first text p.second → IsWritten Out old new text r → WritesDifference old new a b r
 sent old new a b p text r bytes h s g =
     let d = both_read a b p h in
-    let script = subst (λ (q : Pair). IsScript q.first text q.second) (sym d.banks) s in
+    let script = subst (λ (q : TwoBanks). IsScript q.first text q.second) (sym d.banks) s in
     record {
       is_pair =
           h ∙ ap Ok (sym d.banks);
       text = text;
       differs = is_difference a b text bytes d.first script;
-      sends = g;
+      writes = g;
     }
 
-pub sends_difference : {U : Type 0} (old new : Option (List ℕ)) (a b : List ℕ) (p : Pair) (text : List ℕ)
+pub sends_difference : {U : Type 0} (old new : Option (List ℕ)) (a b : List ℕ) (p : TwoBanks) (text : List ℕ)
     (r : Result U RunFault)
-    → AreBytes a → pair_of a b ≡ Ok p
-    → IsScript p.first text p.second → GoesOut Out old new text r → RunsDifference old new a b r
+    → AreBytes a → two_banks_of a b ≡ Ok p
+    → IsScript p.first text p.second → IsWritten Out old new text r → RunsDifference old new a b r
 sends_difference old new a b p text (Ok u) bytes h s g = sent old new a b p text (Ok u) bytes h s g
 sends_difference old new a b p text (Err (run.Write which n)) bytes h s g =
     sent {U = Unit {0}} old new a b p text (Err (run.Write which n)) bytes h s g
@@ -179,13 +179,13 @@ sends_difference old new a b p text (Err (run.NotNeutral number)) bytes h s g = 
 sends_difference old new a b p text (Err (run.Notes fault)) bytes h s g = absurd g
 
 -- there are no edits between equal banks
-pub writes_nothing : {U : Type 0} (old new : Option (List ℕ)) (a b : List ℕ) (p : Pair) (es : List Edit)
+pub writes_nothing : {U : Type 0} (old new : Option (List ℕ)) (a b : List ℕ) (p : TwoBanks) (es : List Edit)
     (r : Result U RunFault)
-    → pair_of a b ≡ Ok p
-    → (p.first ≡ p.second → es ≡ []) → GoesOut Out old new (texts_of es) r → WritesNothing old new a b r
+    → two_banks_of a b ≡ Ok p
+    → (p.first ≡ p.second → es ≡ []) → IsWritten Out old new (texts_of es) r → WritesNothing old new a b r
 writes_nothing old new a b p es (Ok u) h none g = λ e.
     let banks = (both_read a b p h).banks in
-    let same : p.first ≡ p.second = sym (ap (λ (q : Pair). q.first) banks) ∙ e ∙ ap (λ (q : Pair). q.second) banks in
+    let same : p.first ≡ p.second = sym (ap (λ (q : TwoBanks). q.first) banks) ∙ e ∙ ap (λ (q : TwoBanks). q.second) banks in
     subst (λ (xs : List Edit). Appends old new (texts_of xs)) (none same) g
 writes_nothing old new a b p es (Err fault) h none g = tt
 

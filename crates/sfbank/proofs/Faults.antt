@@ -7,8 +7,8 @@ use Rattle.bank_format.specs.declared.fault.Counts.{Counts}
 use Rattle.bank_format.specs.declared.fault.ReadFault.{ReadFault}
 use Rattle.bank_format.specs.Canon.{canon}
 use Rattle.bank_format.specs.Reading.{Content}
-use Rattle.bank_format.specs.Steps as reading
-use Rattle.bank_format.specs.ReadSteps.{fault_of, ReadsAs}
+use Rattle.bank_format.specs.FaultChecks as reading
+use Rattle.bank_format.specs.ReadChecks.{fault_of, ReadsAs}
 use Rattle.edit_forms.specs.declared.edit.Edit.{Edit}
 use Rattle.script_tokens.specs.declared.fault.ScriptFault.{ScriptFault}
 use Rattle.script_tokens.specs.Pool.{pool_bytes}
@@ -22,7 +22,7 @@ use Rattle.sfbank.specs.Outcome.{Done, edits_of, RefusedLine, first_refused, bot
 use Rattle.sfbank.specs.Outcome.{first_not_neutral, if_neutral, after_script, after_neutral_script, after_reading}
 use Rattle.sfbank.specs.Outcome.{bank_in, outcome}
 use Rattle.sfbank.specs.Written.{FailsBefore}
-use Rattle.sfbank.specs.Planned.{AllApplied, AllOf, StopsAtLine, first_other, after_lines, outcome_of}
+use Rattle.sfbank.specs.EditRuns.{AllApplied, AllOf, StopsAtLine, first_other, after_lines, outcome_of}
 use Rattle.program_commands.specs.declared.words.Forms.{Forms}
 use Rattle.program_commands.specs.declared.words.Forms.TheVariants.{Every, Neutral}
 use Rattle.program_files.specs.RunFaults.{in_run}
@@ -129,7 +129,7 @@ pub applied_done : (b new : Parts) (lines : List Line) (undo : List Edit) → Al
     → after_script b (Ok lines) ≡ Ok (texts new undo)
 applied_done b new lines undo a =
     ap (λ (o : Option RefusedLine). unless_refused o (both_texts b (edits_of lines))) a.accepted
-    ∙ sym (λ i. Ok (texts (a.changed i) (a.taken_back i)))
+    ∙ sym (λ i. Ok (texts (a.changed i) (a.accepted_back i)))
 
 pub at_done : (b new : Parts) (script : List ℕ) (lines : List Line) (undo : List Edit) → script_of script ≡ Ok lines
     → AllApplied b new lines undo → after_script b (script_of script) ≡ Ok (texts new undo)

@@ -1,4 +1,4 @@
-pub mod Alone
+pub mod OneText
 pub mod Applying
 pub mod Endings
 pub mod Faults
@@ -8,7 +8,7 @@ pub mod NewBanks
 pub mod BankScripts
 pub mod SavedBanks
 pub mod Differences
-pub mod Sounds
+pub mod RenderLaws
 pub mod Texts
 pub mod Recordings
 pub mod Unsent

@@ -7,13 +7,13 @@ use Rattle.bank_parts.specs.Sound.{IsSound}
 use Rattle.hydra_records.specs.Records.{AreBytes}
 use Rattle.bank_format.specs.declared.fault.ReadFault.{ReadFault}
 use Rattle.bank_format.specs.Canon.{canon}
-use Rattle.bank_format.specs.ReadSteps.{fault_of}
+use Rattle.bank_format.specs.ReadChecks.{fault_of}
 use Rattle.bank_format.proofs.RoundTrip.{reads-again}
 use Rattle.bank_format.proofs.ReadValid.{read_valid, read_fits}
 use Rattle.edit_refusals.specs.Edits.{raw}
 use Rattle.edit_forms.specs.declared.edit.Edit.{Edit}
 use Rattle.bank_edits.specs.EditChanges.{inverse}
-use Rattle.bank_edits.specs.Runs.{AllTaken, after_all, undo_list}
+use Rattle.bank_edits.specs.Runs.{AllAccepted, after_all, undo_list}
 use Rattle.bank_edits.proofs.Law.{undone}
 use Rattle.bank_edits.proofs.RunLaw.{all_undone}
 use Rattle.script_tokens.specs.declared.fault.ScriptFault.{ScriptFault}
@@ -32,10 +32,10 @@ use Rattle.wave_file.specs.Wave.{wave}
 use Rattle.program_commands.specs.declared.words.Forms.TheVariants.{Every, Neutral}
 use Rattle.sfbank.specs.Outcome.{Done, edits_of, unless_neutral, first_not_neutral, if_neutral, after_script}
 use Rattle.sfbank.specs.Outcome.{after_neutral_script, after_reading, bank_in, outcome, neutral_outcome, after_notes}
-use Rattle.sfbank.specs.Outcome.{play_outcome, IsNeutrallyUndone, IsRunOfEdits, SoundsTheSame}
-use Rattle.sfbank.specs.Planned.{outcome_of}
-use Rattle.sfbank.proofs.Restores.{reading_done, all_taken, all_fit, script_done, restores}
-use Rattle.sfbank.proofs.Sounds.{played_on}
+use Rattle.sfbank.specs.Outcome.{play_outcome, IsNeutrallyUndone, IsRunOfEdits, EditedRendersSame}
+use Rattle.sfbank.specs.EditRuns.{outcome_of}
+use Rattle.sfbank.proofs.Restores.{reading_done, all_accepted, all_fit, script_done, restores}
+use Rattle.sfbank.proofs.RenderLaws.{played_on}
 
 -- ---- the outcome of a run, by the forms that it accepts
 
@@ -143,9 +143,9 @@ neutrally_restores file script bytes done lines h spelled =
     let neutral = subst (λ (ls : List Line). first_not_neutral ls ≡ None) same d.of_script.neutral in
     let run = script_done b lines done (ap (after_script b) (sym spelled) ∙ d.of_script.comes_to) in
     let sound : IsSound b = record { valid = read_valid file bytes d.read; fits = read_fits file bytes } in
-    let undone = all_undone b es sound (all_taken b lines (script_fits script lines spelled) run.accepted) in
+    let undone = all_undone b es sound (all_accepted b lines (script_fits script lines spelled) run.accepted) in
     let said : script_of done.undo ≡ Ok (numbered 1 us) =
-    ap (λ (x : Done). script_of x.undo) run.texts ∙ printed_spell us (all_fit (after_all b es) us undone.taken) in
+    ap (λ (x : Done). script_of x.undo) run.texts ∙ printed_spell us (all_fit (after_all b es) us undone.is_accepted) in
     as_neutral done.out done.undo _ (numbered 1 us)
     (restores file script bytes done lines (as_every file script done h) spelled) said
     (lines_neutral 1 us (undo_neutral b es (edits_neutral lines neutral)))
@@ -156,30 +156,30 @@ neutrally_restores file script bytes done lines h spelled =
 -- ---- rendering
 
 -- neutral edits in order
-render_same : (b : Parts) (lines : List Line) → IsSound b → AllTaken b (edits_of lines) → first_not_neutral lines ≡ None
+render_same : (b : Parts) (lines : List Line) → IsSound b → AllAccepted b (edits_of lines) → first_not_neutral lines ≡ None
     → (ns : List Numbers) → render (after_all b (edits_of lines)) ns ≡ render b ns
-render_same b [] sound taken neutral ns = refl
-render_same b (l ∷ lines) sound taken neutral ns =
+render_same b [] sound is_accepted neutral ns = refl
+render_same b (l ∷ lines) sound is_accepted neutral ns =
     let both = or_neutral (is_neutral l.edit) l.number (first_not_neutral lines) neutral in
-    render_same (raw b l.edit) lines (undone b l.edit sound taken.0).sound taken.1 both.1 ns
-    ∙ neutral_render b l.edit sound taken.0 both.0 ns
+    render_same (raw b l.edit) lines (undone b l.edit sound is_accepted.0).sound is_accepted.1 both.1 ns
+    ∙ neutral_render b l.edit sound is_accepted.0 both.0 ns
 
 played_same : (b end : Parts) (said : Result (List Numbers) NoteFault)
     → ((ns : List Numbers) → render end ns ≡ render b ns) → after_notes end said ≡ after_notes b said
 played_same b end (Ok ns) h = ap (λ xs. Ok (wave xs)) (h ns)
 played_same b end (Err fault) h = refl
 
-pub sounds_the_same : (file script : List ℕ) → AreBytes file → SoundsTheSame file script
+pub sounds_the_same : (file script : List ℕ) → AreBytes file → EditedRendersSame file script
 sounds_the_same file script bytes done notes h =
     let d = neutral_done file script done h in
     let b = bank_in file in
     let lines = d.of_script.lines in
     let run = script_done b lines done (ap (after_script b) (sym d.of_script.spelled) ∙ d.of_script.comes_to) in
     let sound : IsSound b = record { valid = read_valid file bytes d.read; fits = read_fits file bytes } in
-    let taken = all_taken b lines (script_fits script lines d.of_script.spelled) run.accepted in
+    let is_accepted = all_accepted b lines (script_fits script lines d.of_script.spelled) run.accepted in
     let end : Parts = after_all b (edits_of lines) in
-    let end_sound = (all_undone b (edits_of lines) sound taken).sound in
+    let end_sound = (all_undone b (edits_of lines) sound is_accepted).sound in
     ap (λ (x : Done). play_outcome x.out notes) run.texts
     ∙ played_on (canon end) notes end _ (reads-again end end_sound.valid end_sound.fits)
-    ∙ played_same b end (notes_of notes) (render_same b lines sound taken d.of_script.neutral)
+    ∙ played_same b end (notes_of notes) (render_same b lines sound is_accepted d.of_script.neutral)
     ∙ sym (played_on file notes b _ (d.read, refl))

@@ -4,10 +4,10 @@ use Rattle.bank_parts.specs.Sound.{IsSound}
 use Rattle.bank_format.specs.Canon.{canon}
 use Rattle.bank_format.specs.Reading.{Content}
 use Rattle.bank_format.proofs.RoundTrip.{reads-again}
-use Rattle.script_of_bank.specs.Listed.{empty}
-use Rattle.script_of_bank.proofs.Taken.{empty_are, empty_fit}
+use Rattle.script_of_bank.specs.BankEdits.{empty}
+use Rattle.script_of_bank.proofs.AcceptedLaws.{empty_are, empty_fit}
 use Rattle.sfbank.specs.NewBanks.{IsNew}
-use Rattle.sfbank.proofs.Alone.{canon_text}
+use Rattle.sfbank.proofs.OneText.{canon_text}
 
 pub new_sound : (minor : ℕ) → minor < 2 ^ 16 → IsSound (empty minor)
 new_sound minor fits = record {

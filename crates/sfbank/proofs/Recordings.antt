@@ -15,8 +15,8 @@ use Rattle.bank_format.specs.declared.fault.Counts.{Counts}
 use Rattle.bank_format.specs.declared.fault.ReadFault.{ReadFault}
 use Rattle.bank_format.specs.Canon.{canon}
 use Rattle.bank_format.specs.Reading.{Content}
-use Rattle.bank_format.specs.Steps.{Fails}
-use Rattle.bank_format.specs.ReadSteps.{fault_of, ReadsAs}
+use Rattle.bank_format.specs.FaultChecks.{Fails}
+use Rattle.bank_format.specs.ReadChecks.{fault_of, ReadsAs}
 use Rattle.bank_format.proofs.ReadValid.{read_valid}
 use Rattle.edit_forms.specs.declared.edit.Edit.{Edit}
 use Rattle.edit_forms.specs.declared.cause.Cause.TheVariants.{NoSuchSample}
@@ -28,7 +28,7 @@ use Rattle.script_tokens.specs.declared.fault.ScriptFault.{ScriptFault}
 use Rattle.wave_file.specs.SampleWave.{sample_wave}
 use Rattle.wave_file.specs.declared.fault.WaveFault.{WaveFault}
 use Rattle.wave_file.specs.declared.recording.Recording.{Recording}
-use Rattle.wave_file.specs.ReadSteps.{recording_in}
+use Rattle.wave_file.specs.ReadChecks.{recording_in}
 use Rattle.wave_file.specs.Imports.{import_edits}
 use Rattle.wave_file.proofs.FitLaws.{recording_fits, imports_fit}
 use Rattle.program_files.specs.declared.run_fault.RunFault.{RunFault}
@@ -38,15 +38,15 @@ use Rattle.program_files.specs.RunFaults.{in_run}
 use Rattle.sfbank.specs.Outcome.{Done, edits_of, after_script, after_reading, bank_in, outcome}
 use Rattle.sfbank.specs.Recordings.{wave_of, wave_outcome, edits_into, after_recording, import_outcome, IsScripted}
 use Rattle.sfbank.specs.Recordings.{IsImportUndone}
-use Rattle.sfbank.specs.Written.{GoesOut, RunsAlone, FailsBefore}
-use Rattle.sfbank.proofs.Alone.{not_read, sent_text}
+use Rattle.sfbank.specs.Written.{IsWritten, RunsOneText, FailsBefore}
+use Rattle.sfbank.proofs.OneText.{not_read, sent_text}
 use Rattle.sfbank.proofs.Restores.{restores, edits_numbered}
 
 -- ---- a sample as a WAVE file
 
 pub wave_not_read : (U : Type 0) (failure : Failure ReadFault) (known : Option (List ℕ)) (file : List ℕ) (number : ℕ)
     → Fails failure (fault_of file)
-    → RunsAlone {U = U} known known (wave_outcome file number) (Err (in_run run.Read failure))
+    → RunsOneText {U = U} known known (wave_outcome file number) (Err (in_run run.Read failure))
 unfolding wave_outcome
 wave_not_read U failure known file number h =
     not_read U failure known (fault_of file) (wave_of (slice_get (bank_in file).samples number)) h
@@ -61,14 +61,14 @@ wave_on file number b counts r =
 
 pub no_sample : (U : Type 0) (known : Option (List ℕ)) (file : List ℕ) (number : ℕ) (b : Parts) (counts : Counts)
     → ReadsAs file b counts → None ≡ slice_get b.samples number
-    → RunsAlone {U = U} known known (wave_outcome file number) (Err (run.NoMember NoSuchSample))
+    → RunsOneText {U = U} known known (wave_outcome file number) (Err (run.NoMember NoSuchSample))
 no_sample U known file number b counts r h = (wave_on file number b counts r ∙ ap wave_of (sym h), Keeps-refl known)
 
 pub wave_runs : {U : Type 0} (old new : Option (List ℕ)) (file : List ℕ) (number : ℕ) (b : Parts) (counts : Counts)
     (s : Sample) (r : Result U RunFault)
     → ReadsAs file b counts
-    → Some s ≡ slice_get b.samples number → GoesOut Out old new (sample_wave s) r
-    → RunsAlone old new (wave_outcome file number) r
+    → Some s ≡ slice_get b.samples number → IsWritten Out old new (sample_wave s) r
+    → RunsOneText old new (wave_outcome file number) r
 wave_runs old new file number b counts s r reads h sent =
     sent_text old new (wave_outcome file number) (sample_wave s) r
     (wave_on file number b counts reads ∙ ap wave_of (sym h)) sent

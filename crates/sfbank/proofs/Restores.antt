@@ -8,13 +8,13 @@ use Rattle.hydra_records.specs.Records.{AreBytes}
 use Rattle.bank_format.specs.declared.fault.ReadFault.{ReadFault}
 use Rattle.bank_format.specs.Canon.{canon}
 use Rattle.bank_format.specs.Reading.{Content}
-use Rattle.bank_format.specs.ReadSteps.{fault_of}
+use Rattle.bank_format.specs.ReadChecks.{fault_of}
 use Rattle.bank_format.proofs.RoundTrip.{reads-again}
 use Rattle.bank_format.proofs.ReadValid.{read_valid, read_fits}
 use Rattle.edit_forms.specs.declared.edit.Edit.{Edit}
 use Rattle.edit_refusals.specs.declared.refusal.Refusal.{Refusal}
 use Rattle.edit_refusals.specs.Edits.{raw, refusal}
-use Rattle.bank_edits.specs.Runs.{AllTaken, after_all, undo_list}
+use Rattle.bank_edits.specs.Runs.{AllAccepted, after_all, undo_list}
 use Rattle.bank_edits.proofs.RunLaw.{all_undone}
 use Rattle.edit_script.specs.declared.parsing.Line.{Line}
 use Rattle.edit_script.specs.Script.{script_of}
@@ -37,18 +37,18 @@ or_none : (n : ℕ) (r : Option Refusal) (later : Option RefusedLine) → or_els
 or_none n None later e = (refl, e)
 or_none n (Some r) later e = absurd cc
 
-pub all_taken : (b : Parts) (lines : List Line) → LinesFit lines → first_refused b lines ≡ None
-    → AllTaken b (edits_of lines)
-all_taken b [] f e = tt
-all_taken b (l ∷ lines) f e =
+pub all_accepted : (b : Parts) (lines : List Line) → LinesFit lines → first_refused b lines ≡ None
+    → AllAccepted b (edits_of lines)
+all_accepted b [] f e = tt
+all_accepted b (l ∷ lines) f e =
     let both = or_none l.number (refusal b l.edit) (first_refused (raw b l.edit) lines) e in
-    (record { fits = f.0; accepted = both.0 }, all_taken (raw b l.edit) lines f.1 both.1)
+    (record { fits = f.0; accepted = both.0 }, all_accepted (raw b l.edit) lines f.1 both.1)
 
-none_refused : (b : Parts) (n : ℕ) (es : List Edit) → AllTaken b es → first_refused b (numbered n es) ≡ None
+none_refused : (b : Parts) (n : ℕ) (es : List Edit) → AllAccepted b es → first_refused b (numbered n es) ≡ None
 none_refused b n [] h = refl
 none_refused b n (e ∷ es) h = rw h.0.accepted (none_refused (raw b e) (suc n) es h.1)
 
-pub all_fit : (b : Parts) (es : List Edit) → AllTaken b es → AllFit es
+pub all_fit : (b : Parts) (es : List Edit) → AllAccepted b es → AllFit es
 all_fit b [] h = tt
 all_fit b (e ∷ es) h = (h.0.fits, all_fit (raw b e) es h.1)
 
@@ -85,7 +85,7 @@ outcome_canon b script s =
     ∙ ap (λ (c : Content). after_script c.bank (script_of script)) again.1
 
 -- accepted edits, as numbered lines
-pub after_numbered : (b : Parts) (es : List Edit) → AllTaken b es
+pub after_numbered : (b : Parts) (es : List Edit) → AllAccepted b es
     → after_script b (Ok (numbered 1 es)) ≡ Ok (both_texts b es)
 after_numbered b es h =
     ap (λ (o : Option RefusedLine). unless_refused o (both_texts b (edits_of (numbered 1 es)))) (none_refused b 1 es h)
@@ -94,16 +94,16 @@ after_numbered b es h =
 -- ---- the law
 
 -- the undo text, run on the written file
-run_back : (b : Parts) (es : List Edit) → IsSound b → AllTaken b es
+run_back : (b : Parts) (es : List Edit) → IsSound b → AllAccepted b es
     → outcome (canon (after_all b es)) (texts_of (undo_list b es)) ≡ Ok (record { out = canon b; undo = texts_of es })
 run_back b es s h =
     let undone = all_undone b es s h in
     let end : Parts = after_all b es in
     let us : List Edit = undo_list b es in
-    let spelled = printed_spell us (all_fit end us undone.taken) in
+    let spelled = printed_spell us (all_fit end us undone.is_accepted) in
     outcome_canon end (texts_of us) undone.sound
     ∙ ap (after_script end) spelled
-    ∙ after_numbered end us undone.taken
+    ∙ after_numbered end us undone.is_accepted
     ∙ (λ i. Ok (record { out = canon (undone.restored i); undo = texts_of (undone.redone i) }))
 
 pub restores : (file script : List ℕ) → AreBytes file → IsUndone file script
@@ -113,5 +113,5 @@ restores file script bytes done lines h spelled =
     let read = reading_done (fault_of file) (after_script b (script_of script)) done h in
     let run = script_done b lines done (ap (after_script b) (sym spelled) ∙ read.1) in
     let sound : IsSound b = record { valid = read_valid file bytes read.0; fits = read_fits file bytes } in
-    let back = run_back b (edits_of lines) sound (all_taken b lines (script_fits script lines spelled) run.accepted) in
+    let back = run_back b (edits_of lines) sound (all_accepted b lines (script_fits script lines spelled) run.accepted) in
     ap (λ (d : Done). outcome d.out d.undo) run.texts ∙ back

@@ -5,11 +5,11 @@ use Rattle.std.specs.Borrow.{MutBor}
 use Rattle.std.specs.Io.KnownBytes.{Appends, Keeps}
 use Rattle.base_outputs.specs.declared.writing.WriteFault.{WriteFault}
 use Rattle.base_outputs.specs.declared.output.Output.{Output}
-use Rattle.base_outputs.specs.Output.{Begins, IsOnItsWay, StoppedIn}
+use Rattle.base_outputs.specs.Output.{Begins, IsPartlyWritten, StoppedIn}
 
-no_front : (gone held : List ℕ) → [] ≡ gone ++ held → gone ≡ []
+no_front : (prefix held : List ℕ) → [] ≡ prefix ++ held → prefix ≡ []
 no_front [] held e = cc
-no_front (b ∷ gone) held e = absurd cc
+no_front (b ∷ prefix) held e = absurd cc
 
 kept : (old new : Option (List ℕ)) → Appends old new [] → Keeps old new
 kept None new h = tt
@@ -18,10 +18,10 @@ kept (Some xs) (Some ys) h = h ∙ append-nil xs
 
 -- nothing was written
 nothing_gone : (start now : Option (List ℕ)) (held : List ℕ) (sent : ℕ) (fault : Option WriteFault)
-    → MatchOption fault (IsOnItsWay start now held sent []) (λ f. StoppedIn start now [] f.written) → Keeps start now
+    → MatchOption fault (IsPartlyWritten start now held sent []) (λ f. StoppedIn start now [] f.written) → Keeps start now
 nothing_gone start now held sent None way =
-    let P : List ℕ → Type 0 = λ gone. Appends start now gone in
-    kept start now (subst P (no_front way.gone held way.parts) way.out)
+    let P : List ℕ → Type 0 = λ prefix. Appends start now prefix in
+    kept start now (subst P (no_front way.prefix held way.parts) way.out)
 nothing_gone start now held sent (Some f) stopped = let h = stopped.within in absurd (omega (arith, h))
 
 pub unsent : {W : Type 0} (contents : W → Option (List ℕ)) (out : MutBor W) (o p : Output W) → Begins contents out o

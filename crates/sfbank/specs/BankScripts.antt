@@ -2,10 +2,10 @@
 use Rattle.std.specs.Prelude.{◌≡◌, ◌↔◌, ℕ, List, None, Result, Ok}
 use Rattle.hydra_records.specs.Records.{AreBytes}
 use Rattle.bank_format.specs.Canon.{canon}
-use Rattle.bank_format.specs.ReadSteps.{fault_of}
+use Rattle.bank_format.specs.ReadChecks.{fault_of}
 use Rattle.script_of_bank.specs.declared.samples.SamplePoints.{SamplePoints}
 use Rattle.script_of_bank.specs.declared.samples.SamplePoints.TheVariants.{Kept}
-use Rattle.script_of_bank.specs.Printed.{bank_script}
+use Rattle.script_of_bank.specs.BankScript.{bank_script}
 use Rattle.program_files.specs.declared.run_fault.RunFault.{RunFault}
 use Rattle.sfbank.specs.Outcome.{Done, after_reading, bank_in, outcome, canon_outcome, play_outcome}
 use Rattle.sfbank.specs.NewBanks.{new_file}
@@ -30,14 +30,14 @@ IsRemade file =
     → WritesFile (outcome (start_of file) text) (canon (bank_in file))
 
 -- Two readable files have the same script with all points if and only if they have the same canonical file.
-abbrev pub ScriptsTell : Type 0
-ScriptsTell =
+abbrev pub ScriptsDistinguish : Type 0
+ScriptsDistinguish =
     (a b : List ℕ) → AreBytes a → AreBytes b → fault_of a ≡ None → fault_of b ≡ None
     → (script_outcome Kept a ≡ script_outcome Kept b) ↔ (canon_outcome a ≡ canon_outcome b)
 
 -- Each note list renders identically on a file and on the file that its script makes of the empty bank.
-abbrev pub RemadeSounds : Type 0
-RemadeSounds =
+abbrev pub RemadeRendersSame : Type 0
+RemadeRendersSame =
     (file text notes : List ℕ) (done : Done) → AreBytes file → script_outcome Kept file ≡ Ok text
     → outcome (start_of file) text ≡ Ok done
     → play_outcome done.out notes ≡ play_outcome file notes

@@ -1,5 +1,5 @@
 pub use Rattle.bank_format.specs.Canon
-pub use Rattle.bank_format.specs.ReadSteps
+pub use Rattle.bank_format.specs.ReadChecks
 pub use Rattle.bank_edits.specs.Runs
 pub use Rattle.edit_script.specs.Script
 pub use Rattle.edit_script.specs.Printing
@@ -12,8 +12,8 @@ pub use Rattle.wave_file.specs.Wave
 pub use Rattle.show_zone_map.specs.Picture
 pub mod Outcome
 pub mod Written
-pub mod Planned
-pub mod Plans
+pub mod EditRuns
+pub mod Prepared
 pub mod NewBanks
 pub mod BankScripts
 pub mod SavedBanks

@@ -1,8 +1,8 @@
 -- The file of an empty bank.
 use Rattle.std.specs.Prelude.{◌≡◌, ℕ, List, None, Result, Ok}
 use Rattle.bank_format.specs.Canon.{canon}
-use Rattle.bank_format.specs.ReadSteps.{fault_of}
-use Rattle.script_of_bank.specs.Listed.{empty}
+use Rattle.bank_format.specs.ReadChecks.{fault_of}
+use Rattle.script_of_bank.specs.BankEdits.{empty}
 use Rattle.program_files.specs.declared.run_fault.RunFault.{RunFault}
 use Rattle.sfbank.specs.Outcome.{bank_in, canon_outcome}
 

@@ -6,7 +6,7 @@ use Rattle.bank_format.specs.declared.fault.Counts.{Counts}
 use Rattle.bank_format.specs.Canon.{canon}
 use Rattle.bank_format.specs.Chunks.{window}
 use Rattle.bank_format.specs.Reading.{content_in}
-use Rattle.bank_format.specs.ReadSteps.{fault_of}
+use Rattle.bank_format.specs.ReadChecks.{fault_of}
 use Rattle.edit_forms.specs.declared.edit.Edit.{Edit}
 use Rattle.edit_refusals.specs.declared.refusal.Refusal.{Refusal}
 use Rattle.edit_refusals.specs.Edits.{raw, refusal}
@@ -133,8 +133,8 @@ IsUndone file script =
 
 -- If a run succeeds, and its undo text on the written file too, each note list has the same outcome on the file
 -- written last and on the first file.
-abbrev pub SoundsAgain : List ℕ → List ℕ → Type 0
-SoundsAgain file script =
+abbrev pub RestoredRendersSame : List ℕ → List ℕ → Type 0
+RestoredRendersSame file script =
     (done back : Done) (notes : List ℕ) → outcome file script ≡ Ok done → outcome done.out done.undo ≡ Ok back
     → play_outcome back.out notes ≡ play_outcome file notes
 
@@ -151,14 +151,14 @@ IsNeutrallyUndone file script =
 
 -- If a neutral run succeeds, each note list has the same outcome on the written file and on the first file: the same
 -- WAVE file or the same fault.
-abbrev pub SoundsTheSame : List ℕ → List ℕ → Type 0
-SoundsTheSame file script =
+abbrev pub EditedRendersSame : List ℕ → List ℕ → Type 0
+EditedRendersSame file script =
     (done : Done) (notes : List ℕ) → neutral_outcome file script ≡ Ok done
     → play_outcome done.out notes ≡ play_outcome file notes
 
 -- Notes have the same outcome on the canonical file.
-abbrev pub SoundsInCanon : List ℕ → List ℕ → Type 0
-SoundsInCanon file notes =
+abbrev pub CanonRendersSame : List ℕ → List ℕ → Type 0
+CanonRendersSame file notes =
     (text : List ℕ) → canon_outcome file ≡ Ok text → play_outcome text notes ≡ play_outcome file notes
 
 -- a text, with an empty undo text

@@ -3,14 +3,14 @@ use Rattle.std.specs.Prelude.{◌≡◌, ℕ, List, length, slice_get, Option, S
 use Rattle.bank_parts.specs.declared.parts.Parts.{Parts}
 use Rattle.bank_parts.specs.declared.parts.Sample.{Sample}
 use Rattle.bank_format.specs.Canon.{canon}
-use Rattle.bank_format.specs.ReadSteps.{fault_of}
+use Rattle.bank_format.specs.ReadChecks.{fault_of}
 use Rattle.edit_forms.specs.declared.edit.Edit.{Edit}
 use Rattle.edit_forms.specs.declared.cause.Cause.TheVariants.{NoSuchSample}
 use Rattle.edit_script.specs.Printing.{texts_of, numbered}
 use Rattle.wave_file.specs.SampleWave.{sample_wave}
 use Rattle.wave_file.specs.declared.fault.WaveFault.{WaveFault}
 use Rattle.wave_file.specs.declared.recording.Recording.{Recording}
-use Rattle.wave_file.specs.ReadSteps.{recording_in}
+use Rattle.wave_file.specs.ReadChecks.{recording_in}
 use Rattle.wave_file.specs.Imports.{import_edits}
 use Rattle.program_files.specs.declared.run_fault.RunFault.{RunFault}
 use Rattle.program_files.specs.declared.run_fault.RunFault.TheVariants as run

@@ -9,10 +9,10 @@ use Rattle.program_files.specs.declared.run_fault.Which.TheVariants.{Out, Undo}
 use Rattle.sfbank.specs.Outcome.{Done}
 
 -- a fault of the writer is reported with the text that it is about and the number of bytes written
-abbrev pub IsTold : {U : Type 0} → Which → Result ℕ WriteFault → Result U RunFault → Type 0
-IsTold which (Ok total) (Ok u) = Unit {0}
-IsTold which (Err stop) (Err fault) = fault ≡ run.Write which stop.written
-IsTold which delivered r = ⊥
+abbrev pub IsReported : {U : Type 0} → Which → Result ℕ WriteFault → Result U RunFault → Type 0
+IsReported which (Ok total) (Ok u) = Unit {0}
+IsReported which (Err stop) (Err fault) = fault ≡ run.Write which stop.written
+IsReported which delivered r = ⊥
 
 -- the bytes of two writers, before and after
 pub record Writers : Type 0 where
@@ -22,10 +22,10 @@ pub record Writers : Type 0 where
   pub undo_new : Option (List ℕ)
 
 -- The text is written whole. With the writer's fault, exactly its first `n` bytes are, which may be all.
-abbrev pub GoesOut : {U : Type 0} → Which → Option (List ℕ) → Option (List ℕ) → List ℕ → Result U RunFault → Type 0
-GoesOut which old new text (Ok u) = Appends old new text
-GoesOut which old new text (Err (run.Write at n)) = (at ≡ which) × (n ≤ length text) × Appends old new (take n text)
-GoesOut which old new text (Err fault) = ⊥
+abbrev pub IsWritten : {U : Type 0} → Which → Option (List ℕ) → Option (List ℕ) → List ℕ → Result U RunFault → Type 0
+IsWritten which old new text (Ok u) = Appends old new text
+IsWritten which old new text (Err (run.Write at n)) = (at ≡ which) × (n ≤ length text) × Appends old new (take n text)
+IsWritten which old new text (Err fault) = ⊥
 
 -- nothing was written
 abbrev pub Untouched : Writers → Type 0
@@ -58,19 +58,19 @@ Runs w outcome (Err run.Memory) = Untouched w
 Runs w outcome (Err fault) = (outcome ≡ Err fault) × Untouched w
 
 -- the outcome is a text, and it is written
-pub record SendsText {U : Type 0} (old new : Option (List ℕ)) (outcome : Result (List ℕ) RunFault)
+pub record WritesText {U : Type 0} (old new : Option (List ℕ)) (outcome : Result (List ℕ) RunFault)
     (r : Result U RunFault) : Type 0 where
   pub text : List ℕ
   pub is_text : outcome ≡ Ok text
-  pub sends : GoesOut Out old new text r
+  pub writes : IsWritten Out old new text r
 
 -- The run with one text has this outcome. With any fault but the writer's own, nothing is written.
-abbrev pub RunsAlone : {U : Type 0} → Option (List ℕ) → Option (List ℕ) → Result (List ℕ) RunFault
+abbrev pub RunsOneText : {U : Type 0} → Option (List ℕ) → Option (List ℕ) → Result (List ℕ) RunFault
     → Result U RunFault → Type 0
-RunsAlone old new outcome (Ok u) = SendsText old new outcome (Ok u)
-RunsAlone old new outcome (Err (run.Write which n)) = SendsText {U = Unit {0}} old new outcome (Err (run.Write which n))
-RunsAlone old new outcome (Err run.Memory) = Keeps old new
-RunsAlone old new outcome (Err fault) = (outcome ≡ Err fault) × Keeps old new
+RunsOneText old new outcome (Ok u) = WritesText old new outcome (Ok u)
+RunsOneText old new outcome (Err (run.Write which n)) = WritesText {U = Unit {0}} old new outcome (Err (run.Write which n))
+RunsOneText old new outcome (Err run.Memory) = Keeps old new
+RunsOneText old new outcome (Err fault) = (outcome ≡ Err fault) × Keeps old new
 
 -- The fault of these bytes, or out of memory. Nothing is written.
 abbrev pub FailsBefore : {X : Type 0} → RunFault → Result X RunFault → Type 0
@@ -79,6 +79,6 @@ FailsBefore (run.Write which n) outcome = ⊥
 FailsBefore fault outcome = outcome ≡ Err fault
 
 -- Before the first byte: what the run will write, or its fault.
-abbrev pub Plans : {X : Type 0} → (X → Done) → Result Done RunFault → Result X RunFault → Type 0
-Plans view outcome (Ok x) = outcome ≡ Ok (view x)
-Plans view outcome (Err fault) = FailsBefore fault outcome
+abbrev pub Prepared : {X : Type 0} → (X → Done) → Result Done RunFault → Result X RunFault → Type 0
+Prepared view outcome (Ok x) = outcome ≡ Ok (view x)
+Prepared view outcome (Err fault) = FailsBefore fault outcome

@@ -1,6 +1,6 @@
 //! The canonical form of a bank, from bytes to bytes.
 ghost use Rattle.sfbank.specs.Outcome.{canon_outcome, IsEmptyEdit, IsFixed};
-ghost use Rattle.sfbank.specs.Written.{RunsAlone};
+ghost use Rattle.sfbank.specs.Written.{RunsOneText};
 
 use crate::deliver::deliver_bank;
 use program_files::RunFault;
@@ -14,7 +14,7 @@ use std::io::Write;
 /// number of bytes written.
 pub fn canon_run<W: Write>(alloc: Global, file: &[u8], out: &mut W) -> Result<(), RunFault>
     // The outcome is the fault of the file, else the canonical file.
-    ensures runs { RunsAlone (W.contents out.old) (W.contents out.new) (canon_outcome file.now) result }
+    ensures runs { RunsOneText (W.contents out.old) (W.contents out.new) (canon_outcome file.now) result }
     // An edit by the empty script has the same outcome, with an empty undo text.
     ensures edit { IsEmptyEdit file.now }
     // The canonical file of the written file is that file itself.

@@ -1,5 +1,5 @@
 //! A script that turns one bank into another.
-ghost use Rattle.sfbank.specs.Differences.{Pairs, RunsDifference, WritesNothing, both, pair_of};
+ghost use Rattle.sfbank.specs.Differences.{ReadsTwoBanks, RunsDifference, WritesNothing, both, two_banks_of};
 
 use crate::deliver::{deliver_edits, deliver_replacement};
 use crate::short::short_difference;
@@ -25,7 +25,7 @@ pub fn diff_run<W: Write>(
     // The script for two files of the same bank is empty.
     ensures nothing { WritesNothing (W.contents out.old) (W.contents out.new) first.now second.now result }
 {
-    let (from, to) = banks_of(alloc, first, second)?;
+    let (from, to) = read_two_banks(alloc, first, second)?;
     match short_difference(alloc, &from, &to)? {
         Some(edits) => deliver_edits(Which::Out, edits.as_slice(), out),
         None => deliver_replacement(&from, &to, out),
@@ -33,12 +33,12 @@ pub fn diff_run<W: Write>(
 }
 
 // Reads both banks, and checks that they have the same minor version.
-fn banks_of<'a>(
+fn read_two_banks<'a>(
     alloc: Global,
     first: &'a [u8],
     second: &'a [u8],
 ) -> Result<(Bank<'a>, Bank<'a>), RunFault>
-    ensures { Pairs both (pair_of first.now second.now) result }
+    ensures { ReadsTwoBanks both (two_banks_of first.now second.now) result }
 {
     let from = match read(alloc, first) {
         Ok((bank, _counts)) => bank,

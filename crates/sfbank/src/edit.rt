@@ -1,12 +1,12 @@
 //! Scripts of edits, from bytes to bytes.
 ghost use Rattle.std.specs.Prelude.{◌≡◌};
-ghost use Rattle.sfbank.specs.Outcome.{outcome, neutral_outcome, IsNeutrallyUndone, IsRunOfEdits, IsUndone, SoundsAgain, SoundsTheSame};
-ghost use Rattle.sfbank.specs.Planned.{outcome_of};
+ghost use Rattle.sfbank.specs.Outcome.{outcome, neutral_outcome, IsNeutrallyUndone, IsRunOfEdits, IsUndone, RestoredRendersSame, EditedRendersSame};
+ghost use Rattle.sfbank.specs.EditRuns.{outcome_of};
 ghost use Rattle.sfbank.specs.Written.{Runs};
 
 use crate::deliver::deliver;
-use crate::plan::make_plan;
-use base_progress::{Progress, Unheard};
+use crate::edited_bank::apply_script;
+use base_progress::{NoReports, Progress};
 use edit_script::pool_of;
 use program_commands::Forms;
 use program_files::RunFault;
@@ -32,9 +32,9 @@ pub fn edit_run<W: Write, V: Write>(
     // Run on the written file, the undo text restores the canonical file of the first bank.
     ensures restores { IsUndone file.now script.now }
     // Each note list renders identically on that restored file and on the first file.
-    ensures sounds { SoundsAgain file.now script.now }
+    ensures renders { RestoredRendersSame file.now script.now }
 {
-    edit_run_with_progress(alloc, file, script, out, undo, &mut Unheard)
+    edit_run_with_progress(alloc, file, script, out, undo, &mut NoReports)
 }
 
 /// Does what `edit_run` does, and reports to `base_progress` as lines are done.
@@ -52,7 +52,7 @@ pub fn edit_run_with_progress<W: Write, V: Write, P: Progress>(
     // Run on the written file, the undo text restores the canonical file of the first bank.
     ensures restores { IsUndone file.now script.now }
     // Each note list renders identically on that restored file and on the first file.
-    ensures sounds { SoundsAgain file.now script.now }
+    ensures renders { RestoredRendersSame file.now script.now }
 {
     run_script(alloc, file, script, Forms::Every, out, undo, progress)
 }
@@ -76,7 +76,7 @@ pub fn neutral_run<W: Write, V: Write, P: Progress>(
     // The undo text is neutral too. Run on the written file, it restores the canonical file of the first bank.
     ensures restores { IsNeutrallyUndone file.now script.now }
     // Each note list renders identically on the written file and on the first file.
-    ensures sounds { SoundsTheSame file.now script.now }
+    ensures renders { EditedRendersSame file.now script.now }
 {
     run_script(alloc, file, script, Forms::Neutral, out, undo, progress)
 }
@@ -96,6 +96,6 @@ pub(crate) fn run_script<W: Write, V: Write, P: Progress>(
 {
     let (bank, _counts) = read(alloc, file)?;
     let pool = pool_of(alloc, script)?;
-    let plan = make_plan(alloc, bank, script, pool.as_slice(), forms, progress)?;
-    deliver(&plan, out, undo)
+    let edited_bank = apply_script(alloc, bank, script, pool.as_slice(), forms, progress)?;
+    deliver(&edited_bank, out, undo)
 }

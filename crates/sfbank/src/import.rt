@@ -3,14 +3,14 @@ ghost use Rattle.std.specs.Prelude.{◌≡◌, ◌≤◌, length, Ok, IfOk};
 ghost use Rattle.edit_script.specs.Printing.{numbered};
 ghost use Rattle.wave_file.specs.Imports.{import_edits, sides_of};
 ghost use Rattle.sfbank.specs.Outcome.{after_script};
-ghost use Rattle.sfbank.specs.Plans.{planned};
+ghost use Rattle.sfbank.specs.Prepared.{texts_of_bank};
 ghost use Rattle.sfbank.specs.Recordings.{import_outcome, IsScripted, IsImportUndone};
-ghost use Rattle.sfbank.specs.Written.{Plans, Runs};
+ghost use Rattle.sfbank.specs.Written.{Prepared, Runs};
 
 use crate::deliver::deliver;
-use crate::plan::{Plan, apply_all};
+use crate::edited_bank::{EditedBank, apply_all};
 use bank_core::Bank;
-use base_progress::Unheard;
+use base_progress::NoReports;
 use edit_forms::Edit;
 use edit_script::Line;
 use program_files::RunFault;
@@ -63,38 +63,38 @@ fn import<'a, W: Write, V: Write>(
     let (bank, _counts) = read(alloc, file)?;
     let recording = read_recording(alloc, wave)?;
     let sides = Sides::of(alloc, &recording.channels)?;
-    let plan = plan_of_recording(alloc, bank, recording, &sides, name)?;
-    deliver(&plan, out, undo)
+    let edited_bank = apply_import(alloc, bank, recording, &sides, name)?;
+    deliver(&edited_bank, out, undo)
 }
 
 // Applies the edits that append a recording, whose points are split by side, to the bank's samples.
-fn plan_of_recording<'a>(
+fn apply_import<'a>(
     alloc: Global,
     bank: Bank<'a>,
     recording: Recording<'a>,
     sides: &'a Sides,
     name: &[u8],
-) -> Result<Plan<'a>, RunFault>
+) -> Result<EditedBank<'a>, RunFault>
     requires { sides.now ≡ sides_of recording.channels }
-    ensures { Plans planned (after_script bank.entry (Ok (numbered 1 (import_edits (length bank.entry.samples) name.now recording.entry)))) result }
+    ensures { Prepared texts_of_bank (after_script bank.entry (Ok (numbered 1 (import_edits (length bank.entry.samples) name.now recording.entry)))) result }
 {
     let count = bank.samples().len();
     let edits = import_edits(alloc, count, name, recording, sides)?;
-    plan_of(alloc, bank, edits)
+    apply_numbered(alloc, bank, edits)
 }
 
 // Applies edits as the lines of a script, numbered from 1. Writes nothing.
-fn plan_of<'a>(
+fn apply_numbered<'a>(
     alloc: Global,
     mut bank: Bank<'a>,
     edits: Vec<Edit<'a>>,
-) -> Result<Plan<'a>, RunFault>
+) -> Result<EditedBank<'a>, RunFault>
     requires { length edits.items ≤ 3 }
-    ensures { Plans planned (after_script bank.entry (Ok (numbered 1 edits.entry.items))) result }
+    ensures { Prepared texts_of_bank (after_script bank.entry (Ok (numbered 1 edits.entry.items))) result }
 {
     let lines = numbered_lines(alloc, edits)?;
-    let undo = apply_all(alloc, &mut bank, lines, &mut Unheard)?;
-    Ok(Plan { bank, undo })
+    let undo = apply_all(alloc, &mut bank, lines, &mut NoReports)?;
+    Ok(EditedBank { bank, undo })
 }
 
 // Numbers edits as the lines of a script, from 1.

@@ -1,23 +1,23 @@
 //! Laws of whole runs.
-ghost use Rattle.sfbank.specs.BankScripts.{RemadeSounds, ScriptsTell};
-ghost use Rattle.sfbank.specs.SavedBanks.{SavedBanksLeadBack};
+ghost use Rattle.sfbank.specs.BankScripts.{RemadeRendersSame, ScriptsDistinguish};
+ghost use Rattle.sfbank.specs.SavedBanks.{SavedUndoRestores};
 
-use live_sessions::saved_ways_lead_back;
+use live_sessions::saved_undo_leads_back;
 
 /// Two readable files have the same script with all points if and only if they have the same canonical file.
-pub fn scripts_tell_banks()
-    ensures { ScriptsTell }
+pub fn scripts_distinguish_banks()
+    ensures { ScriptsDistinguish }
 {}
 
 /// Each note list renders identically on a file and on the file that its script makes of the empty bank.
-pub fn remade_banks_sound()
-    ensures { RemadeSounds }
+pub fn remade_banks_render_same()
+    ensures { RemadeRendersSame }
 {}
 
 /// At any time in a live session, the undo script that `save` writes, run by `edit_run` on the bank file that it
 /// writes, restores the canonical file of the bank with which the session began.
-pub fn saved_banks_lead_back()
-    ensures { SavedBanksLeadBack }
+pub fn saved_undo_restores()
+    ensures { SavedUndoRestores }
 {
-    saved_ways_lead_back();
+    saved_undo_leads_back();
 }

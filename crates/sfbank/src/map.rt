@@ -1,7 +1,7 @@
 //! The map of a preset or an instrument: where notes select its zones.
 ghost use Rattle.std.specs.Prelude.{◌≡◌};
-ghost use Rattle.sfbank.specs.Maps.{has_owner, missing, map_outcome};
-ghost use Rattle.sfbank.specs.Written.{RunsAlone};
+ghost use Rattle.sfbank.specs.Maps.{has_owner, cause_of_missing, map_outcome};
+ghost use Rattle.sfbank.specs.Written.{RunsOneText};
 
 use crate::deliver::deliver_map;
 use bank_core::{Bank, Owner};
@@ -23,13 +23,13 @@ pub fn map_run<W: Write>(
     out: &mut W,
 ) -> Result<(), RunFault>
     // The outcome is the fault of the file, else `NoSuchPreset` or `NoSuchInstrument`, else the map.
-    ensures runs { RunsAlone (W.contents out.old) (W.contents out.new) (map_outcome file.now owner) result }
+    ensures runs { RunsOneText (W.contents out.old) (W.contents out.new) (map_outcome file.now owner) result }
 {
     let (bank, _counts) = read(alloc, file)?;
     if has_owner(&bank, owner) {
         deliver_map(&bank, owner, out)
     } else {
-        Err(RunFault::NoMember(missing(owner)))
+        Err(RunFault::NoMember(cause_of_missing(owner)))
     }
 }
 
@@ -44,8 +44,8 @@ fn has_owner(bank: &Bank<'_>, owner: Owner) -> bool
 }
 
 // The cause reported for an owner that the bank does not have.
-fn missing(owner: Owner) -> Cause
-    ensures { result ≡ missing owner }
+fn cause_of_missing(owner: Owner) -> Cause
+    ensures { result ≡ cause_of_missing owner }
 {
     match owner {
         Owner::Preset(_) => Cause::NoSuchPreset,

@@ -1,14 +1,14 @@
 //! An empty bank.
 ghost use Rattle.std.specs.Prelude.{◌≡◌, IfOk};
-ghost use Rattle.script_of_bank.specs.Listed.{empty, empty_texts};
+ghost use Rattle.script_of_bank.specs.BankEdits.{empty, empty_texts};
 ghost use Rattle.sfbank.specs.NewBanks.{IsNew, new_outcome};
-ghost use Rattle.sfbank.specs.Written.{RunsAlone};
+ghost use Rattle.sfbank.specs.Written.{RunsOneText};
 
 use crate::deliver::deliver_bank;
 use bank_core::{Bank, Owners, Parts, Texts};
 use bank_linked_members::LinkedMembers;
 use program_files::RunFault;
-use sf_base::{Lent, OutOfMemory};
+use sf_base::{BorrowedBytes, OutOfMemory};
 use std::alloc::Global;
 use std::io::Write;
 
@@ -17,7 +17,7 @@ use std::io::Write;
 /// If an allocation fails, nothing is written. A fault of the writer (`Which::Out`) has the number of bytes written.
 pub fn new_run<W: Write>(alloc: Global, minor: u16, out: &mut W) -> Result<(), RunFault>
     // The canonical file of the empty bank is written.
-    ensures runs { RunsAlone (W.contents out.old) (W.contents out.new) (new_outcome minor) result }
+    ensures runs { RunsOneText (W.contents out.old) (W.contents out.new) (new_outcome minor) result }
     // It is its own canonical file, and reads as the empty bank.
     ensures fixed { IsNew minor }
 {
@@ -42,13 +42,13 @@ fn empty_texts() -> Texts<'static>
     ensures { result ≡ empty_texts }
 {
     Texts {
-        engine: Lent::new(b"EMU8000"),
-        name: Lent::new(b""),
-        date: Lent::new(b""),
-        engineers: Lent::new(b""),
-        product: Lent::new(b""),
-        copyright: Lent::new(b""),
-        comment: Lent::new(b""),
-        software: Lent::new(b""),
+        engine: BorrowedBytes::new(b"EMU8000"),
+        name: BorrowedBytes::new(b""),
+        date: BorrowedBytes::new(b""),
+        engineers: BorrowedBytes::new(b""),
+        product: BorrowedBytes::new(b""),
+        copyright: BorrowedBytes::new(b""),
+        comment: BorrowedBytes::new(b""),
+        software: BorrowedBytes::new(b""),
     }
 }

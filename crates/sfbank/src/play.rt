@@ -1,9 +1,9 @@
 //! Renders notes on a bank as a WAVE file.
-ghost use Rattle.sfbank.specs.Outcome.{play_outcome, SoundsInCanon};
-ghost use Rattle.sfbank.specs.Written.{RunsAlone};
+ghost use Rattle.sfbank.specs.Outcome.{play_outcome, CanonRendersSame};
+ghost use Rattle.sfbank.specs.Written.{RunsOneText};
 
 use crate::deliver::deliver_wave;
-use base_progress::{Progress, Unheard};
+use base_progress::{NoReports, Progress};
 use mixer::render_with_progress;
 use program_files::RunFault;
 use script_notes::parse_notes;
@@ -23,11 +23,11 @@ pub fn play_run<W: Write>(
     out: &mut W,
 ) -> Result<(), RunFault>
     // The outcome is the fault of the file, else of the notes, else the WAVE file.
-    ensures runs { RunsAlone (W.contents out.old) (W.contents out.new) (play_outcome file.now notes.now) result }
+    ensures runs { RunsOneText (W.contents out.old) (W.contents out.new) (play_outcome file.now notes.now) result }
     // It is the same for the canonical file of the bank.
-    ensures canon { SoundsInCanon file.now notes.now }
+    ensures canon { CanonRendersSame file.now notes.now }
 {
-    play_run_with_progress(alloc, file, notes, out, &mut Unheard)
+    play_run_with_progress(alloc, file, notes, out, &mut NoReports)
 }
 
 /// Does what `play_run` does, and reports to `base_progress` as frames are rendered.
@@ -39,9 +39,9 @@ pub fn play_run_with_progress<W: Write, P: Progress>(
     progress: &mut P,
 ) -> Result<(), RunFault>
     // The outcome is the fault of the file, else of the notes, else the WAVE file.
-    ensures runs { RunsAlone (W.contents out.old) (W.contents out.new) (play_outcome file.now notes.now) result }
+    ensures runs { RunsOneText (W.contents out.old) (W.contents out.new) (play_outcome file.now notes.now) result }
     // It is the same for the canonical file of the bank.
-    ensures canon { SoundsInCanon file.now notes.now }
+    ensures canon { CanonRendersSame file.now notes.now }
 {
     let (bank, _counts) = read(alloc, file)?;
     let notes = parse_notes(alloc, notes)?;

@@ -1,5 +1,5 @@
 //! The program, from its arguments to its exit status.
-ghost use Rattle.program_files.specs.Telling.{Ends};
+ghost use Rattle.program_files.specs.Reporting.{Ends};
 
 mod apply;
 mod canon;
@@ -30,7 +30,7 @@ use map::map;
 use new::new;
 use play::play;
 use program_commands::{Request, request_of};
-use program_files::{Fault, RunFault, STANDARD_OUTPUT, Watched, Which, tell};
+use program_files::{Fault, RunFault, STANDARD_OUTPUT, Watched, Which, report};
 use script::script;
 use show::show;
 use std::alloc::{AllocError, Global};
@@ -62,7 +62,7 @@ pub fn run_with_arguments<R: Env + Files + AllocGlobal, I: Read, O: Write, E: Wr
             is_terminal,
             progress,
         ),
-        Err(fault) => tell(&fault, is_terminal, errors),
+        Err(fault) => report(&fault, is_terminal, errors),
     }
 }
 
@@ -108,7 +108,11 @@ pub fn run<R: Files + AllocGlobal, S: AsStr, I: Read, O: Write, E: Write, P: Pro
     let mut watched = Watched::new(output);
     match serve(rt, words, input, &mut watched, progress) {
         Ok(()) => 0,
-        Err(fault) => tell(&fault.unread_if(watched.is_unread()), is_terminal, errors),
+        Err(fault) => report(
+            &fault.pipe_closed_if(watched.is_pipe_closed()),
+            is_terminal,
+            errors,
+        ),
     }
 }
 

@@ -1,6 +1,6 @@
 //! The script of a bank, from bytes to bytes.
 ghost use Rattle.sfbank.specs.BankScripts.{IsRemade, script_outcome};
-ghost use Rattle.sfbank.specs.Written.{RunsAlone};
+ghost use Rattle.sfbank.specs.Written.{RunsOneText};
 
 use crate::deliver::deliver_script;
 use program_files::RunFault;
@@ -21,7 +21,7 @@ pub fn script_run<W: Write>(
     out: &mut W,
 ) -> Result<(), RunFault>
     // The outcome is the fault of the file, else the script.
-    ensures runs { RunsAlone (W.contents out.old) (W.contents out.new) (script_outcome points file.now) result }
+    ensures runs { RunsOneText (W.contents out.old) (W.contents out.new) (script_outcome points file.now) result }
     // With all points, the script run on the file of the empty bank writes the canonical file of the bank.
     ensures remade { IsRemade file.now }
 {

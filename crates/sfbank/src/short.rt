@@ -1,6 +1,6 @@
 //! Finds which of two scripts is shorter, without writing them.
 ghost use Rattle.std.specs.Prelude.{◌≡◌, [], IsTrue, IfOk, IfSome, IsSomeAnd};
-ghost use Rattle.script_of_bank.specs.Whole.{Leads};
+ghost use Rattle.script_of_bank.specs.LeadsTo.{Leads};
 
 use crate::deliver::put_edits;
 use bank_core::Bank;
@@ -38,19 +38,19 @@ fn are_short(edits: &[Edit<'_>], from: &Bank<'_>, to: &Bank<'_>) -> bool
     edits.is_empty() || !replacement_fits(length_of(edits).saturating_sub(1), from, to)
 }
 
-/// Accepts at most `left` bytes, of which it keeps none, and fails at the first write that is longer.
+/// Accepts at most `remaining` bytes, of which it keeps none, and fails at the first write that is longer.
 #[derive(Drop)]
-struct Room {
-    left: u64,
+struct LimitedWriter {
+    remaining: u64,
 }
 
-impl Write for Room {
+impl Write for LimitedWriter {
     fn write(&mut self, bytes: &[u8]) -> io::Result<usize> {
         let count = bytes.len() as u64;
-        if count > self.left {
+        if count > self.remaining {
             return Err(io::Error::from(ErrorKind::WriteZero));
         }
-        self.left -= count;
+        self.remaining -= count;
         Ok(bytes.len())
     }
 
@@ -61,7 +61,9 @@ impl Write for Room {
 
 // The length of edits as script lines, in bytes.
 fn length_of(edits: &[Edit<'_>]) -> u64 {
-    let mut room = Room { left: u64::MAX };
+    let mut room = LimitedWriter {
+        remaining: u64::MAX,
+    };
     let mut output = Output::to(&mut room);
     put_edits(edits, &mut output);
     output.end().unwrap_or(u64::MAX)
@@ -69,7 +71,7 @@ fn length_of(edits: &[Edit<'_>]) -> u64 {
 
 // Whether the script that replaces a bank by another has at most `most` bytes.
 fn replacement_fits(most: u64, from: &Bank<'_>, to: &Bank<'_>) -> bool {
-    let mut room = Room { left: most };
+    let mut room = LimitedWriter { remaining: most };
     let mut output = Output::to(&mut room);
     put_replacement(from, to, &mut output);
     output.end().is_ok()

@@ -1,6 +1,6 @@
 //! The listing of a bank, from bytes to bytes.
 ghost use Rattle.sfbank.specs.Outcome.{show_outcome, show_details_outcome};
-ghost use Rattle.sfbank.specs.Written.{RunsAlone};
+ghost use Rattle.sfbank.specs.Written.{RunsOneText};
 
 use crate::deliver::{deliver_details, deliver_listing};
 use program_files::RunFault;
@@ -15,7 +15,7 @@ use std::io::Write;
 /// number of bytes written.
 pub fn show_run<W: Write>(alloc: Global, file: &[u8], out: &mut W) -> Result<(), RunFault>
     // The outcome is the fault of the file, else the listing.
-    ensures runs { RunsAlone (W.contents out.old) (W.contents out.new) (show_outcome file.now) result }
+    ensures runs { RunsOneText (W.contents out.old) (W.contents out.new) (show_outcome file.now) result }
 {
     let (bank, counts) = read(alloc, file)?;
     deliver_listing(&bank, &counts, out)
@@ -33,7 +33,7 @@ pub fn show_details_run<W: Write>(
     out: &mut W,
 ) -> Result<(), RunFault>
     // The outcome is the fault of the file, else the listing with these details.
-    ensures runs { RunsAlone (W.contents out.old) (W.contents out.new) (show_details_outcome details file.now) result }
+    ensures runs { RunsOneText (W.contents out.old) (W.contents out.new) (show_details_outcome details file.now) result }
 {
     let (bank, counts) = read(alloc, file)?;
     deliver_details(alloc, &bank, &counts, details, out)

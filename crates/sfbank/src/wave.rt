@@ -1,6 +1,6 @@
 //! A sample as a WAVE file, from bytes to bytes.
 ghost use Rattle.sfbank.specs.Recordings.{wave_outcome};
-ghost use Rattle.sfbank.specs.Written.{RunsAlone};
+ghost use Rattle.sfbank.specs.Written.{RunsOneText};
 
 use crate::deliver::deliver_sample;
 use edit_refusals::Cause;
@@ -21,7 +21,7 @@ pub fn wave_run<W: Write>(
     out: &mut W,
 ) -> Result<(), RunFault>
     // The outcome is the fault of the file, else `NoSuchSample`, else the WAVE file.
-    ensures runs { RunsAlone (W.contents out.old) (W.contents out.new) (wave_outcome file.now sample) result }
+    ensures runs { RunsOneText (W.contents out.old) (W.contents out.new) (wave_outcome file.now sample) result }
 {
     let (bank, _counts) = read(alloc, file)?;
     match bank.sample(sample) {

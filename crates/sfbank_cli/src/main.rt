@@ -1,7 +1,7 @@
 //! The program `sfbank`: passes its arguments and the standard streams to the library, and returns its exit status.
 #![tactic(auto)]
 
-use sfbank::{Meter, Prompted, run_with_arguments};
+use sfbank::{ProgressMeter, Prompted, run_with_arguments};
 use std::io::IsTerminal;
 use std::process::ExitCode;
 
@@ -10,7 +10,7 @@ fn main(rt: HostRuntime) -> ExitCode {
     let is_watched = rt.stderr().is_terminal();
     let mut input = Prompted::new(rt.stdin(), rt.stdout(), is_typed);
     let (mut output, mut errors) = (rt.stdout(), rt.stderr());
-    let mut meter = Meter::new(&rt, rt.stderr(), is_watched);
+    let mut meter = ProgressMeter::new(&rt, rt.stderr(), is_watched);
     ExitCode::from(run_with_arguments(
         &rt,
         &mut input,

@@ -2,7 +2,7 @@
 use Rattle.std.proofs.Common.{◌≡◌, ◌++◌, ℕ, suc, false, List, [], ◌∷◌, None, refl, codes}
 use Rattle.std.proofs.lemmas.List.{append-nil}
 use Rattle.bank_parts.specs.declared.parts.Sample.{Sample}
-use Rattle.bank_parts.specs.declared.parts.WithZones.{WithZones}
+use Rattle.bank_parts.specs.declared.parts.ZoneOwner.{ZoneOwner}
 use Rattle.bank_parts.specs.declared.parts.Parts.{Parts}
 use Rattle.bank_format.specs.declared.fault.Counts.{Counts}
 use Rattle.show_listing.specs.Listing.{listing, bank_line, counts_line, preset_line, instrument_line, sample_line}
@@ -15,7 +15,7 @@ same_lines : {X : Type 0} (line other : ℕ → X → List ℕ) → ((n : ℕ) (
 same_lines line other same n [] = refl
 same_lines line other same n (x ∷ xs) = (λ i. same n x i ++ same_lines line other same (suc n) xs i)
 
-plain_owners : {H : Type 0} (line : ℕ → H → ℕ → List ℕ) (member : List ℕ) (xs : List (WithZones H))
+plain_owners : {H : Type 0} (line : ℕ → H → ℕ → List ℕ) (member : List ℕ) (xs : List (ZoneOwner H))
     → lines_from (owner_lines line member None false) 0 xs ≡ lines_from (owner_line line) 0 xs
 plain_owners line member xs =
     same_lines (owner_lines line member None false) (owner_line line) (λ n x. append-nil (owner_line line n x)) 0 xs

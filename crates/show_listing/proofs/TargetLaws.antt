@@ -6,14 +6,14 @@ use Rattle.std.proofs.lemmas.List.{drop_all, at_drop_more, append-nil}
 use Rattle.std.proofs.lemmas.Option.{get_or_from_slice_get}
 use Rattle.base_numbered_lists.proofs.Lists.{slice_get-found}
 use Rattle.bank_parts.specs.declared.parts.Zone.{Zone}
-use Rattle.bank_parts.specs.declared.parts.WithZones.{WithZones}
+use Rattle.bank_parts.specs.declared.parts.ZoneOwner.{ZoneOwner}
 use Rattle.bank_parts.specs.Owners.{zone_count_at, target_at}
 use Rattle.show_listing.specs.Uses.{targets_in}
 
 abbrev own_targets : List Zone → List ℕ
 own_targets zones = map (λ (z : Zone). z.target) zones
 
-module _ {H : Type 0} (xs : List (WithZones H)) where
+module _ {H : Type 0} (xs : List (ZoneOwner H)) where
   -- ---- of one member: the targets of the remaining zones are still to be collected
 
   abbrev pub Gathers : ℕ → List ℕ → List ℕ → ℕ → Type 0
@@ -64,7 +64,7 @@ module _ {H : Type 0} (xs : List (WithZones H)) where
       let (x, is) = slice_get-found xs i lt in
       let ahead : targets_in (drop i xs) ≡ own_targets x.zones ++ targets_in (drop (i + 1) xs) =
       at_drop_more (λ ys. targets_in ys) xs i x lt
-      ∙ ap (λ (y : WithZones H). own_targets y.zones ++ targets_in (drop (i + 1) xs))
+      ∙ ap (λ (y : ZoneOwner H). own_targets y.zones ++ targets_in (drop (i + 1) xs))
       (get_or_from_slice_get xs i x x is) in
       h ∙ ap (λ (ts : List ℕ). found ++ ts) ahead
       ∙ sym (append_assoc found (own_targets x.zones) (targets_in (drop (i + 1) xs)))

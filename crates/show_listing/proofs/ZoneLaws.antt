@@ -12,7 +12,7 @@ use Rattle.base_numbered_lists.proofs.Lists.{slice_get-found}
 use Rattle.base_outputs.specs.declared.output.Output.{Output}
 use Rattle.base_outputs.specs.Output.{Puts}
 use Rattle.base_outputs.proofs.OutputLaws.{puts_as, puts_then, Putting, putting_start, putting_step, putting_end}
-use Rattle.bank_parts.specs.declared.parts.WithZones.{WithZones}
+use Rattle.bank_parts.specs.declared.parts.ZoneOwner.{ZoneOwner}
 use Rattle.bank_parts.specs.declared.owners.ZonePlace.TheVariants as place
 use Rattle.bank_parts.specs.Owners.{HasPlace, zone_count_at, zone_at, gens_at, mods_at}
 use Rattle.script_tokens.specs.declared.printing.Piece.{Piece}
@@ -33,7 +33,7 @@ pub puts_line_parts : {W : Type 0} {c : W → Option (List ℕ)} {o p q r s : Ou
 puts_line_parts w front back h k l m =
     puts_line w (front ++ back) h (puts_as _ _ (sym (flat_map-append spaced front back)) (puts_then _ _ k l)) m
 
-module _ {H : Type 0} (member : List ℕ) (xs : List (WithZones H)) (i : ℕ) where
+module _ {H : Type 0} (member : List ℕ) (xs : List (ZoneOwner H)) (i : ℕ) where
   -- the line of a global zone that is not empty
   pub puts_global_line : {W : Type 0} {c : W → Option (List ℕ)} {o p q r s : Output W} (gens mods : ℕ)
       → i < length xs → option_map len (gens_at xs i place.Global) ≡ Some gens

@@ -2,7 +2,7 @@
 use Rattle.std.specs.Prelude.{ℕ, Bool, List, [], ◌∷◌, ◌++◌, slice_index, codes, Option, Some, None, if◌then◌else◌}
 use Rattle.std.specs.Option.{option_map}
 use Rattle.bank_parts.specs.declared.parts.Zone.{Zone}
-use Rattle.bank_parts.specs.declared.parts.WithZones.{WithZones}
+use Rattle.bank_parts.specs.declared.parts.ZoneOwner.{ZoneOwner}
 use Rattle.bank_parts.specs.declared.parts.Sample.{Sample}
 use Rattle.bank_parts.specs.declared.parts.Parts.{Parts}
 use Rattle.bank_format.specs.declared.fault.Counts.{Counts}
@@ -14,7 +14,7 @@ use Rattle.script_grammar.specs.Zones.{zone_operands, written_zone, global_opera
 use Rattle.show_listing.specs.declared.listing.Details.{Details}
 use Rattle.show_listing.specs.Listing.{bank_line, counts_line, preset_line, instrument_line, sample_line, lines_from}
 use Rattle.show_listing.specs.Listing.{owner_line}
-use Rattle.show_listing.specs.Uses.{Named, named_in}
+use Rattle.show_listing.specs.Uses.{UsageCounts, usage_counts_in}
 
 -- ---- how often a member is used
 
@@ -25,7 +25,7 @@ uses_line member n (Some counts) =
     line_text (codes "uses") (Word member ∷ Number n ∷ Word (codes "zones") ∷ Number (slice_index counts n) ∷ [])
 
 -- the same for sample n, with how many other samples link to it
-abbrev pub sample_uses_line : ℕ → Option Named → List ℕ
+abbrev pub sample_uses_line : ℕ → Option UsageCounts → List ℕ
 sample_uses_line n None = []
 sample_uses_line n (Some named) = line_text (codes "uses") (
     Word (codes "sample") ∷ Number n
@@ -48,32 +48,32 @@ global_line member n (Some items) =
     (Word member ∷ Number n ∷ Word (codes "global") ∷ pieces_of (global_operands (Some items)))
 
 -- all zones of a member, the global zone first
-abbrev pub zone_lines : {H : Type 0} → List ℕ → ℕ → WithZones H → List ℕ
+abbrev pub zone_lines : {H : Type 0} → List ℕ → ℕ → ZoneOwner H → List ℕ
 zone_lines member n x = global_line member n (global_of x.global) ++ lines_from (zone_line member n) 0 x.zones
 
 -- ---- a member with its details
 
-abbrev pub owner_lines : {H : Type 0} → (ℕ → H → ℕ → List ℕ) → List ℕ → Option (List ℕ) → Bool → ℕ → WithZones H
+abbrev pub owner_lines : {H : Type 0} → (ℕ → H → ℕ → List ℕ) → List ℕ → Option (List ℕ) → Bool → ℕ → ZoneOwner H
     → List ℕ
 owner_lines line member uses zones n x =
     owner_line line n x ++ (uses_line member n uses ++ (if zones then zone_lines member n x else []))
 
-abbrev pub sample_lines : Option Named → ℕ → Sample → List ℕ
+abbrev pub sample_lines : Option UsageCounts → ℕ → Sample → List ℕ
 sample_lines uses n s = sample_line n s ++ sample_uses_line n uses
 
 -- ---- all lines
 
 -- all lines; no zone targets a preset
-unfoldable pub listing_with : Bool → Option Named → Parts → Counts → List ℕ
+unfoldable pub listing_with : Bool → Option UsageCounts → Parts → Counts → List ℕ
 listing_with zones uses b counts =
     bank_line b
     ++ (counts_line counts
     ++ (lines_from (owner_lines preset_line (codes "preset") None zones) 0 b.presets
     ++ (lines_from
-    (owner_lines instrument_line (codes "inst") (option_map (λ (u : Named). u.instruments) uses) zones) 0
+    (owner_lines instrument_line (codes "inst") (option_map (λ (u : UsageCounts). u.instruments) uses) zones) 0
     b.instruments
     ++ lines_from (sample_lines uses) 0 b.samples)))
 
 abbrev pub detailed_listing : Details → Parts → Counts → List ℕ
 detailed_listing details b counts =
-    listing_with details.zones (if details.uses then Some (named_in b) else None) b counts
+    listing_with details.zones (if details.uses then Some (usage_counts_in b) else None) b counts

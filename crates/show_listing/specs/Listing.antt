@@ -1,7 +1,7 @@
 -- The listing of a bank: a line for the bank, one for the counts of reading, and one for each member.
 use Rattle.std.specs.Prelude.{ℕ, suc, List, [], ◌∷◌, ◌++◌, length, sum_by, codes}
 use Rattle.bank_parts.specs.declared.parts.Head.{Head}
-use Rattle.bank_parts.specs.declared.parts.WithZones.{WithZones}
+use Rattle.bank_parts.specs.declared.parts.ZoneOwner.{ZoneOwner}
 use Rattle.bank_parts.specs.declared.parts.Sample.{Sample}
 use Rattle.bank_parts.specs.declared.parts.Parts.{Parts}
 use Rattle.bank_format.specs.declared.fault.Counts.{Counts}
@@ -57,7 +57,7 @@ lines_from line n [] = []
 lines_from line n (x ∷ xs) = line n x ++ lines_from line (suc n) xs
 
 -- the line of an owner; its global zone isn't counted
-abbrev pub owner_line : {H : Type 0} → (ℕ → H → ℕ → List ℕ) → ℕ → WithZones H → List ℕ
+abbrev pub owner_line : {H : Type 0} → (ℕ → H → ℕ → List ℕ) → ℕ → ZoneOwner H → List ℕ
 owner_line line n x = line n x.head (length x.zones)
 
 -- ---- all lines

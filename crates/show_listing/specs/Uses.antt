@@ -5,7 +5,7 @@ use Rattle.std.specs.List.{flat_map, filter_map, enumerate_from, range_with_len}
 use Rattle.bank_parts.specs.declared.parts.Kind.{Kind}
 use Rattle.bank_parts.specs.declared.parts.Kind.TheVariants.{Mono, Right, Left, Linked}
 use Rattle.bank_parts.specs.declared.parts.Zone.{Zone}
-use Rattle.bank_parts.specs.declared.parts.WithZones.{WithZones}
+use Rattle.bank_parts.specs.declared.parts.ZoneOwner.{ZoneOwner}
 use Rattle.bank_parts.specs.declared.parts.Sample.{Sample}
 use Rattle.bank_parts.specs.declared.parts.Parts.{Parts}
 
@@ -18,7 +18,7 @@ abbrev pub tally : ℕ → List ℕ → List ℕ
 tally members numbers = map (λ n. times n numbers) (range_with_len 0 members)
 
 -- the targets of all zones; a global zone has none
-abbrev pub targets_in : {H : Type 0} → List (WithZones H) → List ℕ
+abbrev pub targets_in : {H : Type 0} → List (ZoneOwner H) → List ℕ
 targets_in owners = flat_map (λ x. map (λ (z : Zone). z.target) x.zones) owners
 
 abbrev pub other_than : ℕ → ℕ → Option ℕ
@@ -36,13 +36,13 @@ abbrev pub links_in : List Sample → List ℕ
 links_in samples = filter_map (λ (e : ℕ × Sample). other_link e.0 e.1.kind) (enumerate_from 0 samples)
 
 -- how many zones target each instrument and each sample, and how many other samples link to each sample
-pub record Named : Type 0 where
+pub record UsageCounts : Type 0 where
   pub instruments : List ℕ
   pub samples : List ℕ
   pub links : List ℕ
 
-abbrev pub named_in : Parts → Named
-named_in b = record {
+abbrev pub usage_counts_in : Parts → UsageCounts
+usage_counts_in b = record {
   instruments = tally (length b.instruments) (targets_in b.presets);
   samples = tally (length b.samples) (targets_in b.instruments);
   links = tally (length b.samples) (links_in b.samples);

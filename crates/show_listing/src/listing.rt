@@ -8,7 +8,7 @@ ghost use Rattle.show_listing.specs.Details.{owner_lines, sample_lines, listing_
 use crate::members::{ListedHead, put_sample};
 use crate::pieces::{number_piece, word_piece};
 use crate::points::point_count;
-use crate::uses::{Uses, of_instruments, put_sample_uses, put_uses, told_uses};
+use crate::uses::{Uses, of_instruments, put_sample_uses, put_uses, requested_uses};
 use crate::zones::put_zones;
 use bank_core::{Bank, Owners, Sample};
 use bank_format::Counts;
@@ -49,7 +49,7 @@ pub fn put_details<W: Write>(
     ensures ok { OnOk result (Puts W.contents output.old output.new (detailed_listing details bank.now counts.now)) }
     ensures err { OnErr result (output.new ≡ output.old) }
 {
-    let uses = told_uses(alloc, bank, details.uses)?;
+    let uses = requested_uses(alloc, bank, details.uses)?;
     put_lines(bank, counts, details.zones, uses.as_ref(), output);
     Ok(())
 }
@@ -152,13 +152,13 @@ fn put_samples<W: Write>(samples: &[Sample<'_>], uses: Option<&Uses>, output: &m
     ensures { Puts W.contents output.old output.new (lines_from (sample_lines (option_copied uses.entry)) 0 samples.now) }
 {
     for (number, sample) in samples.iter().enumerate() {
-        put_told_sample(number, sample, uses, output);
+        put_sample_lines(number, sample, uses, output);
     }
 }
 
 // Writes the lines of a sample.
 #[tactic(auto, using(base_outputs::proofs::OutputLaws::puts_then))]
-fn put_told_sample<W: Write>(
+fn put_sample_lines<W: Write>(
     number: usize,
     sample: &Sample<'_>,
     uses: Option<&Uses>,

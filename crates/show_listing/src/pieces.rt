@@ -3,7 +3,7 @@ ghost use Rattle.std.specs.Prelude.{◌≡◌};
 ghost use Rattle.script_tokens.specs.declared.printing.Piece.TheVariants.{Number, Word, Name};
 
 use script_tokens::Piece;
-use sf_base::{Lent, Name20};
+use sf_base::{BorrowedBytes, Name20};
 
 // A number as a piece.
 pub(crate) fn number_piece<'a>(number: u64) -> Piece<'a>
@@ -16,12 +16,12 @@ pub(crate) fn number_piece<'a>(number: u64) -> Piece<'a>
 pub(crate) fn word_piece(word: &[u8]) -> Piece<'_>
     ensures { result ≡ Word word.now }
 {
-    Piece::Word(Lent::new(word))
+    Piece::Word(BorrowedBytes::new(word))
 }
 
 // A name as a piece.
 pub(crate) fn name_piece(name: &Name20) -> Piece<'_>
     ensures { result ≡ Name name.now }
 {
-    Piece::Name(Lent::new(name.bytes()))
+    Piece::Name(BorrowedBytes::new(name.bytes()))
 }

@@ -2,7 +2,7 @@
 ghost use Rattle.std.specs.Prelude.{◌≡◌, slice_index, Some, None, IfOk, if◌then◌else◌};
 ghost use Rattle.std.specs.Option.{option_copied, option_map};
 ghost use Rattle.base_outputs.specs.Output.{Puts};
-ghost use Rattle.show_listing.specs.Uses.{Named, named_in};
+ghost use Rattle.show_listing.specs.Uses.{UsageCounts, usage_counts_in};
 ghost use Rattle.show_listing.specs.Details.{uses_line, sample_uses_line};
 
 use crate::counting::{links, tally, targets};
@@ -34,9 +34,9 @@ impl Drop for Uses {
 }
 
 impl Model for Uses {
-    ghost use Rattle.show_listing.specs.Uses.{Named};
+    ghost use Rattle.show_listing.specs.Uses.{UsageCounts};
 
-    ghost Value = { Named };
+    ghost Value = { UsageCounts };
 
     ghost view = { λ uses. record { instruments = uses.instruments.items; samples = uses.samples.items; links = uses.links.items } };
 }
@@ -44,11 +44,11 @@ impl Model for Uses {
 impl Uses {
     /// Counts the uses in a bank, in one pass over its zones and one over its samples.
     pub(crate) fn of(alloc: Global, bank: &Bank<'_>) -> Result<Uses, OutOfMemory>
-        ensures { IfOk result (λ uses. uses ≡ named_in bank.now) }
+        ensures { IfOk result (λ uses. uses ≡ usage_counts_in bank.now) }
     {
-        let instruments = named_instruments(alloc, bank)?;
-        let samples = named_samples(alloc, bank)?;
-        let links = linked_samples(alloc, bank)?;
+        let instruments = instrument_uses(alloc, bank)?;
+        let samples = sample_uses(alloc, bank)?;
+        let links = sample_links(alloc, bank)?;
         Ok(Uses {
             instruments,
             samples,
@@ -58,36 +58,36 @@ impl Uses {
 }
 
 /// Counts the uses in a bank, if they are requested.
-pub(crate) fn told_uses(
+pub(crate) fn requested_uses(
     alloc: Global,
     bank: &Bank<'_>,
-    told: bool,
+    requested: bool,
 ) -> Result<Option<Uses>, OutOfMemory>
-    ensures { IfOk result (λ uses. uses ≡ (if told then Some (named_in bank.now) else None)) }
+    ensures { IfOk result (λ uses. uses ≡ (if requested then Some (usage_counts_in bank.now) else None)) }
 {
-    if told {
+    if requested {
         Ok(Some(Uses::of(alloc, bank)?))
     } else {
         Ok(None)
     }
 }
 
-fn named_instruments(alloc: Global, bank: &Bank<'_>) -> Result<Vec<u64>, OutOfMemory>
-    ensures { IfOk result (λ counts. counts.items ≡ (named_in bank.now).instruments) }
+fn instrument_uses(alloc: Global, bank: &Bank<'_>) -> Result<Vec<u64>, OutOfMemory>
+    ensures { IfOk result (λ counts. counts.items ≡ (usage_counts_in bank.now).instruments) }
 {
     let found = targets(alloc, bank.presets())?;
     tally(alloc, bank.instruments().len(), found.as_slice())
 }
 
-fn named_samples(alloc: Global, bank: &Bank<'_>) -> Result<Vec<u64>, OutOfMemory>
-    ensures { IfOk result (λ counts. counts.items ≡ (named_in bank.now).samples) }
+fn sample_uses(alloc: Global, bank: &Bank<'_>) -> Result<Vec<u64>, OutOfMemory>
+    ensures { IfOk result (λ counts. counts.items ≡ (usage_counts_in bank.now).samples) }
 {
     let found = targets(alloc, bank.instruments())?;
     tally(alloc, bank.samples().len(), found.as_slice())
 }
 
-fn linked_samples(alloc: Global, bank: &Bank<'_>) -> Result<Vec<u64>, OutOfMemory>
-    ensures { IfOk result (λ counts. counts.items ≡ (named_in bank.now).links) }
+fn sample_links(alloc: Global, bank: &Bank<'_>) -> Result<Vec<u64>, OutOfMemory>
+    ensures { IfOk result (λ counts. counts.items ≡ (usage_counts_in bank.now).links) }
 {
     let found = links(alloc, bank.samples())?;
     tally(alloc, bank.samples().len(), found.as_slice())
@@ -95,7 +95,7 @@ fn linked_samples(alloc: Global, bank: &Bank<'_>) -> Result<Vec<u64>, OutOfMemor
 
 /// Returns the uses of instruments, if uses were requested.
 pub(crate) fn of_instruments(uses: Option<&Uses>) -> Option<&[u64]>
-    ensures { option_copied result ≡ option_map (λ (u : Named). u.instruments) (option_copied uses.entry) }
+    ensures { option_copied result ≡ option_map (λ (u : UsageCounts). u.instruments) (option_copied uses.entry) }
 {
     match uses {
         Some(uses) => Some(uses.instruments.as_slice()),

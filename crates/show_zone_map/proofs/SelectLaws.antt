@@ -11,19 +11,19 @@ use Rattle.script_notes.specs.Notes.{Numbers}
 use Rattle.bank_parts.specs.declared.parts.Head.{Head}
 use Rattle.bank_parts.specs.declared.parts.GlobalZone.{GlobalZone}
 use Rattle.bank_parts.specs.declared.parts.Zone.{Zone}
-use Rattle.bank_parts.specs.declared.parts.WithZones.{WithZones}
+use Rattle.bank_parts.specs.declared.parts.ZoneOwner.{ZoneOwner}
 use Rattle.bank_parts.specs.declared.parts.Parts.{Parts}
 use Rattle.bank_changes.specs.declared.members.Owner.TheVariants as owner
 use Rattle.bank_changes.specs.Members.{target_of}
 use Rattle.zone_select.specs.Ranges.{holds}
-use Rattle.zone_select.specs.Taken.{Taken, taken}
-use Rattle.zone_select.specs.Select.{is_called}
-use Rattle.zone_select.specs.Pairs.{holds_at, chosen_by, preset_chosen, zone_chosen, instrument_zone_chosen, zone_held}
-use Rattle.zone_select.specs.Left.{zones_in, owner_holds}
+use Rattle.zone_select.specs.ZoneSettings.{ZoneSettings, zone_settings}
+use Rattle.zone_select.specs.Select.{has_preset_numbers}
+use Rattle.zone_select.specs.Pairs.{holds_at, selected_pair, pair_of_preset, pair_of_zone, pair_of_instrument, zone_held}
+use Rattle.zone_select.specs.Remaining.{zones_in, owner_holds}
 use Rattle.zone_select.proofs.PlayedLaws.{pairs_are_chosen}
 use Rattle.show_zone_map.specs.declared.rectangle.Area.{Area}
 use Rattle.show_zone_map.specs.declared.rectangle.Rectangle.{Rectangle}
-use Rattle.show_zone_map.specs.Rectangles.{area_of, everything, cut, has_notes, root_key, rectangle_of, with_notes}
+use Rattle.show_zone_map.specs.Rectangles.{area_of, everything, intersection, has_notes, root_key, rectangle_of, with_notes}
 use Rattle.show_zone_map.specs.Rectangles.{rectangle_at, zone_numbers, rectangles_in, rectangles_of_zone, rectangles}
 use Rattle.show_zone_map.specs.Selected.{is_in, covers, is_of_zone, is_of_pair, PairsSelected, PairsOnce, ZonesHold}
 use Rattle.show_zone_map.specs.Selected.{ZonesOnce}
@@ -66,14 +66,14 @@ abbrev in_area : Numbers → Area → Bool
 in_area n area = is_in area.keys n.key && is_in area.velocities n.velocity
 
 -- the intersection of two areas covers a note exactly if both do
-cut_covers : (n : Numbers) (x y : Area) → (has_notes (cut x y) && in_area n (cut x y)) ≡ (in_area n x && in_area n y)
-cut_covers n x y =
-    conditions (nat_le (cut x y).keys.low (cut x y).keys.high)
-    (nat_le (cut x y).velocities.low (cut x y).velocities.high) (is_in (cut x y).keys n.key)
-    (is_in (cut x y).velocities n.velocity)
-    (in_order (cut x y).keys.low (cut x y).keys.high n.key)
-    (in_order (cut x y).velocities.low (cut x y).velocities.high n.velocity)
-    ∙ ap (λ t. t && is_in (cut x y).velocities n.velocity)
+intersection_covers : (n : Numbers) (x y : Area) → (has_notes (intersection x y) && in_area n (intersection x y)) ≡ (in_area n x && in_area n y)
+intersection_covers n x y =
+    conditions (nat_le (intersection x y).keys.low (intersection x y).keys.high)
+    (nat_le (intersection x y).velocities.low (intersection x y).velocities.high) (is_in (intersection x y).keys n.key)
+    (is_in (intersection x y).velocities n.velocity)
+    (in_order (intersection x y).keys.low (intersection x y).keys.high n.key)
+    (in_order (intersection x y).velocities.low (intersection x y).velocities.high n.velocity)
+    ∙ ap (λ t. t && is_in (intersection x y).velocities n.velocity)
     (in_common x.keys.low x.keys.high y.keys.low y.keys.high n.key)
     ∙ ap (λ t. (is_in x.keys n.key && is_in y.keys n.key) && t)
     (in_common x.velocities.low x.velocities.high y.velocities.low y.velocities.high n.velocity)
@@ -96,7 +96,7 @@ module _ (b : Parts) (n : Numbers) (outer : Option ℕ) (area : Area) (i l : ℕ
   unfolding holds
   covered = from (slice_get b.instruments i) refl
     where
-      zone : (x : WithZones (List ℕ)) (z : Option Zone) → slice_get b.instruments i ≡ Some x → slice_get x.zones l ≡ z
+      zone : (x : ZoneOwner (List ℕ)) (z : Option Zone) → slice_get b.instruments i ≡ Some x → slice_get x.zones l ≡ z
           → list_any (covers n) (as_list (rectangle_at b outer area i l))
           ≡ (in_area n area && option_map_or (holds n x.global) z false)
       zone x None e f = rw (e, f) (both_false (in_area n area))
@@ -110,13 +110,13 @@ module _ (b : Parts) (n : Numbers) (outer : Option ℕ) (area : Area) (i l : ℕ
           list_any (covers n)
           (as_list (option_and_then (λ (s : ℕ). with_notes (rectangle_of b outer area i l s)) t)))
           target
-          ∙ if_notes n r (has_notes (cut area there))
-          ∙ cut_covers n area there
+          ∙ if_notes n r (has_notes (intersection area there))
+          ∙ intersection_covers n area there
           ∙ ap (λ t. in_area n area && t) held
 
-      from : (o : Option (WithZones (List ℕ))) → slice_get b.instruments i ≡ o
+      from : (o : Option (ZoneOwner (List ℕ))) → slice_get b.instruments i ≡ o
           → list_any (covers n) (as_list (rectangle_at b outer area i l))
-          ≡ (in_area n area && option_map_or (λ (x : WithZones (List ℕ)). holds_at n x.global x.zones l) o false)
+          ≡ (in_area n area && option_map_or (λ (x : ZoneOwner (List ℕ)). holds_at n x.global x.zones l) o false)
       from None e = rw e (both_false (in_area n area))
       from (Some x) e = zone x (slice_get x.zones l) e refl
 
@@ -125,8 +125,8 @@ module _ (b : Parts) (outer : Option ℕ) (area : Area) (i l : ℕ) where
   pub not_there : zones_in b (owner.Inst i) ≤ l → rectangle_at b outer area i l ≡ None
   not_there = from (slice_get b.instruments i) refl
     where
-      from : (o : Option (WithZones (List ℕ))) → slice_get b.instruments i ≡ o
-          → unwrap_or (option_map (λ (x : WithZones (List ℕ)). length x.zones) o) 0 ≤ l
+      from : (o : Option (ZoneOwner (List ℕ))) → slice_get b.instruments i ≡ o
+          → unwrap_or (option_map (λ (x : ZoneOwner (List ℕ)). length x.zones) o) 0 ≤ l
           → rectangle_at b outer area i l ≡ None
       from None e h = rw e refl
       from (Some x) e h = let f = slice_get_past x.zones l h in rw (e, f) refl
@@ -153,8 +153,8 @@ module _ (b : Parts) (outer : Option ℕ) (area : Area) (i l : ℕ) where
           elim (target_of b (owner.Inst i) l) as
           (λ (o : Option ℕ). filter test (as_list (of_target o)) ≡ cond t (as_list (of_target o)) []) [
             | None ↦ either_way [] t
-            | Some s ↦ tested (rectangle_of b outer area i l s) (has_notes (cut area (area_of b (owner.Inst i) l)))
-                (same s (root_key b i l s) (cut area (area_of b (owner.Inst i) l)))
+            | Some s ↦ tested (rectangle_of b outer area i l s) (has_notes (intersection area (area_of b (owner.Inst i) l)))
+                (same s (root_key b i l s) (intersection area (area_of b (owner.Inst i) l)))
           ]
 
 -- ---- an instrument, alone or through a preset's zone
@@ -252,8 +252,8 @@ module _ (b : Parts) (p k l : ℕ) where
   past_zones : zones_in b (owner.Preset p) ≤ k → target_of b (owner.Preset p) k ≡ None
   past_zones = from (slice_get b.presets p) refl
     where
-      from : (o : Option (WithZones Head)) → slice_get b.presets p ≡ o
-          → unwrap_or (option_map (λ (x : WithZones Head). length x.zones) o) 0 ≤ k
+      from : (o : Option (ZoneOwner Head)) → slice_get b.presets p ≡ o
+          → unwrap_or (option_map (λ (x : ZoneOwner Head). length x.zones) o) 0 ≤ k
           → target_of b (owner.Preset p) k ≡ None
       from None e h = rw e refl
       from (Some x) e h = let f = slice_get_past x.zones k h in rw (e, f) refl
@@ -307,33 +307,33 @@ module _ (b : Parts) (n : Numbers) where
         | Some z ↦ elim (holds n global z) as (λ t. is_some (cond t (Some z) None) ≡ t) [ true ↦ refl | false ↦ refl ]
       ]
 
-  inner_is : (u : Taken) (l : ℕ) (i : WithZones (List ℕ))
-      → is_some (instrument_zone_chosen n u l i) ≡ holds_at n i.global i.zones l
+  inner_is : (u : ZoneSettings) (l : ℕ) (i : ZoneOwner (List ℕ))
+      → is_some (pair_of_instrument n u l i) ≡ holds_at n i.global i.zones l
   inner_is u l i = mapped _ (zone_held n i.global i.zones l) ∙ held_is i.global i.zones l
 
   -- the zone of the instrument is selected exactly if it exists and contains the note
   zone_is : (global : GlobalZone) (l : ℕ) (z : Zone)
-      → is_some (zone_chosen b n global l z) ≡ owner_holds b n (owner.Inst z.target) l
+      → is_some (pair_of_zone b n global l z) ≡ owner_holds b n (owner.Inst z.target) l
   zone_is global l z =
       elim (slice_get b.instruments z.target) as
-      (λ (o : Option (WithZones (List ℕ))).
-      is_some (option_and_then (instrument_zone_chosen n (taken global z) l) o)
-      ≡ option_map_or (λ (i : WithZones (List ℕ)). holds_at n i.global i.zones l) o false) [
+      (λ (o : Option (ZoneOwner (List ℕ))).
+      is_some (option_and_then (pair_of_instrument n (zone_settings global z) l) o)
+      ≡ option_map_or (λ (i : ZoneOwner (List ℕ)). holds_at n i.global i.zones l) o false) [
         | None ↦ refl
-        | Some i ↦ inner_is (taken global z) l i
+        | Some i ↦ inner_is (zone_settings global z) l i
       ]
 
   module _ (p k l : ℕ) where
     -- a pair of a preset is selected exactly if its rectangle covers the note
-    preset_is : (x : WithZones Head) → slice_get b.presets p ≡ Some x
-        → list_any (covers n) (pair_list b p k l) ≡ is_some (preset_chosen b n (k, l) x)
+    preset_is : (x : ZoneOwner Head) → slice_get b.presets p ≡ Some x
+        → list_any (covers n) (pair_list b p k l) ≡ is_some (pair_of_preset b n (k, l) x)
     unfolding holds
     preset_is x e = from (slice_get x.zones k) refl
       where
         from : (o : Option Zone) → slice_get x.zones k ≡ o
             → list_any (covers n) (pair_list b p k l)
             ≡ is_some
-            (option_and_then (zone_chosen b n x.global l)
+            (option_and_then (pair_of_zone b n x.global l)
             (option_and_then (λ (z : Zone). cond (holds n x.global z) (Some z) None) o))
         from None f = rw (e, f) refl
         from (Some z) f =
@@ -348,29 +348,29 @@ module _ (b : Parts) (n : Numbers) where
             ∙ covered b n (Some k) (area_of b (owner.Preset p) k) z.target l
             ∙ ap (λ t. t && owner_holds b n (owner.Inst z.target) l) held
             ∙ ap (λ t. holds n x.global z && t) (sym (zone_is x.global l z))
-            ∙ sym (tested_then (zone_chosen b n x.global l) z (holds n x.global z))
+            ∙ sym (tested_then (pair_of_zone b n x.global l) z (holds n x.global z))
 
-    chosen_is : find (is_called n) b.presets ≡ slice_get b.presets p
-        → list_any (covers n) (pair_list b p k l) ≡ is_some (chosen_by b n (k, l))
-    unfolding chosen_by
+    chosen_is : find (has_preset_numbers n) b.presets ≡ slice_get b.presets p
+        → list_any (covers n) (pair_list b p k l) ≡ is_some (selected_pair b n (k, l))
+    unfolding selected_pair
     chosen_is first =
         from (slice_get b.presets p) refl
-        ∙ ap (λ (o : Option (WithZones Head)). is_some (option_and_then (preset_chosen b n (k, l)) o))
+        ∙ ap (λ (o : Option (ZoneOwner Head)). is_some (option_and_then (pair_of_preset b n (k, l)) o))
         (sym first)
       where
-        from : (o : Option (WithZones Head)) → slice_get b.presets p ≡ o
+        from : (o : Option (ZoneOwner Head)) → slice_get b.presets p ≡ o
             → list_any (covers n) (pair_list b p k l)
-            ≡ is_some (option_and_then (preset_chosen b n (k, l)) (slice_get b.presets p))
+            ≡ is_some (option_and_then (pair_of_preset b n (k, l)) (slice_get b.presets p))
         from None e = rw e refl
         from (Some x) e =
             preset_is x e
-            ∙ ap (λ (o : Option (WithZones Head)). is_some (option_and_then (preset_chosen b n (k, l)) o))
+            ∙ ap (λ (o : Option (ZoneOwner Head)). is_some (option_and_then (pair_of_preset b n (k, l)) o))
             (sym e)
 
 pub pairs_selected : PairsSelected
 pairs_selected b n p k l first =
     let same : list_any (λ r. is_of_pair k l r && covers n r) (rectangles b (owner.Preset p))
-    ≡ is_some (chosen_by b n (k, l)) =
+    ≡ is_some (selected_pair b n (k, l)) =
     any_kept (is_of_pair k l) (covers n) (rectangles b (owner.Preset p))
     ∙ ap (list_any (covers n)) (pair_kept b p k l) ∙ chosen_is b n p k l first in
     let chosen = pairs_are_chosen b n (k, l) in

@@ -130,13 +130,13 @@ box_marks r =
 abbrev pub name_line : Rectangle → ℕ
 name_line r = height r * (1 + (2 * (r.zone % 2) + (unwrap_or r.preset_zone 0 % 2 + (r.zone / 2) % 2) % 2)) / 5
 
-abbrev pub along_marks : List ℕ → Rectangle → List Mark
-along_marks name r =
+abbrev pub horizontal_marks : List ℕ → Rectangle → List Mark
+horizontal_marks name r =
     Text (codes "<text x='50%' y='") ∷ Number (name_line r) ∷ Text (codes "'>") ∷ Name name ∷ Text (codes "</text>")
     ∷ []
 
-abbrev pub upward_marks : List ℕ → Rectangle → List Mark
-upward_marks name r =
+abbrev pub vertical_marks : List ℕ → Rectangle → List Mark
+vertical_marks name r =
     Text (codes "<text transform='translate(") ∷ Number (width r / 2) ∷ Text (codes " ") ∷ Number (name_line r)
     ∷ Text (codes ") rotate(-90)'>")
     ∷ Name name ∷ Text (codes "</text>")
@@ -145,8 +145,8 @@ upward_marks name r =
 -- its name: horizontal if it is wide enough, else vertical if it is high enough, else none
 unfoldable pub name_marks : List ℕ → Rectangle → List Mark
 name_marks name r =
-    if nat_le 120 (width r) && nat_le 24 (height r) then along_marks name r
-    else if nat_le 160 (height r) then upward_marks name r
+    if nat_le 120 (width r) && nat_le 24 (height r) then horizontal_marks name r
+    else if nat_le 160 (height r) then vertical_marks name r
     else []
 
 -- a dot on the root key, in the rectangle's colour

@@ -13,7 +13,7 @@ use Rattle.bank_changes.specs.Zones.{range_of_zone}
 use Rattle.bank_zone_ranges.specs.declared.axes.Axis.{Axis}
 use Rattle.bank_zone_ranges.specs.declared.axes.Axis.TheVariants.{Key, Vel}
 use Rattle.bank_zone_ranges.specs.Ranges.{low_end, high_end, whole_range}
-use Rattle.zone_select.specs.Left.{zones_in}
+use Rattle.zone_select.specs.Remaining.{zones_in}
 use Rattle.show_zone_map.specs.declared.rectangle.Area.{Area}
 use Rattle.show_zone_map.specs.declared.rectangle.Rectangle.{Rectangle}
 
@@ -23,11 +23,11 @@ abbrev pub ends : ℕ → Range
 ends range = record { low = low_end range; high = high_end range }
 
 -- the range of zone k of an owner: its own, else its global zone's, else 0 to 127
-abbrev pub range_there : Parts → Owner → ℕ → Axis → Range
-range_there b o k axis = ends (unwrap_or (range_of_zone b o k axis) whole_range)
+abbrev pub effective_range : Parts → Owner → ℕ → Axis → Range
+effective_range b o k axis = ends (unwrap_or (range_of_zone b o k axis) whole_range)
 
 abbrev pub area_of : Parts → Owner → ℕ → Area
-area_of b o k = record { keys = range_there b o k Key; velocities = range_there b o k Vel }
+area_of b o k = record { keys = effective_range b o k Key; velocities = effective_range b o k Vel }
 
 -- all keys and velocities
 abbrev pub everything : Area
@@ -37,8 +37,8 @@ everything = record { keys = ends whole_range; velocities = ends whole_range }
 abbrev pub common : Range → Range → Range
 common r s = record { low = max r.low s.low; high = min r.high s.high }
 
-abbrev pub cut : Area → Area → Area
-cut x y = record { keys = common x.keys y.keys; velocities = common x.velocities y.velocities }
+abbrev pub intersection : Area → Area → Area
+intersection x y = record { keys = common x.keys y.keys; velocities = common x.velocities y.velocities }
 
 abbrev pub has_notes : Area → Bool
 has_notes x = nat_le x.keys.low x.keys.high && nat_le x.velocities.low x.velocities.high
@@ -70,7 +70,7 @@ rectangle_of b outer area i l s =
           outer;
       zone = l;
       sample = s;
-      area = cut area (area_of b (owner.Inst i) l);
+      area = intersection area (area_of b (owner.Inst i) l);
       root = root_key b i l s;
     }
 

@@ -6,9 +6,9 @@ use Rattle.generators.specs.declared.range.Range.{Range}
 use Rattle.script_notes.specs.Notes.{Numbers}
 use Rattle.bank_parts.specs.declared.parts.Parts.{Parts}
 use Rattle.bank_changes.specs.declared.members.Owner.TheVariants as owner
-use Rattle.zone_select.specs.Select.{is_called}
+use Rattle.zone_select.specs.Select.{has_preset_numbers}
 use Rattle.zone_select.specs.Pairs.{pairs}
-use Rattle.zone_select.specs.Left.{owner_holds}
+use Rattle.zone_select.specs.Remaining.{owner_holds}
 use Rattle.show_zone_map.specs.declared.rectangle.Rectangle.{Rectangle}
 use Rattle.show_zone_map.specs.Rectangles.{rectangles}
 
@@ -30,7 +30,7 @@ is_of_pair k l r = option_map_or (λ j. j == k) r.preset_zone false && is_of_zon
 -- for the first preset with a note's bank and preset number: a pair is selected exactly if a rectangle of the pair
 -- covers the note
 abbrev pub PairsSelected : Type 0
-PairsSelected = (b : Parts) (n : Numbers) (p k l : ℕ) → find (is_called n) b.presets ≡ slice_get b.presets p
+PairsSelected = (b : Parts) (n : Numbers) (p k l : ℕ) → find (has_preset_numbers n) b.presets ≡ slice_get b.presets p
     → Contains (pairs b n) (k, l) ↔
     (list_any (λ r. is_of_pair k l r && covers n r) (rectangles b (owner.Preset p)) ≡ true)
 

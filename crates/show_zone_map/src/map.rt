@@ -3,7 +3,7 @@ ghost use Rattle.std.specs.Prelude.{◌≡◌, ◌<◌, []};
 ghost use Rattle.std.specs.List.{flat_map, cons_option};
 ghost use Rattle.base_outputs.specs.Output.{Puts};
 ghost use Rattle.bank_changes.specs.declared.members.Owner.TheVariants as owner;
-ghost use Rattle.zone_select.specs.Left.{zones_in};
+ghost use Rattle.zone_select.specs.Remaining.{zones_in};
 ghost use Rattle.show_zone_map.specs.Marks.{marks_text};
 ghost use Rattle.show_zone_map.specs.Rectangles.{rectangles, rectangle_at, rectangles_in, rectangles_of_zone};
 ghost use Rattle.show_zone_map.specs.Picture.{head, frame, owner_line, owner_marks, drawn, picture};

@@ -7,25 +7,25 @@ ghost use Rattle.show_zone_map.specs.Marks.{shown, mark_text, marks_text};
 
 use base_outputs::Output;
 use itoa::Buffer;
-use sf_base::Lent;
+use sf_base::BorrowedBytes;
 use std::io::Write;
 
 // A piece of a picture's text.
 #[derive(Drop)]
 pub(crate) enum Mark<'a> {
     // A text, unchanged.
-    Text(Lent<'a>),
+    Text(BorrowedBytes<'a>),
     // A number in decimal.
     Number(u32),
     // Any bytes, as XML text.
-    Name(Lent<'a>),
+    Name(BorrowedBytes<'a>),
 }
 
 // A text as a piece.
 pub(crate) fn text(bytes: &[u8]) -> Mark<'_>
     ensures { result ≡ Text bytes.now }
 {
-    Mark::Text(Lent::new(bytes))
+    Mark::Text(BorrowedBytes::new(bytes))
 }
 
 // A number as a piece.
@@ -39,7 +39,7 @@ pub(crate) fn number<'a>(number: u32) -> Mark<'a>
 pub(crate) fn name(bytes: &[u8]) -> Mark<'_>
     ensures { result ≡ Name bytes.now }
 {
-    Mark::Name(Lent::new(bytes))
+    Mark::Name(BorrowedBytes::new(bytes))
 }
 
 // Writes pieces, one after another.

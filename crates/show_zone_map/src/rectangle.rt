@@ -1,8 +1,8 @@
 //! The keys and velocities for which notes select a zone.
 ghost use Rattle.std.specs.Prelude.{◌≡◌, ◌<◌, not};
 ghost use Rattle.bank_changes.specs.declared.members.Owner.TheVariants as owner;
-ghost use Rattle.zone_select.specs.Left.{zones_in};
-ghost use Rattle.show_zone_map.specs.Rectangles.{range_there, area_of, everything, common, cut, has_notes, key_or, sample_root, root_key, rectangle_at};
+ghost use Rattle.zone_select.specs.Remaining.{zones_in};
+ghost use Rattle.show_zone_map.specs.Rectangles.{effective_range, area_of, everything, common, intersection, has_notes, key_or, sample_root, root_key, rectangle_at};
 
 use bank_core::{Bank, Owner, Place};
 use bank_zone_ranges::Axis;
@@ -49,8 +49,8 @@ impl Area {
     }
 
     // The intersection of two areas; a range of it ends before it begins if it is empty.
-    fn cut(self, other: Area) -> Area
-        ensures { result ≡ cut self other }
+    fn intersection(self, other: Area) -> Area
+        ensures { result ≡ intersection self other }
     {
         Area {
             keys: common(self.keys, other.keys),
@@ -77,9 +77,9 @@ fn common(first: Range, second: Range) -> Range
 }
 
 // The range of a zone, which exists: its own, else its global zone's, else the full range.
-fn range_there(bank: &Bank<'_>, owner: Owner, zone: u32, axis: Axis) -> Range
+fn effective_range(bank: &Bank<'_>, owner: Owner, zone: u32, axis: Axis) -> Range
     requires { zone < zones_in bank.now owner }
-    ensures { result ≡ range_there bank.now owner zone axis }
+    ensures { result ≡ effective_range bank.now owner zone axis }
 {
     bank.zone_range(owner, zone, axis)
 }
@@ -90,8 +90,8 @@ pub(crate) fn area_of(bank: &Bank<'_>, owner: Owner, zone: u32) -> Area
     ensures { result ≡ area_of bank.now owner zone }
 {
     Area {
-        keys: range_there(bank, owner, zone, Axis::Key),
-        velocities: range_there(bank, owner, zone, Axis::Vel),
+        keys: effective_range(bank, owner, zone, Axis::Key),
+        velocities: effective_range(bank, owner, zone, Axis::Vel),
     }
 }
 
@@ -141,7 +141,7 @@ pub(crate) fn rectangle_at(
 {
     let owner = Owner::Inst(instrument);
     let sample = bank.target(owner, zone)?;
-    let area = area.cut(area_of(bank, owner, zone));
+    let area = area.intersection(area_of(bank, owner, zone));
     if !area.has_notes() {
         return None;
     }

@@ -4,7 +4,7 @@ ghost use Rattle.std.specs.Prelude.{◌≡◌, ◌≤◌, length, slice_get};
 ghost use Rattle.base_outputs.specs.Output.{Puts};
 ghost use Rattle.generators.specs.declared.range.Range.{Range};
 ghost use Rattle.show_zone_map.specs.Marks.{marks_text};
-ghost use Rattle.show_zone_map.specs.Picture.{count, left, top, width, height, colour, name_of, title_marks, preset_zone_marks, range_marks, box_marks, name_line, along_marks, upward_marks, name_marks, root_marks, drawn};
+ghost use Rattle.show_zone_map.specs.Picture.{count, left, top, width, height, colour, name_of, title_marks, preset_zone_marks, range_marks, box_marks, name_line, horizontal_marks, vertical_marks, name_marks, root_marks, drawn};
 
 use crate::marks::{Mark, name, number, put_marks, text};
 use crate::rectangle::Rectangle;
@@ -180,14 +180,14 @@ fn put_name<W: Write>(sample: &[u8], rectangle: &Rectangle, output: &mut Output<
     ensures { Puts W.contents output.old output.new (marks_text (name_marks sample.now rectangle.now)) }
 {
     if rectangle.width() >= NAME_LENGTH && rectangle.height() >= NAME_HEIGHT {
-        put_name_along(sample, rectangle, output);
+        put_horizontal_name(sample, rectangle, output);
     } else if rectangle.height() >= TURNED_LENGTH {
-        put_name_up(sample, rectangle, output);
+        put_vertical_name(sample, rectangle, output);
     }
 }
 
-fn put_name_along<W: Write>(sample: &[u8], rectangle: &Rectangle, output: &mut Output<'_, W>)
-    ensures { Puts W.contents output.old output.new (marks_text (along_marks sample.now rectangle.now)) }
+fn put_horizontal_name<W: Write>(sample: &[u8], rectangle: &Rectangle, output: &mut Output<'_, W>)
+    ensures { Puts W.contents output.old output.new (marks_text (horizontal_marks sample.now rectangle.now)) }
 {
     let marks = [
         text(b"<text x='50%' y='"),
@@ -199,8 +199,8 @@ fn put_name_along<W: Write>(sample: &[u8], rectangle: &Rectangle, output: &mut O
     put_marks(&marks, output);
 }
 
-fn put_name_up<W: Write>(sample: &[u8], rectangle: &Rectangle, output: &mut Output<'_, W>)
-    ensures { Puts W.contents output.old output.new (marks_text (upward_marks sample.now rectangle.now)) }
+fn put_vertical_name<W: Write>(sample: &[u8], rectangle: &Rectangle, output: &mut Output<'_, W>)
+    ensures { Puts W.contents output.old output.new (marks_text (vertical_marks sample.now rectangle.now)) }
 {
     let marks = [
         text(b"<text transform='translate("),

@@ -1,3 +1,3 @@
-pub mod LevelLaws
+pub mod GainLaws
 pub mod PhaseLaws
 pub mod WriteLaws

@@ -8,10 +8,10 @@ use Rattle.std.proofs.lemmas.Nat.{div-add-mod', div-mul-add, div_below, le-div, 
 use Rattle.sound_tables.specs.Tables.{ratio, gain_at}
 use Rattle.sound_tables.proofs.GainLaws.{gain_falls}
 use Rattle.zone_select.specs.declared.parameters.VoiceParameters.{VoiceParameters}
-use Rattle.sound_envelopes.specs.declared.phases.Level.{Level}
-use Rattle.sound_envelopes.specs.Even.{IsEven}
+use Rattle.sound_envelopes.specs.declared.phases.EnvelopeGain.{EnvelopeGain}
+use Rattle.sound_envelopes.specs.Constant.{IsConstantUntil}
 use Rattle.sound_envelopes.specs.Envelope.{decayed, held, released, envelope}
-use Rattle.sound_envelopes.proofs.LevelLaws.{faded}
+use Rattle.sound_envelopes.proofs.GainLaws.{faded}
 
 pub rising_more : (over j whole rest : ℕ) → whole * over + rest ≡ 65536 * j
     → (whole + 65536 / over) * over + (rest + 65536 % over) ≡ 65536 * (j + 1)
@@ -193,34 +193,34 @@ held_decayed v k h =
     let d : nat_lt (k - v.delay - v.attack) v.hold ≡ false = grind (arith, nat_tests) in rw (a, b, d) refl
 
 -- the gains of these phases
-pub none_even : (f : ℕ → ℕ) (t : ℕ) (level : Level) → level.until ≡ 0 → IsEven f t level
-none_even f t level e = record { even = λ k le lt. absurd (omega (arith, e, lt)) }
+pub none_constant : (f : ℕ → ℕ) (t : ℕ) (level : EnvelopeGain) → level.until ≡ 0 → IsConstantUntil f t level
+none_constant f t level e = record { even = λ k le lt. absurd (omega (arith, e, lt)) }
 
-pub delayed_even : (v : VoiceParameters) (t : ℕ) (level : Level) → level.loud ≡ 0 → level.until ≡ v.delay
-    → IsEven (held v) t level
-delayed_even v t level e f = record { even = λ k le lt. held_delayed v k (omega (arith, f, lt)) ∙ sym e }
+pub delayed_constant : (v : VoiceParameters) (t : ℕ) (level : EnvelopeGain) → level.gain_value ≡ 0 → level.until ≡ v.delay
+    → IsConstantUntil (held v) t level
+delayed_constant v t level e f = record { even = λ k le lt. held_delayed v k (omega (arith, f, lt)) ∙ sym e }
 
-pub full_even : (v : VoiceParameters) (t : ℕ) (level : Level) → v.delay + v.attack ≤ t → level.loud ≡ 65536
+pub full_constant : (v : VoiceParameters) (t : ℕ) (level : EnvelopeGain) → v.delay + v.attack ≤ t → level.gain_value ≡ 65536
     → level.until ≡ v.delay + v.attack + v.hold
-    → IsEven (held v) t level
-full_even v t level h e f =
+    → IsConstantUntil (held v) t level
+full_constant v t level h e f =
     record { even = λ k le lt. held_full v k (omega (arith, h, le)) (omega (arith, f, lt)) ∙ sym e }
 
-pub decayed_even : (v : VoiceParameters) (t base : ℕ) (level inner : Level) → base ≡ v.delay + v.attack + v.hold
+pub decayed_constant : (v : VoiceParameters) (t base : ℕ) (level inner : EnvelopeGain) → base ≡ v.delay + v.attack + v.hold
     → base ≤ t
-    → level.loud ≡ inner.loud → level.until ≡ base + inner.until → IsEven (decayed v) (t - base) inner
-    → IsEven (held v) t level
-decayed_even v t base level inner b h e f even = record {
+    → level.gain_value ≡ inner.gain_value → level.until ≡ base + inner.until → IsConstantUntil (decayed v) (t - base) inner
+    → IsConstantUntil (held v) t level
+decayed_constant v t base level inner b h e f even = record {
   even = λ k le lt.
       held_decayed v k (omega (arith, b, h, le))
       ∙ ap (decayed v) (let q : k - v.delay - v.attack - v.hold ≡ k - base = omega (arith, b, h, le) in q)
       ∙ even.even (k - base) (omega (arith, h, le)) (omega (arith, f, lt, h, le)) ∙ sym e;
 }
 
-pub sustained_even : (v : VoiceParameters) (t : ℕ) (level : Level) → v.sustain * v.decay ≤ 960 * t
-    → level.loud ≡ gain_at v.sustain → IsEven (decayed v) t level
+pub sustained_constant : (v : VoiceParameters) (t : ℕ) (level : EnvelopeGain) → v.sustain * v.decay ≤ 960 * t
+    → level.gain_value ≡ gain_at v.sustain → IsConstantUntil (decayed v) t level
 unfolding decayed
-sustained_even v t level h e = record { even = λ k le lt. sustained v.sustain v.decay t k h le ∙ sym e }
+sustained_constant v t level h e = record { even = λ k le lt. sustained v.sustain v.decay t k h le ∙ sym e }
 
 -- the attack, from equal numbers
 pub attack_is : (v : VoiceParameters) (t k attack delay : ℕ) → attack ≡ v.attack → delay ≡ v.delay → delay ≤ t
@@ -233,5 +233,5 @@ attack_is v t k attack delay e f h g l =
     ∙ envelope_held v (t + k) l
 
 -- a gain from frame t on is also one from a later frame on
-pub even_later : (f : ℕ → ℕ) (t s : ℕ) (level : Level) → t ≤ s → IsEven f t level → IsEven f s level
-even_later f t s level l h = record { even = λ k le lt. h.even k (omega (arith, l, le)) lt }
+pub constant_later : (f : ℕ → ℕ) (t s : ℕ) (level : EnvelopeGain) → t ≤ s → IsConstantUntil f t level → IsConstantUntil f s level
+constant_later f t s level l h = record { even = λ k le lt. h.even k (omega (arith, l, le)) lt }

@@ -1,3 +1,3 @@
-pub mod Levels
+pub mod Gain
 pub mod Envelope
-pub mod Even
+pub mod Constant

@@ -43,7 +43,7 @@ pub fn held_at(v: &VoiceParameters, t: u64) -> u32
 }
 
 /// Returns the gain of the volume envelope at frame `t` while the voice isn't over, in 65536ths.
-#[tactic(auto, using(crate::proofs::LevelLaws::faded), unfolding(crate::specs::Envelope::envelope, crate::specs::Envelope::released))]
+#[tactic(auto, using(crate::proofs::GainLaws::faded), unfolding(crate::specs::Envelope::envelope, crate::specs::Envelope::released))]
 pub fn envelope_at(v: &VoiceParameters, t: u64) -> u32
     requires { t < v.now.length + v.now.release }
     ensures value { result ≡ envelope v.now t }

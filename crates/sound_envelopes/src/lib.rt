@@ -2,11 +2,11 @@
 #![tactic(auto)]
 
 mod envelopes;
-mod levels;
+mod gains;
 mod phases;
-mod softening;
+mod runs;
 
 pub use envelopes::{envelope_at, held_at};
-pub use levels::attenuated;
-pub use phases::Level;
-pub use softening::soften;
+pub use gains::attenuated;
+pub use phases::EnvelopeGain;
+pub use runs::apply_envelope;

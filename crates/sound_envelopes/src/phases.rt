@@ -1,7 +1,7 @@
 //! The gain of the volume envelope from a frame on, and how long it stays the same.
 ghost use Rattle.std.specs.Prelude.{◌≡◌, ℕ, ◌+◌, ◌*◌, ◌/◌, ◌%◌, ◌^◌, ◌≤◌, ◌<◌, EachIndex, length, slice_index};
 ghost use Rattle.sound_tables.specs.Tables.{gain_at};
-ghost use Rattle.sound_envelopes.specs.Even.{IsEven};
+ghost use Rattle.sound_envelopes.specs.Constant.{IsConstantUntil};
 ghost use Rattle.sound_envelopes.specs.Envelope.{decayed, held, envelope};
 
 use sound_tables::{UNITY_GAIN, gain};
@@ -9,21 +9,24 @@ use zone_select::VoiceParameters;
 
 /// A gain of the envelope, and the frame before which it stays the same.
 #[derive(Clone, Copy)]
-pub struct Level {
-    pub(crate) loud: u32,
+pub struct EnvelopeGain {
+    pub(crate) gain_value: u32,
     pub(crate) until: u64,
 }
 
 // An expired gain.
-const NO_LEVEL: Level = Level { loud: 0, until: 0 };
+const EXPIRED_GAIN: EnvelopeGain = EnvelopeGain {
+    gain_value: 0,
+    until: 0,
+};
 
-impl Level {
+impl EnvelopeGain {
     /// Returns an expired gain.
-    #[tactic(auto, using(crate::proofs::PhaseLaws::none_even))]
-    pub fn ended() -> Level
-        ensures { (loudness : ℕ → ℕ) → (t : ℕ) → IsEven loudness t result }
+    #[tactic(auto, using(crate::proofs::PhaseLaws::none_constant))]
+    pub fn ended() -> EnvelopeGain
+        ensures { (loudness : ℕ → ℕ) → (t : ℕ) → IsConstantUntil loudness t result }
     {
-        NO_LEVEL
+        EXPIRED_GAIN
     }
 }
 
@@ -32,37 +35,37 @@ const FOREVER: u64 = 1_099_511_627_776;
 
 // The gain at a frame of a fall from `level` by 960 centibels, counted from its start; it lasts as long as its
 // centibel.
-#[tactic(auto, using(crate::proofs::PhaseLaws::lasts_some, crate::proofs::PhaseLaws::lasts_shortly, crate::proofs::LevelLaws::faded))]
-fn falling_from(level: u32, over: u64, fallen: u64) -> Level
+#[tactic(auto, using(crate::proofs::PhaseLaws::lasts_some, crate::proofs::PhaseLaws::lasts_shortly, crate::proofs::GainLaws::faded))]
+fn falling_from(level: u32, over: u64, fallen: u64) -> EnvelopeGain
     requires most { level ≤ UNITY_GAIN }
     requires divisor { (0 < over) × (over < 2 ^ 32) }
     requires near { fallen < 2 ^ 34 }
     ensures some { fallen < result.until }
     ensures near { result.until < 2 ^ 36 }
     ensures last { 960 * result.until < (960 * fallen / over + 1) * over + 960 }
-    ensures even { IsEven (λ k. level * gain_at (960 * k / over) / 65536) fallen result }
+    ensures even { IsConstantUntil (λ k. level * gain_at (960 * k / over) / 65536) fallen result }
 {
     let attenuation = 960 * fallen / over;
     let left = u64::from(level) * u64::from(gain(attenuation as i64)) / 65536;
-    Level {
-        loud: left as u32,
+    EnvelopeGain {
+        gain_value: left as u32,
         until: ((attenuation + 1) * over + 959) / 960,
     }
 }
 
 // The gain at a frame of the decay, counted from its start.
-#[tactic(auto, using(crate::proofs::PhaseLaws::sustained_even))]
-fn decayed_from(v: &VoiceParameters, fallen: u64) -> Level
+#[tactic(auto, using(crate::proofs::PhaseLaws::sustained_constant))]
+fn decayed_from(v: &VoiceParameters, fallen: u64) -> EnvelopeGain
     requires near { fallen < 2 ^ 34 }
     ensures some { fallen < result.until }
     ensures near { result.until ≤ 2 ^ 40 }
-    ensures even { IsEven (decayed v.now) fallen result }
+    ensures even { IsConstantUntil (decayed v.now) fallen result }
 {
     let decay = u64::from(v.decay);
     let sustained = u64::from(v.sustain) * decay;
     if sustained <= 960 * fallen {
-        return Level {
-            loud: gain(i64::from(v.sustain)),
+        return EnvelopeGain {
+            gain_value: gain(i64::from(v.sustain)),
             until: FOREVER,
         };
     }
@@ -70,56 +73,56 @@ fn decayed_from(v: &VoiceParameters, fallen: u64) -> Level
 }
 
 // The gain at frame `t` before the note's end; an expired one during the attack.
-#[tactic(auto, using(crate::proofs::PhaseLaws::delayed_even, crate::proofs::PhaseLaws::full_even, crate::proofs::PhaseLaws::decayed_even, crate::proofs::PhaseLaws::none_even))]
-fn held_from(v: &VoiceParameters, t: u64) -> Level
+#[tactic(auto, using(crate::proofs::PhaseLaws::delayed_constant, crate::proofs::PhaseLaws::full_constant, crate::proofs::PhaseLaws::decayed_constant, crate::proofs::PhaseLaws::none_constant))]
+fn held_from(v: &VoiceParameters, t: u64) -> EnvelopeGain
     requires near { t < 2 ^ 33 }
     ensures rising { result.until ≤ t → (v.now.delay ≤ t) × (t < v.now.delay + v.now.attack) }
-    ensures even { IsEven (held v.now) t result }
+    ensures even { IsConstantUntil (held v.now) t result }
 {
     let delay = u64::from(v.delay);
     let attack = delay + u64::from(v.attack);
     let hold = attack + u64::from(v.hold);
     if t < delay {
-        return Level {
-            loud: 0,
+        return EnvelopeGain {
+            gain_value: 0,
             until: delay,
         };
     }
     if t < attack {
-        return NO_LEVEL;
+        return EXPIRED_GAIN;
     }
     if t < hold {
-        return Level {
-            loud: UNITY_GAIN,
+        return EnvelopeGain {
+            gain_value: UNITY_GAIN,
             until: hold,
         };
     }
     let level = decayed_from(v, t - hold);
-    Level {
-        loud: level.loud,
+    EnvelopeGain {
+        gain_value: level.gain_value,
         until: hold + level.until,
     }
 }
 
 // The gain at frame `t`, where `at_end` is the gain at the note's end; an expired one during the attack.
-fn level_from(v: &VoiceParameters, t: u64, at_end: u32) -> Level
+fn envelope_gain_from(v: &VoiceParameters, t: u64, at_end: u32) -> EnvelopeGain
     requires unreleased { t < v.now.length + v.now.release }
     requires at_end { (at_end ≡ held v.now v.now.length) × (at_end ≤ UNITY_GAIN) }
     ensures rising { result.until ≤ t → (v.now.delay ≤ t) × (t < v.now.delay + v.now.attack) × (t < v.now.length) }
-    ensures even { IsEven (envelope v.now) t result }
+    ensures even { IsConstantUntil (envelope v.now) t result }
 {
     let length = u64::from(v.length);
     if t < length {
         let level = held_from(v, t);
-        return Level {
-            loud: level.loud,
+        return EnvelopeGain {
+            gain_value: level.gain_value,
             until: level.until.min(length),
         };
     }
     let release = u64::from(v.release);
     let level = falling_from(at_end, release, t - length);
-    Level {
-        loud: level.loud,
+    EnvelopeGain {
+        gain_value: level.gain_value,
         until: length + level.until,
     }
 }
@@ -164,15 +167,20 @@ pub(crate) fn fill_attack(v: &VoiceParameters, t: u64, levels: &mut [u16]) -> us
 }
 
 // The current gain or, if it has expired by frame `t`, the next one.
-pub(crate) fn level_at(v: &VoiceParameters, t: u64, hand: Level, at_end: u32) -> Level
+pub(crate) fn current_gain(
+    v: &VoiceParameters,
+    t: u64,
+    current: EnvelopeGain,
+    at_end: u32,
+) -> EnvelopeGain
     requires unreleased { t < v.now.length + v.now.release }
-    requires in_hand { IsEven (envelope v.now) t hand }
+    requires is_current { IsConstantUntil (envelope v.now) t current }
     requires at_end { (at_end ≡ held v.now v.now.length) × (at_end ≤ UNITY_GAIN) }
     ensures rising { result.until ≤ t → (v.now.delay ≤ t) × (t < v.now.delay + v.now.attack) × (t < v.now.length) }
-    ensures even { IsEven (envelope v.now) t result }
+    ensures even { IsConstantUntil (envelope v.now) t result }
 {
-    if t < hand.until {
-        return hand;
+    if t < current.until {
+        return current;
     }
-    level_from(v, t, at_end)
+    envelope_gain_from(v, t, at_end)
 }

@@ -5,9 +5,9 @@ use Rattle.bank_parts.specs.Sound.{IsSound}
 use Rattle.script_notes.specs.Notes.{Numbers}
 use Rattle.edit_forms.specs.declared.edit.Edit.{Edit}
 use Rattle.edit_refusals.specs.Edits.{raw}
-use Rattle.bank_edits.specs.Undone.{IsTaken}
+use Rattle.bank_edits.specs.Undone.{IsAccepted}
 use Rattle.bank_edits.proofs.Law.{undone}
-use Rattle.mixer.specs.declared.playing.Playing.{Playing}
+use Rattle.mixer.specs.declared.playing.PlayingVoice.{PlayingVoice}
 use Rattle.mixer.specs.Events.{heard, blocks}
 use Rattle.mixer.specs.Render.{render}
 use Rattle.mixer.specs.Alike.{LeaveAlike, without_edits}
@@ -16,7 +16,7 @@ use Rattle.sound_neutral_edits.specs.Neutral.{is_neutral}
 use Rattle.sound_neutral_edits.specs.Events.{Event, Edited, Started, Given, events_of, AreNeutral}
 use Rattle.sound_neutral_edits.proofs.FormLaws.{neutral_alike}
 
-pub neutral_render : (b : Parts) (e : Edit) → IsSound b → IsTaken b e → is_neutral e ≡ true → (ns : List Numbers)
+pub neutral_render : (b : Parts) (e : Edit) → IsSound b → IsAccepted b e → is_neutral e ≡ true → (ns : List Numbers)
     → render (raw b e) ns ≡ render b ns
 neutral_render b e sound t n ns = sym (alike_render b (raw b e) (neutral_alike b e sound t n) ns)
 
@@ -32,6 +32,6 @@ pub neutral_heard : (b : Parts) (es : List Event) → IsSound b → AreNeutral b
     → heard b (events_of b es) ≡ heard b (without_edits (events_of b es))
 neutral_heard b es sound h = alike_heard b (events_of b es) (leave_alike b es sound h)
 
-pub neutral_blocks : (b : Parts) (ps : List Playing) (es : List Event) → IsSound b → AreNeutral b es
+pub neutral_blocks : (b : Parts) (ps : List PlayingVoice) (es : List Event) → IsSound b → AreNeutral b es
     → blocks b ps (events_of b es) ≡ blocks b ps (without_edits (events_of b es))
 neutral_blocks b ps es sound h = alike_blocks b ps (events_of b es) (leave_alike b es sound h)

@@ -34,7 +34,7 @@ use Rattle.edit_refusals.proofs.Accepted.{accepted}
 use Rattle.edit_refusals.proofs.SampleLaws.{goes_in, comes_out, moves_sample}
 use Rattle.edit_refusals.proofs.InstrumentLaws.{instrument_goes, instrument_comes, moves_instrument}
 use Rattle.edit_refusals.proofs.ZoneLaws.{can_of_split_zone, can_of_join_zone}
-use Rattle.bank_edits.specs.Undone.{IsTaken}
+use Rattle.bank_edits.specs.Undone.{IsAccepted}
 use Rattle.zone_select.specs.Select.{Voice}
 use Rattle.zone_select.specs.Pairs.{listed}
 use Rattle.zone_select.specs.Alike.{AreAlike, HavePairsAlike, HaveSamePairs}
@@ -116,13 +116,13 @@ module _ {X : Type 0} (g : Option Voice → List X) (R : Parts → Parts → Typ
   step_kept b (steps.Setting o at s) sound fits h n = absurd cc
   step_kept b (steps.Text (SetInfo id text)) sound fits h n = info_set_alike R same b id text
 
-  neutral_kept : (b : Parts) (e : Edit) → IsSound b → IsTaken b e → is_neutral e ≡ true → R b (edits.raw b e)
+  neutral_kept : (b : Parts) (e : Edit) → IsSound b → IsAccepted b e → is_neutral e ≡ true → R b (edits.raw b e)
   neutral_kept b (One s) sound t n = step_kept b s sound t.fits (no_cause (refusal b s) t.accepted) n
   neutral_kept b (Group group) sound t n = absurd cc
 
-pub neutral_alike : (b : Parts) (e : Edit) → IsSound b → IsTaken b e → is_neutral e ≡ true → AreAlike b (edits.raw b e)
+pub neutral_alike : (b : Parts) (e : Edit) → IsSound b → IsAccepted b e → is_neutral e ≡ true → AreAlike b (edits.raw b e)
 neutral_alike = neutral_kept listed AreAlike alike_by_same alike
 
-pub neutral_pairs : (b : Parts) (e : Edit) → IsSound b → IsTaken b e → is_neutral e ≡ true
+pub neutral_pairs : (b : Parts) (e : Edit) → IsSound b → IsAccepted b e → is_neutral e ≡ true
     → HavePairsAlike b (edits.raw b e)
 neutral_pairs = neutral_kept one HavePairsAlike pairs_by_same pairs_alike

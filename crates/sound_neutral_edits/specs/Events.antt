@@ -5,8 +5,8 @@ use Rattle.bank_parts.specs.Sound.{IsSound}
 use Rattle.script_notes.specs.Notes.{Numbers}
 use Rattle.edit_forms.specs.declared.edit.Edit.{Edit}
 use Rattle.edit_refusals.specs.Edits.{raw}
-use Rattle.bank_edits.specs.Undone.{IsTaken}
-use Rattle.mixer.specs.declared.playing.Playing.{Playing}
+use Rattle.bank_edits.specs.Undone.{IsAccepted}
+use Rattle.mixer.specs.declared.playing.PlayingVoice.{PlayingVoice}
 use Rattle.mixer.specs.Events as player
 use Rattle.mixer.specs.Events.{heard, blocks}
 use Rattle.mixer.specs.Alike.{without_edits}
@@ -28,18 +28,18 @@ events_of b (Given m ∷ es) = player.Given m ∷ events_of b es
 -- each edit is neutral, and accepted in turn
 abbrev pub AreNeutral : Parts → List Event → Type 0
 AreNeutral b [] = Unit {0}
-AreNeutral b (Edited e ∷ es) = (is_neutral e ≡ true) × IsTaken b e × AreNeutral (raw b e) es
+AreNeutral b (Edited e ∷ es) = (is_neutral e ≡ true) × IsAccepted b e × AreNeutral (raw b e) es
 AreNeutral b (Started n ∷ es) = AreNeutral b es
 AreNeutral b (Given m ∷ es) = AreNeutral b es
 
 -- the frames are those of the events without the edits
-abbrev pub NeutralHeard : Type 0
-NeutralHeard =
+abbrev pub NeutralFrames : Type 0
+NeutralFrames =
     (b : Parts) (es : List Event) → IsSound b → AreNeutral b es
     → heard b (events_of b es) ≡ heard b (without_edits (events_of b es))
 
 -- so are the blocks of a player, whatever it plays at first
 abbrev pub NeutralBlocks : Type 0
 NeutralBlocks =
-    (b : Parts) (ps : List Playing) (es : List Event) → IsSound b → AreNeutral b es
+    (b : Parts) (ps : List PlayingVoice) (es : List Event) → IsSound b → AreNeutral b es
     → blocks b ps (events_of b es) ≡ blocks b ps (without_edits (events_of b es))

@@ -4,5 +4,5 @@ pub use Rattle.bank_parts.specs.Sound
 pub use Rattle.edit_refusals.specs.Edits
 pub use Rattle.bank_edits.specs.EditChanges
 pub mod Neutral
-pub mod Unheard
+pub mod SameSound
 pub mod Events

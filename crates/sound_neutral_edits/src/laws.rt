@@ -1,6 +1,6 @@
 //! The laws of neutral edits, over banks and edits as data.
-ghost use Rattle.sound_neutral_edits.specs.Unheard.{InversesAreNeutral, NeutralAlike, NeutralPairs, NeutralRender};
-ghost use Rattle.sound_neutral_edits.specs.Events.{NeutralBlocks, NeutralHeard};
+ghost use Rattle.sound_neutral_edits.specs.SameSound.{InversesAreNeutral, NeutralAlike, NeutralPairs, NeutralRender};
+ghost use Rattle.sound_neutral_edits.specs.Events.{NeutralBlocks, NeutralFrames};
 
 /// The laws that a neutral edit, which a sound bank accepts, changes no sound. It does nothing.
 ///
@@ -15,8 +15,8 @@ pub fn neutral_edits_change_no_sound()
 
 /// The laws that neutral edits between note starts and blocks, each of which is accepted in turn, change neither the
 /// frames of the note starts nor the blocks of a player, if the bank is sound. It does nothing.
-pub fn neutral_edits_are_not_heard()
-    ensures heard { NeutralHeard }
+pub fn neutral_edits_change_no_frame()
+    ensures heard { NeutralFrames }
     ensures blocks { NeutralBlocks }
 {}
 

@@ -7,4 +7,6 @@ mod laws;
 
 pub use applying::apply_neutral;
 pub use forms::is_neutral;
-pub use laws::{inverses_are_neutral, neutral_edits_are_not_heard, neutral_edits_change_no_sound};
+pub use laws::{
+    inverses_are_neutral, neutral_edits_change_no_frame, neutral_edits_change_no_sound,
+};

@@ -5,7 +5,7 @@ use Rattle.std.proofs.Math.Nat.{pow-le-pow_right}
 use Rattle.std.proofs.lemmas.Nat.{shl_whole, div_below, mul-le}
 use Rattle.std.proofs.lemmas.Bool.{cases_eq}
 use Rattle.sound_tables.specs.Floor.{floor_div, floor_mod}
-use Rattle.sound_tables.specs.Tables.{ratio, frames_at, step_at}
+use Rattle.sound_tables.specs.Tables.{ratio, frames_at, phase_increment_at}
 use Rattle.sound_tables.proofs.FloorLaws.{scaled_is}
 use Rattle.sound_tables.proofs.RatioLaws.{ratio_rises, ratio_most}
 
@@ -35,8 +35,8 @@ frames_case x o r e f =
     ∙ ap (λ y. 44100 * ratio y * 2 ^ o / (65536 * 4096)) (sym f)
 
 pub step_case : (x : ℤ) (o r rate : ℕ) → floor_div x 1200 +ℤ pos 12 ≡ pos o → r ≡ floor_mod x 1200
-    → step_at x rate ≡ ratio r * rate * 2 ^ o / (44100 * 4096)
-unfolding step_at
+    → phase_increment_at x rate ≡ ratio r * rate * 2 ^ o / (44100 * 4096)
+unfolding phase_increment_at
 step_case x o r rate e f =
     scaled_is (ratio (floor_mod x 1200) * rate) 44100 o 12 (floor_div x 1200) (omega arith) e
     ∙ ap (λ y. ratio y * rate * 2 ^ o / (44100 * 4096)) (sym f)

@@ -12,14 +12,14 @@ floor_mod (pos a) n = a % n
 floor_mod (negsuc a) n = n - 1 - a % n
 
 -- Correctness: the divisor times the quotient, plus the remainder, is the number.
-abbrev pub FloorsAreSo : Type 0
-FloorsAreSo = (z : ℤ) (n : ℕ) → 0 < n
+abbrev pub FloorsAreCorrect : Type 0
+FloorsAreCorrect = (z : ℤ) (n : ℕ) → 0 < n
     → (pos n *ℤ floor_div z n +ℤ pos (floor_mod z n) ≡ z) × (floor_mod z n < n)
 
 -- A negative number counts as zero.
-abbrev pub above_zero : ℤ → ℕ
-above_zero (pos a) = a
-above_zero (negsuc a) = 0
+abbrev pub clamped_at_zero : ℤ → ℕ
+clamped_at_zero (pos a) = a
+clamped_at_zero (negsuc a) = 0
 
 -- m · 2^k / d, rounded down once, at the end; k may be negative.
 abbrev pub scaled : ℕ → ℤ → ℕ → ℕ

@@ -3,7 +3,7 @@ use Rattle.std.specs.Prelude.{ℕ, ◌+◌, ◌-◌, ◌*◌, ◌/◌, ◌%◌, 
 use Rattle.std.specs.Prelude.{nat_lt, nat_le, int_le, List, [], ◌∷◌, slice_index}
 use Rattle.std.specs.Int.{int_max, int_min}
 use Rattle.std.specs.List.{position_or_len, range_with_len}
-use Rattle.sound_tables.specs.Floor.{floor_div, floor_mod, above_zero, scaled}
+use Rattle.sound_tables.specs.Floor.{floor_div, floor_mod, clamped_at_zero, scaled}
 
 -- The ratios of the semitones of an octave, in 65536ths.
 abbrev pub semitones : List ℕ
@@ -23,7 +23,7 @@ ratio cents =
 
 -- The ratio of any number of cents.
 abbrev pub pitch_of : ℤ → ℕ
-pitch_of cents = ratio (min (above_zero cents) 1200)
+pitch_of cents = ratio (min (clamped_at_zero cents) 1200)
 
 -- The gain of an attenuation in centibels, in 65536ths: halved by each 60 centibels more, zero from 960 on.
 unfoldable pub gain_at : ℕ → ℕ
@@ -31,7 +31,7 @@ gain_at a = cond (nat_lt a 960) (ratio (1200 - 20 * (a % 60)) / 2 ^ (a / 60 + 1)
 
 -- The same for any number of centibels.
 abbrev pub gain_of : ℤ → ℕ
-gain_of a = gain_at (above_zero a)
+gain_of a = gain_at (clamped_at_zero a)
 
 -- The frames of a time in timecents: 44100 at 0, twice as many for each 1200 more.
 unfoldable pub frames_at : ℤ → ℕ
@@ -60,9 +60,9 @@ pub record IsVelocityAttenuation (velocity a : ℕ) : Type 0 where
   pub least : (b : ℕ) → b < a → velocity * velocity * 65536 < gain_at b * (127 * 127)
 
 -- The phase increment of a frame, in 65536ths of a point, for an interval and a sample rate.
-unfoldable pub step_at : ℤ → ℕ → ℕ
-step_at cents rate = scaled (ratio (floor_mod cents 1200) * rate) (floor_div cents 1200) 44100
+unfoldable pub phase_increment_at : ℤ → ℕ → ℕ
+phase_increment_at cents rate = scaled (ratio (floor_mod cents 1200) * rate) (floor_div cents 1200) 44100
 
 -- The same for any interval and rate, each clamped to its range.
-abbrev pub step_of : ℤ → ℕ → ℕ
-step_of cents rate = step_at (int_min (int_max cents (negsuc 14399)) (pos 9600)) (min (max rate 400) 192000)
+abbrev pub phase_increment_of : ℤ → ℕ → ℕ
+phase_increment_of cents rate = phase_increment_at (int_min (int_max cents (negsuc 14399)) (pos 9600)) (min (max rate 400) 192000)

@@ -1,7 +1,7 @@
 //! Tables for sound, all in integers: pitch ratios, gains, times and phase increments.
 #![tactic(auto)]
 
-ghost use Rattle.sound_tables.specs.Floor.{FloorsAreSo};
+ghost use Rattle.sound_tables.specs.Floor.{FloorsAreCorrect};
 
 mod loudness;
 mod octaves;
@@ -13,5 +13,5 @@ pub use ratios::pitch;
 
 /// The law that `floor_div` and `floor_mod` of the specs are floor division, also of negative numbers. It does nothing.
 pub fn floors_law()
-    ensures { FloorsAreSo }
+    ensures { FloorsAreCorrect }
 {}

@@ -1,7 +1,7 @@
 //! Ratios over many octaves: times in frames, and phase increments.
 ghost use Rattle.std.specs.Prelude.{◌≡◌, ◌≤◌, ◌<◌, ◌≤ℤ◌, ◌+ℤ◌, ◌+◌, ◌*◌, ◌/◌, ◌^◌, pos, negsuc};
 ghost use Rattle.sound_tables.specs.Floor.{floor_div, floor_mod};
-ghost use Rattle.sound_tables.specs.Tables.{frames_of, step_of};
+ghost use Rattle.sound_tables.specs.Tables.{frames_of, phase_increment_of};
 
 use crate::ratios::ratio_at;
 
@@ -35,7 +35,7 @@ pub fn frames(timecents: i64) -> u32
 /// its own pitch. The interval is clamped to -14400..=9600 and the rate to 400..=192000.
 #[tactic(auto, using(crate::proofs::OctaveLaws::step_case, crate::proofs::OctaveLaws::step_bound))]
 pub fn step(cents: i64, rate: u32) -> u32
-    ensures value { result ≡ step_of cents rate }
+    ensures value { result ≡ phase_increment_of cents rate }
     ensures most { result ≤ MOST_PHASE_INCREMENT }
 {
     let (octaves, rest) = octaves_of(cents.max(-14400).min(9600));

@@ -2,14 +2,14 @@
 
 use bank_core::{
     Bank, GlobalZone, Head, InfoId, Kind, List, Owner, Owners, Part, Parts, PartsFault, Place,
-    Sample, Texts, WithZones, Zone, is_valid,
+    Sample, Texts, Zone, ZoneOwner, is_valid,
 };
 use bank_linked_members::LinkedMembers;
 use bank_parts::OwnerHead;
 use base_numbered_lists::NumberedList;
 use generators::{GenMap, Level};
 use sample_view::Points;
-use sf_base::{Failure, Lent, Name20, OutOfMemory};
+use sf_base::{BorrowedBytes, Failure, Name20, OutOfMemory};
 use sf_reader::read;
 use sf_writer::{encoded_len, write};
 use std::alloc::Global;
@@ -17,7 +17,7 @@ use std::test::Fail;
 use test_inputs::{File, many_points, tone, wide};
 
 /// Whether the getters return the presets, instruments, samples and texts of `wide`.
-fn tells_members(bank: &Bank<'_>) -> bool {
+fn returns_members(bank: &Bank<'_>) -> bool {
     let counts = [List::Presets, List::Instruments, List::Samples].map(|list| bank.count(list));
     bank.minor() == 4
         && bank.info(InfoId::Engine) == b"EMU8000".as_slice()
@@ -40,7 +40,7 @@ fn tells_members(bank: &Bank<'_>) -> bool {
 }
 
 /// Whether the getters return the zones of `wide`.
-fn tells_zones(bank: &Bank<'_>) -> bool {
+fn returns_zones(bank: &Bank<'_>) -> bool {
     let (preset, instrument) = (Owner::Preset(0), Owner::Inst(2));
     bank.zone_count(preset) == Some(1)
         && bank.zone_count(instrument) == Some(2)
@@ -62,7 +62,7 @@ fn tells_zones(bank: &Bank<'_>) -> bool {
 }
 
 /// Whether the getters return the instrument records of `tone`: one bag, whose target is a generator record.
-fn tells_records(bank: &Bank<'_>) -> bool {
+fn returns_records(bank: &Bank<'_>) -> bool {
     let at = Level::Inst;
     let lengths = [Part::Heads, Part::Bags, Part::Gens, Part::Mods].map(|part| bank.rec_len(
         at, part,
@@ -100,17 +100,17 @@ fn is_copied(alloc: Global, bank: &Bank<'_>, file: &File) -> bool {
 #[test]
 fn a_bank_that_is_read(rt: HostRuntime) {
     let file = wide();
-    let told = match read(rt.alloc(), file.bytes()) {
-        Ok((bank, _)) => tells_members(&bank)
-            && tells_zones(&bank)
+    let reported = match read(rt.alloc(), file.bytes()) {
+        Ok((bank, _)) => returns_members(&bank)
+            && returns_zones(&bank)
             && is_copied(rt.alloc(), &bank, &file),
         Err(_) => false,
     };
-    assert!(rt; told);
+    assert!(rt; reported);
 }
 
 #[test]
-fn the_length_of_the_file_of_the_most_points(rt: HostRuntime) -> Result<(), Fail> {
+fn the_file_length_at_the_limit_of_points(rt: HostRuntime) -> Result<(), Fail> {
     let file = many_points(rt.alloc(), 10_000, 0)?;
     let length = match read(rt.alloc(), &file) {
         Ok((bank, _)) => encoded_len(&bank),
@@ -161,7 +161,7 @@ fn one_owner<H: OwnerHead>(
     zones: NumberedList<Zone>,
 ) -> Result<Owners<H>, Fail> {
     let mut owners = Owners::with_capacity(alloc, 1)?;
-    let owner = WithZones {
+    let owner = ZoneOwner {
         head,
         global: global(alloc),
         zones,
@@ -216,14 +216,14 @@ pub(crate) fn sample<'a>(
 /// The texts of a bank: the engine is EMU8000, the others are empty.
 pub(crate) fn texts<'a>() -> Texts<'a> {
     Texts {
-        engine: Lent::new(b"EMU8000"),
-        name: Lent::new(b""),
-        date: Lent::new(b""),
-        engineers: Lent::new(b""),
-        product: Lent::new(b""),
-        copyright: Lent::new(b""),
-        comment: Lent::new(b""),
-        software: Lent::new(b""),
+        engine: BorrowedBytes::new(b"EMU8000"),
+        name: BorrowedBytes::new(b""),
+        date: BorrowedBytes::new(b""),
+        engineers: BorrowedBytes::new(b""),
+        product: BorrowedBytes::new(b""),
+        copyright: BorrowedBytes::new(b""),
+        comment: BorrowedBytes::new(b""),
+        software: BorrowedBytes::new(b""),
     }
 }
 
@@ -246,7 +246,7 @@ fn a_bank_of_parts(rt: HostRuntime) -> Result<(), Fail> {
     let parts = tone_parts(rt.alloc(), 0)?;
     assert!(rt; is_valid(&parts));
     let written = match Bank::from_parts(rt.alloc(), parts) {
-        Ok(bank) => tells_records(&bank) && is_copied(rt.alloc(), &bank, &tone()),
+        Ok(bank) => returns_records(&bank) && is_copied(rt.alloc(), &bank, &tone()),
         Err(_) => false,
     };
     assert!(rt; written);
@@ -254,7 +254,7 @@ fn a_bank_of_parts(rt: HostRuntime) -> Result<(), Fail> {
 }
 
 #[test]
-fn parts_of_no_bank(rt: HostRuntime) -> Result<(), Fail> {
+fn invalid_parts_are_rejected(rt: HostRuntime) -> Result<(), Fail> {
     let parts = tone_parts(rt.alloc(), 1)?;
     assert!(rt; !is_valid(&parts));
     let invalid = matches!(

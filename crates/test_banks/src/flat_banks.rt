@@ -12,7 +12,7 @@ use test_inputs::tone;
 /// The flat lists of one instrument: the index of its first bag and the number of bags; the bags; the generators.
 type Lists = (&'static [u16], &'static [(u16, u16)], &'static [(u16, u16)]);
 
-const OWN: Lists = (&[0, 1], &[(0, 0), (2, 0)], &[(54, 1), (53, 0), (0, 0)]);
+const TONE_LISTS: Lists = (&[0, 1], &[(0, 0), (2, 0)], &[(54, 1), (53, 0), (0, 0)]);
 
 const REFUSED: [Lists; 17] = [
     // The number of bags is one too high and one too low; the first bag is not 0.
@@ -102,7 +102,7 @@ fn heads<H: Drop>(
 }
 
 // The flat lists of `tone`, with these lists of its instrument.
-fn own_flat<'a>(
+fn tone_with<'a>(
     alloc: Global,
     inst_heads: FlatHeads<Name20>,
     inst: Recs,
@@ -121,12 +121,12 @@ fn own_flat<'a>(
 }
 
 // Whether the bank of these lists is `tone`; `last` is the terminal modulator.
-fn is_taken(alloc: Global, lists: Lists, last: Modulator) -> Result<bool, Fail> {
+fn is_accepted(alloc: Global, lists: Lists, last: Modulator) -> Result<bool, Fail> {
     let (first_bags, bags, gens) = lists;
     let Some(heads) = heads(alloc, Name20::from_bytes(b"i")?, first_bags)? else {
         return Ok(false);
     };
-    let flat = own_flat(alloc, heads, recs(alloc, bags, gens, last)?)?;
+    let flat = tone_with(alloc, heads, recs(alloc, bags, gens, last)?)?;
     Ok(match Bank::from_flat(flat) {
         Some(bank) => is_written(alloc, &bank, &tone()),
         None => false,
@@ -135,10 +135,10 @@ fn is_taken(alloc: Global, lists: Lists, last: Modulator) -> Result<bool, Fail> 
 
 #[test]
 fn a_bank_of_flat_lists(rt: HostRuntime) -> Result<(), Fail> {
-    assert!(rt; is_taken(rt.alloc(), OWN, NONE)?);
-    assert!(rt; !is_taken(rt.alloc(), OWN, DEFAULT_VELOCITY)?);
+    assert!(rt; is_accepted(rt.alloc(), TONE_LISTS, NONE)?);
+    assert!(rt; !is_accepted(rt.alloc(), TONE_LISTS, DEFAULT_VELOCITY)?);
     for (row, lists) in REFUSED.into_iter().enumerate() {
-        assert!(rt; !is_taken(rt.alloc(), lists, NONE)?, "row {row}");
+        assert!(rt; !is_accepted(rt.alloc(), lists, NONE)?, "row {row}");
     }
     Ok(())
 }

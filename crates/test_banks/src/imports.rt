@@ -20,15 +20,15 @@ fn imports(alloc: Global, wave: &File, name: &[u8], script: &[u8], back: &[u8]) 
     let mut out = Vec::new(alloc);
     let mut undo = Vec::new(alloc);
     let mut edited = Vec::new(alloc);
-    let mut edited_back = Vec::new(alloc);
+    let mut edited_undo = Vec::new(alloc);
     import_run(alloc, tone.bytes(), wave.bytes(), name, &mut out, &mut undo).is_ok()
-        && edit_run(alloc, tone.bytes(), script, &mut edited, &mut edited_back).is_ok()
+        && edit_run(alloc, tone.bytes(), script, &mut edited, &mut edited_undo).is_ok()
         && out.as_slice() == edited.as_slice()
         && undo.as_slice() == back
 }
 
 #[test]
-fn a_name_is_cut(rt: HostRuntime) {
+fn a_name_is_truncated(rt: HostRuntime) {
     let zero = b"add-sample 1 \"t\" 44100 60 0 mono loop 1 3 xe803d00730f8\n";
     assert!(rt;
         imports(

@@ -61,16 +61,16 @@ fn has(points: &Points<'_>, want: &[i16]) -> bool {
 }
 
 /// The low byte of the point at `index`, read from the slice that holds it.
-fn in_its_slice(points: &Points<'_>, index: usize) -> Option<u8> {
+fn low_byte_in_slice(points: &Points<'_>, index: usize) -> Option<u8> {
     if index >= points.len() {
         return None;
     }
-    let (bytes, place) = points.slice_at(index);
-    Some(bytes[2 * place])
+    let (bytes, position) = points.slice_at(index);
+    Some(bytes[2 * position])
 }
 
 #[test]
-fn points_are_cut_and_joined(rt: HostRuntime) -> Result<(), Fail> {
+fn points_are_narrowed_and_joined(rt: HostRuntime) -> Result<(), Fail> {
     let mut points = Points::of_slice(rt.alloc(), &TEN)?;
     assert!(rt; points.len() == 10);
     let (front, back) = points.narrow(rt.alloc(), 2, 3)?;
@@ -88,8 +88,8 @@ fn points_of_other_slices_are_joined(rt: HostRuntime) -> Result<(), Fail> {
     assert!(rt; points.len() == 10 && front.len() == 1 && back.len() == 1);
     assert!(rt; points.join(front, back).is_ok());
     assert!(rt; has(&points, &[11, 1, 2, 3, 4, 5, 6, 7, 8, 9, 10, -2000]));
-    let places = [0, 1, 10, 11].map(|index| in_its_slice(&points, index));
-    assert!(rt; places == [Some(11), Some(1), Some(10), Some(0x30)]);
+    let low_bytes = [0, 1, 10, 11].map(|index| low_byte_in_slice(&points, index));
+    assert!(rt; low_bytes == [Some(11), Some(1), Some(10), Some(0x30)]);
     let pieces: [&[u8]; 3] = [&[11, 0], &TEN, &[0x30, 0xf8]];
     assert!(rt; points.copy(rt.alloc())?.pieces() == pieces.as_slice());
     Ok(())
@@ -116,18 +116,18 @@ fn a_map_of_generators(rt: HostRuntime) -> Result<(), Fail> {
 }
 
 /// The operators allowed at both levels; below, those allowed in instruments only.
-const BOTH: [u16; 37] = [
+const BOTH_LEVELS: [u16; 37] = [
     5, 6, 7, 8, 9, 10, 11, 13, 15, 16, 17, 21, 22, 23, 24, 25, 26, 27, 28, 29, 30, 31, 32, 33, 34,
     35, 36, 37, 38, 39, 40, 43, 44, 48, 51, 52, 56,
 ];
 
-const ALONE: [u16; 13] = [0, 1, 2, 3, 4, 12, 45, 46, 47, 50, 54, 57, 58];
+const INSTRUMENT_ONLY: [u16; 13] = [0, 1, 2, 3, 4, 12, 45, 46, 47, 50, 54, 57, 58];
 
 #[test]
 fn operators(rt: HostRuntime) {
     for operator in 0..=65_535 {
-        let both = BOTH.contains(&operator);
-        let all = both || ALONE.contains(&operator);
+        let both = BOTH_LEVELS.contains(&operator);
+        let all = both || INSTRUMENT_ONLY.contains(&operator);
         assert!(rt; allowed(operator, Level::Preset) == both, "{operator}");
         assert!(rt; allowed(operator, Level::Inst) == all, "{operator}");
     }
@@ -164,7 +164,7 @@ fn modulators_and_tables(rt: HostRuntime) -> Result<(), Fail> {
 }
 
 /// Whether the error is displayed as this text.
-fn is_told<T: Display + Drop>(alloc: Global, error: T, want: &str) -> bool {
+fn is_displayed_as<T: Display + Drop>(alloc: Global, error: T, want: &str) -> bool {
     match format!(in alloc; "{error}") {
         Ok(text) => text.as_str() == want,
         Err(AllocError) => false,
@@ -172,17 +172,17 @@ fn is_told<T: Display + Drop>(alloc: Global, error: T, want: &str) -> bool {
 }
 
 #[test]
-fn errors_are_told(rt: HostRuntime) {
+fn errors_are_displayed(rt: HostRuntime) {
     let alloc = rt.alloc();
-    assert!(rt; is_told(alloc, Truncated, "a chunk passes the end of its window"));
-    assert!(rt; is_told(alloc, PartsFault::Invalid, "the parts are no valid bank"));
-    assert!(rt; is_told(alloc, OutOfMemory, "out of memory"));
+    assert!(rt; is_displayed_as(alloc, Truncated, "a chunk passes the end of its window"));
+    assert!(rt; is_displayed_as(alloc, PartsFault::Invalid, "the parts are no valid bank"));
+    assert!(rt; is_displayed_as(alloc, OutOfMemory, "out of memory"));
     assert!(rt;
-        is_told(
+        is_displayed_as(
             alloc,
             WriteFault { written: 7 },
             "write fault after 7 bytes"
         )
     );
-    assert!(rt; is_told(alloc, NameFault::TooLong, "a name has at most 20 bytes"));
+    assert!(rt; is_displayed_as(alloc, NameFault::TooLong, "a name has at most 20 bytes"));
 }

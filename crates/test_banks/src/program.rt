@@ -3,7 +3,7 @@
 
 use program_files::{InputFault, read_whole};
 use sf_base::Failure;
-use sfbank::{Unheard, run};
+use sfbank::{NoReports, run};
 use std::alloc::AllocError;
 use std::io;
 use std::io::{ErrorKind, Read, Write};
@@ -25,7 +25,7 @@ fn run_on<O: Write, E: Write>(
             output,
             errors,
             is_terminal,
-            &mut Unheard,
+            &mut NoReports,
         ),
         Err(AllocError) => 255,
     }
@@ -41,12 +41,12 @@ fn are_refused(rt: &HostRuntime, words: &str) -> bool {
 }
 
 #[test]
-fn no_word_is_no_run(rt: HostRuntime) {
+fn a_run_without_arguments_is_refused(rt: HostRuntime) {
     assert!(rt; are_refused(&rt, ""));
 }
 
 /// Whether a run on a missing bank writes exactly this to standard error.
-fn misses_bank(rt: &HostRuntime, is_terminal: bool, line: &[u8]) -> bool {
+fn reports_missing_bank(rt: &HostRuntime, is_terminal: bool, line: &[u8]) -> bool {
     let mut output = Vec::new(rt.alloc());
     let mut errors = Vec::new(rt.alloc());
     let status = run_on(
@@ -63,17 +63,17 @@ fn misses_bank(rt: &HostRuntime, is_terminal: bool, line: &[u8]) -> bool {
 fn a_terminal_has_the_reason_of_a_file_fault(rt: HostRuntime) {
     let line = b"sfbank: file fault no/bank\n";
     let reason = b"sfbank: file fault no/bank\n  No such file or directory\n";
-    assert!(rt; misses_bank(&rt, false, line));
-    assert!(rt; misses_bank(&rt, true, reason));
+    assert!(rt; reports_missing_bank(&rt, false, line));
+    assert!(rt; reports_missing_bank(&rt, true, reason));
 }
 
 /// A reader that returns at most three bytes a call, and an error after the last.
 #[derive(Drop)]
-struct Broken<'a> {
+struct FailingReader<'a> {
     rest: &'a [u8],
 }
 
-impl Read for Broken<'_> {
+impl Read for FailingReader<'_> {
     fn read(&mut self, buf: &mut [u8]) -> io::Result<usize> {
         if self.rest.is_empty() {
             return Err(io::Error::from(ErrorKind::Other));
@@ -89,7 +89,7 @@ fn inputs_are_read_to_their_end_or_first_error(rt: HostRuntime) {
     for expected in [0, 3, 11, 400] {
         let read = read_whole(rt.alloc(), &mut io::Cursor::new(text), expected);
         assert!(rt; matches!(&read, Ok(bytes) if bytes.as_slice() == text));
-        let broken = read_whole(rt.alloc(), &mut Broken { rest: text }, expected);
+        let broken = read_whole(rt.alloc(), &mut FailingReader { rest: text }, expected);
         assert!(rt; matches!(broken, Err(Failure::Fault(InputFault::Unreadable))));
     }
 }

@@ -4,11 +4,13 @@ use base_outputs::{WriteFault, put_all};
 use sfbank::{RunFault, Which, canon_run, edit_run, fault_text, show_run};
 use std::alloc::Global;
 use std::test::Fail;
-use test_inputs::{FailingWriter, NEVER, RENAME, WriteFailure, renamed_saw, saw, tone, with_more};
+use test_inputs::{
+    FailingWriter, NEVER, RENAME, WriteFailure, renamed_saw, saw, tone, with_zero_records,
+};
 
 /// Whether the result of `put_all` is right: `Ok` if the writer holds all bytes, else a fault that counts the
 /// bytes it holds, which are a prefix of them.
-fn is_right(answer: Result<(), WriteFault>, out: &FailingWriter, all: &[u8]) -> bool {
+fn is_right_result(answer: Result<(), WriteFault>, out: &FailingWriter, all: &[u8]) -> bool {
     match answer {
         Ok(()) => !out.failed && out.held.as_slice() == all,
         Err(fault) => {
@@ -19,13 +21,18 @@ fn is_right(answer: Result<(), WriteFault>, out: &FailingWriter, all: &[u8]) -> 
     }
 }
 
-/// Whether `put_all` is right with writers that accept `bite` bytes a call and fail at the first call, the
+/// Whether `put_all` is right with writers that accept `call_limit` bytes a call and fail at the first call, the
 /// second, and so on, until one does not fail.
-fn goes_right(alloc: Global, text: &[u8], bite: usize, failure: WriteFailure) -> bool {
+fn is_right_at_each_call(
+    alloc: Global,
+    text: &[u8],
+    call_limit: usize,
+    failure: WriteFailure,
+) -> bool {
     for fails_at in 0..2000 {
-        let mut out = FailingWriter::new(alloc, bite, fails_at, failure);
+        let mut out = FailingWriter::new(alloc, call_limit, fails_at, failure);
         let answer = put_all(&mut out, text);
-        if !is_right(answer, &out, text) {
+        if !is_right_result(answer, &out, text) {
             return false;
         }
         if !out.failed {
@@ -37,14 +44,14 @@ fn goes_right(alloc: Global, text: &[u8], bite: usize, failure: WriteFailure) ->
 
 #[test]
 fn writers_fail_at_each_call(rt: HostRuntime) {
-    for (bite, failure) in [
+    for (call_limit, failure) in [
         (1, WriteFailure::Error),
-        (1, WriteFailure::TakesNone),
+        (1, WriteFailure::AcceptsNone),
         (7, WriteFailure::Error),
         (usize::MAX, WriteFailure::Error),
-        (usize::MAX, WriteFailure::TakesNone),
+        (usize::MAX, WriteFailure::AcceptsNone),
     ] {
-        assert!(rt; goes_right(rt.alloc(), tone().bytes(), bite, failure));
+        assert!(rt; is_right_at_each_call(rt.alloc(), tone().bytes(), call_limit, failure));
     }
     // A writer whose calls all return `Ok(0)`.
     let mut none = FailingWriter::new(rt.alloc(), 0, NEVER, WriteFailure::Error);
@@ -53,10 +60,10 @@ fn writers_fail_at_each_call(rt: HostRuntime) {
 }
 
 #[test]
-fn long_texts_go_out_in_large_pieces(rt: HostRuntime) -> Result<(), Fail> {
-    let file = with_more(rt.alloc(), 258, 46, 400)?;
-    assert!(rt; goes_right(rt.alloc(), &file, usize::MAX, WriteFailure::Error));
-    assert!(rt; goes_right(rt.alloc(), &file, 1_000, WriteFailure::TakesNone));
+fn long_outputs_are_written_in_large_pieces(rt: HostRuntime) -> Result<(), Fail> {
+    let file = with_zero_records(rt.alloc(), 258, 46, 400)?;
+    assert!(rt; is_right_at_each_call(rt.alloc(), &file, usize::MAX, WriteFailure::Error));
+    assert!(rt; is_right_at_each_call(rt.alloc(), &file, 1_000, WriteFailure::AcceptsNone));
     let mut out = FailingWriter::new(rt.alloc(), usize::MAX, NEVER, WriteFailure::Error);
     assert!(rt; put_all(&mut out, &file).is_ok() && out.calls < 60);
     Ok(())
@@ -127,7 +134,7 @@ fn the_second_of_two_flushes_fails(rt: HostRuntime) {
 fn with_room(alloc: Global, room: usize) -> FailingWriter {
     match room {
         0 => FailingWriter::new(alloc, usize::MAX, 0, WriteFailure::Error),
-        _ => FailingWriter::new(alloc, room, 1, WriteFailure::TakesNone),
+        _ => FailingWriter::new(alloc, room, 1, WriteFailure::AcceptsNone),
     }
 }
 
@@ -150,7 +157,7 @@ fn a_run_whose_writers_have_no_room(rt: HostRuntime) {
     assert!(rt; answer == Err(RunFault::Write(Which::Undo, 0)));
     assert!(rt; out.held.len() == 450 && undo.held.is_empty());
     let mut line = Vec::new(alloc);
-    let told = fault_text(&RunFault::Write(Which::Undo, 0), "u.txt", &mut line);
-    assert!(rt; told == Ok(5));
+    let reported = fault_text(&RunFault::Write(Which::Undo, 0), "u.txt", &mut line);
+    assert!(rt; reported == Ok(5));
     assert!(rt; line.as_slice() == b"sfbank: write fault u.txt after 0 bytes\n".as_slice());
 }

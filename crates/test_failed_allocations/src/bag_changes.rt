@@ -32,17 +32,17 @@ pub(crate) fn spare_bags(alloc: Global) -> Result<Bags, OutOfMemory> {
 /// Inserts a bag, generators and modulators within the spare capacity, replaces some, exchanges both bags, and removes
 /// one bag. Returns whether the lists of records were right.
 pub(crate) fn changes_bags(bags: &mut Bags) -> bool {
-    grows(bags)
+    inserts_all(bags)
         && has(
             bags,
             &[(0, 0), (3, 2), (5, 3)],
             &[(43, 5), (44, 6), (17, 7), (43, 9), (44, 6), (0, 0)],
         )
-        && shrinks(bags)
+        && removes_all(bags)
         && has(bags, &[(0, 0), (1, 0)], &[(1, 1), (0, 0)])
 }
 
-fn grows(bags: &mut Bags) -> bool {
+fn inserts_all(bags: &mut Bags) -> bool {
     put_bag(bags, 1)
         && put_gens(bags, 1, 2)
         && put_mods(bags, 1, 0)
@@ -51,7 +51,7 @@ fn grows(bags: &mut Bags) -> bool {
         && rotate(bags, 1)
 }
 
-fn shrinks(bags: &mut Bags) -> bool {
+fn removes_all(bags: &mut Bags) -> bool {
     cut_gens(bags, 0, 1) && cut_mods(bags, 0, 0) && set_bag(bags, 0) && cut_bag(bags, 1)
 }
 

@@ -52,12 +52,12 @@ pub(crate) static BANK: &[u8] = b"\
 
 // A writer of at most 1000 bytes that allocates nothing.
 #[derive(Drop)]
-pub(crate) struct Fixed {
+pub(crate) struct FixedWriter {
     held: [u8; 1000],
     len: usize,
 }
 
-impl Write for Fixed {
+impl Write for FixedWriter {
     fn write(&mut self, buf: &[u8]) -> io::Result<usize> {
         if self.len > 1000 || buf.len() > 1000 - self.len {
             return Err(io::Error::from(ErrorKind::WriteZero));
@@ -72,7 +72,7 @@ impl Write for Fixed {
     }
 }
 
-impl Fixed {
+impl FixedWriter {
     // The bytes written so far.
     pub(crate) fn text(&self) -> &[u8] {
         front_of(&self.held, self.len)
@@ -84,8 +84,8 @@ impl Fixed {
     }
 }
 
-pub(crate) fn fixed_writer() -> Fixed {
-    Fixed {
+pub(crate) fn fixed_writer() -> FixedWriter {
+    FixedWriter {
         held: [0; 1000],
         len: 0,
     }
@@ -125,7 +125,7 @@ pub(crate) static EDITS: [(&[u8], &[u8]); 6] = [
 
 /// Runs a script, then its undo script on the written file: this restores the bank, and the undo script of that run is
 /// the script. A run that is out of memory writes nothing and is made again.
-pub(crate) fn edit_and_return(alloc: Global, script: &[u8], back: &[u8]) -> Outcome {
+pub(crate) fn run_and_undo(alloc: Global, script: &[u8], back: &[u8]) -> Outcome {
     let mut out = fixed_writer();
     let mut undo = fixed_writer();
     let there = edited(alloc, BANK, script, &mut out, &mut undo);
@@ -141,8 +141,8 @@ pub(crate) fn edited(
     alloc: Global,
     file: &[u8],
     script: &[u8],
-    out: &mut Fixed,
-    undo: &mut Fixed,
+    out: &mut FixedWriter,
+    undo: &mut FixedWriter,
 ) -> Outcome {
     match edit_run(alloc, file, script, out, undo) {
         Ok(()) => Outcome::Done,
@@ -179,7 +179,7 @@ pub(crate) fn listing_run(alloc: Global) -> Outcome {
     }
 }
 
-fn is_listing(out: &Fixed) -> bool {
+fn is_listing(out: &FixedWriter) -> bool {
     out.held[..].starts_with(b"bank 4 presets 1 instruments 1 samples 1 points 2\n".as_slice())
 }
 
@@ -197,7 +197,7 @@ pub(crate) fn playing_run(alloc: Global) -> Outcome {
     }
 }
 
-fn is_wave(out: &Fixed) -> bool {
+fn is_wave(out: &FixedWriter) -> bool {
     out.len == 52 && out.held[..].starts_with(b"RIFF\x2c\0\0\0WAVE".as_slice())
 }
 
@@ -228,7 +228,7 @@ pub(crate) fn bank_copy(alloc: Global, file: &[u8]) -> Outcome {
 }
 
 /// The canonical file of a bank.
-pub(crate) fn file_of(bank: &Bank<'_>) -> Fixed {
+pub(crate) fn file_of(bank: &Bank<'_>) -> FixedWriter {
     let mut out = fixed_writer();
     let _ = write(bank, &mut out);
     out

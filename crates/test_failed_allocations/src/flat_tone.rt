@@ -4,7 +4,7 @@ use bank_linked_members::LinkedMembers;
 use base_numbered_lists::NumberedList;
 use modulators::Modulator;
 use sample_view::Points;
-use sf_base::{Lent, Name20, OutOfMemory};
+use sf_base::{BorrowedBytes, Name20, OutOfMemory};
 use std::alloc::Global;
 
 static POINTS: [u8; 6] = [0xe8, 0x03, 0xd0, 0x07, 0x30, 0xf8];
@@ -68,14 +68,14 @@ fn name(text: &[u8]) -> Result<Name20, OutOfMemory> {
 
 fn texts() -> Texts<'static> {
     Texts {
-        engine: Lent::new(b"EMU8000"),
-        name: Lent::new(b""),
-        date: Lent::new(b""),
-        engineers: Lent::new(b""),
-        product: Lent::new(b""),
-        copyright: Lent::new(b""),
-        comment: Lent::new(b""),
-        software: Lent::new(b""),
+        engine: BorrowedBytes::new(b"EMU8000"),
+        name: BorrowedBytes::new(b""),
+        date: BorrowedBytes::new(b""),
+        engineers: BorrowedBytes::new(b""),
+        product: BorrowedBytes::new(b""),
+        copyright: BorrowedBytes::new(b""),
+        comment: BorrowedBytes::new(b""),
+        software: BorrowedBytes::new(b""),
     }
 }
 

@@ -17,16 +17,14 @@ mod players;
 mod points;
 mod sessions;
 
-use crate::banks::{
-    BANK, EDITS, bank_copy, canonical_run, edit_and_return, listing_run, playing_run,
-};
+use crate::banks::{BANK, EDITS, bank_copy, canonical_run, listing_run, playing_run, run_and_undo};
 use crate::generator_maps::{generators_copy, generators_set};
-use crate::neutral::neutral_walk;
-use crate::no_allocations::calls_without_memory;
+use crate::neutral::neutral_calls;
+use crate::no_allocations::calls_without_allocations;
 use crate::outcome::Outcome;
-use crate::players::{player_walk, tone_player_walk};
+use crate::players::{player_calls, tone_player_calls};
 use crate::points::{points_copy, points_join, points_narrow};
-use crate::sessions::{session_walk, tone_session_walk};
+use crate::sessions::{session_calls, tone_session_calls};
 use std::process::ExitCode;
 use test_inputs::tone;
 
@@ -43,19 +41,19 @@ fn main(rt: HostRuntime) -> ExitCode {
         playing_run(alloc),
         bank_copy(alloc, BANK),
         bank_copy(alloc, tone().bytes()),
-        session_walk(alloc),
-        tone_session_walk(alloc),
-        player_walk(alloc),
-        tone_player_walk(alloc),
-        neutral_walk(alloc),
-        calls_without_memory(alloc),
+        session_calls(alloc),
+        tone_session_calls(alloc),
+        player_calls(alloc),
+        tone_player_calls(alloc),
+        neutral_calls(alloc),
+        calls_without_allocations(alloc),
     ];
     let mut outcome = Outcome::Done;
     for case in cases {
         outcome = outcome.and(case);
     }
     for (script, back) in EDITS {
-        outcome = outcome.and(edit_and_return(alloc, script, back));
+        outcome = outcome.and(run_and_undo(alloc, script, back));
     }
     let (line, status) = match outcome {
         Outcome::Done => ("no allocation failed, and each value is right", 0),

@@ -1,12 +1,12 @@
 //! Neutral edits, and runs of neutral scripts, that may be out of memory.
-use crate::banks::{BANK, Fixed, bank_of, edited, file_of, fixed_writer};
+use crate::banks::{BANK, FixedWriter, bank_of, edited, file_of, fixed_writer};
 use crate::outcome::Outcome;
 use bank_core::{Bank, Owner};
 use edit_forms::{Axis, Edit, SampleStep, Step, ZoneStep};
 use edit_refusals::Refusal;
 use edit_script::print;
 use sf_base::Name20;
-use sfbank::{RunFault, Unheard, neutral_run};
+use sfbank::{NoReports, RunFault, neutral_run};
 use sound_neutral_edits::{apply_neutral, is_neutral};
 use std::alloc::Global;
 
@@ -45,24 +45,24 @@ static CALLS: [(Call, &[u8], &[u8]); 3] = [
 
 /// Does and undoes neutral edits. An edit that is out of memory leaves the bank and the edit as they were and is made
 /// again.
-pub(crate) fn neutral_walk(alloc: Global) -> Outcome {
+pub(crate) fn neutral_calls(alloc: Global) -> Outcome {
     let mut file = fixed_writer();
     let mut undo = fixed_writer();
     let mut outcome = edited(alloc, BANK, SCRIPT, &mut file, &mut undo);
     for (call, line, back) in CALLS {
-        outcome = outcome.and(called(alloc, file.text(), call, line, back));
+        outcome = outcome.and(try_call(alloc, file.text(), call, line, back));
     }
     outcome
 }
 
 // Does an edit of a file's bank as a script, as a value, and as a neutral run.
-fn called(alloc: Global, file: &[u8], call: Call, line: &[u8], back: &[u8]) -> Outcome {
+fn try_call(alloc: Global, file: &[u8], call: Call, line: &[u8], back: &[u8]) -> Outcome {
     let mut out = fixed_writer();
     let mut undo = fixed_writer();
     let made = edited(alloc, file, line, &mut out, &mut undo);
     let there = match (bank_of(alloc, file), edit_of(call)) {
         (Some((mut bank, read)), Some(edit)) => {
-            read.and(there_and_back(alloc, &mut bank, edit, out.text(), back))
+            read.and(apply_and_undo(alloc, &mut bank, edit, out.text(), back))
         }
         _ => Outcome::Wrong,
     };
@@ -73,7 +73,7 @@ fn called(alloc: Global, file: &[u8], call: Call, line: &[u8], back: &[u8]) -> O
 }
 
 // Applies an edit to a bank, compares it with the file `edited`, and undoes the edit.
-fn there_and_back<'a>(
+fn apply_and_undo<'a>(
     alloc: Global,
     bank: &mut Bank<'a>,
     edit: Edit<'a>,
@@ -124,7 +124,7 @@ fn done_again<'a>(
     }
 }
 
-fn line_of(edit: &Edit<'_>) -> Fixed {
+fn line_of(edit: &Edit<'_>) -> FixedWriter {
     let mut out = fixed_writer();
     let _ = print(edit, &mut out);
     out
@@ -152,7 +152,7 @@ fn edit_of(call: Call) -> Option<Edit<'static>> {
 fn run(alloc: Global, file: &[u8], script: &[u8], edited: &[u8], back: &[u8]) -> Outcome {
     let mut out = fixed_writer();
     let mut undo = fixed_writer();
-    let ran = match neutral_run(alloc, file, script, &mut out, &mut undo, &mut Unheard) {
+    let ran = match neutral_run(alloc, file, script, &mut out, &mut undo, &mut NoReports) {
         Ok(()) => Outcome::Done,
         Err(RunFault::Memory) if out.has(b"") && undo.has(b"") => {
             Outcome::refused(neutral_run(
@@ -161,7 +161,7 @@ fn run(alloc: Global, file: &[u8], script: &[u8], edited: &[u8], back: &[u8]) ->
                 script,
                 &mut out,
                 &mut undo,
-                &mut Unheard,
+                &mut NoReports,
             ).is_ok())
         }
         Err(_) => Outcome::Wrong,

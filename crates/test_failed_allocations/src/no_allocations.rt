@@ -21,7 +21,7 @@ use zone_select::{matches, params};
 const TOO_MANY: usize = 1 << 62;
 
 /// Makes the calls. If preparing them is out of memory, all is done again.
-pub(crate) fn calls_without_memory(alloc: Global) -> Outcome {
+pub(crate) fn calls_without_allocations(alloc: Global) -> Outcome {
     let file = tone();
     match all_calls(alloc, file.bytes()) {
         Ok(right) => Outcome::done(right),
@@ -48,14 +48,14 @@ fn all_calls(alloc: Global, tone: &[u8]) -> Result<bool, OutOfMemory> {
     let records = tone_records(alloc)?;
     let mut bags = spare_bags(alloc)?;
     let begins = requests.try_reserve(TOO_MANY).is_err();
-    let is_right = tells_members(&bank)
-        && tells_zones(&bank)
-        && tells_records(&bank)
+    let is_right = returns_members(&bank)
+        && returns_zones(&bank)
+        && returns_records(&bank)
         && selects(&bank, &tone_bank, &note)
-        && sounds(&mut voice)
+        && plays_voice(&mut voice)
         && plays(&mut player)
-        && is_tone(flat, tone)
-        && is_bag(records)
+        && gives_tone(flat, tone)
+        && gives_bag(records)
         && changes_bags(&mut bags);
     let ends = requests.try_reserve(TOO_MANY).is_err();
     Ok(begins && is_right && ends && requests.as_slice() == [0].as_slice())
@@ -69,7 +69,7 @@ fn bank_in(alloc: Global, file: &[u8]) -> Result<Bank<'_>, OutOfMemory> {
 }
 
 // The getters of presets, instruments, samples and texts.
-fn tells_members(bank: &Bank<'_>) -> bool {
+fn returns_members(bank: &Bank<'_>) -> bool {
     let lists = [List::Presets, List::Instruments, List::Samples];
     bank.minor() == 4
         && bank.info(InfoId::Engine) == b"EMU8000".as_slice()
@@ -90,7 +90,7 @@ fn tells_members(bank: &Bank<'_>) -> bool {
 }
 
 // The getters of zones.
-fn tells_zones(bank: &Bank<'_>) -> bool {
+fn returns_zones(bank: &Bank<'_>) -> bool {
     let (preset, instrument) = (Owner::Preset(0), Owner::Inst(0));
     bank.zone_count(preset) == Some(2)
         && bank.zone_count(Owner::Inst(1)).is_none()
@@ -107,7 +107,7 @@ fn tells_zones(bank: &Bank<'_>) -> bool {
 }
 
 // The getters of records.
-fn tells_records(bank: &Bank<'_>) -> bool {
+fn returns_records(bank: &Bank<'_>) -> bool {
     let at = Level::Inst;
     let parts = [Part::Heads, Part::Bags, Part::Gens, Part::Mods];
     parts.map(|part| bank.rec_len(at, part)) == [2, 3, 6, 4]
@@ -131,14 +131,14 @@ fn selects(bank: &Bank<'_>, tone_bank: &Bank<'_>, note: &Note) -> bool {
         && pairs.next().is_none()
         && params(bank, note, (2, 0)).is_none()
         && params(tone_bank, note, (0, 0)).is_some_and(|parameters| {
-            parameters.voice.step == 98193
+            parameters.voice.phase_increment == 98193
                 && parameters.voice.loop_end == 3
                 && parameters.voice.length == 8
         })
 }
 
 // All frames of the voice on `tone`.
-fn sounds(voice: &mut Voice<'_>) -> bool {
+fn plays_voice(voice: &mut Voice<'_>) -> bool {
     for frame in 0..8 {
         let (left, right) = voice.next_frame();
         if left != i32::from(TONE_SIDES[2 * frame])
@@ -161,10 +161,10 @@ fn plays(player: &mut Player<'_>) -> bool {
     front[..] == TONE_SIDES[..6] && rest[..] == TONE_SIDES[6..] && silence == [0; 4096]
 }
 
-fn is_tone(flat: Flat<'_>, tone: &[u8]) -> bool {
+fn gives_tone(flat: Flat<'_>, tone: &[u8]) -> bool {
     Bank::from_flat(flat).is_some_and(|bank| file_of(&bank).has(tone))
 }
 
-fn is_bag(records: Recs) -> bool {
+fn gives_bag(records: Recs) -> bool {
     Bags::from_recs(records).is_some_and(|bags| bags.bag_count() == 1 && bags.gen_count() == 2)
 }

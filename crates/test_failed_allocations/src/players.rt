@@ -65,7 +65,7 @@ static CALLS: [(Call, i16, i16); 12] = [
 
 /// Starts notes and edits their bank in turn, and compares a block after each. A call that is out of memory leaves the
 /// player and the bank as they were and is made again.
-pub(crate) fn player_walk(alloc: Global) -> Outcome {
+pub(crate) fn player_calls(alloc: Global) -> Outcome {
     let mut file = fixed_writer();
     let mut undo = fixed_writer();
     let made = edited(alloc, BANK, SCRIPT, &mut file, &mut undo);
@@ -74,18 +74,18 @@ pub(crate) fn player_walk(alloc: Global) -> Outcome {
     };
     let mut outcome = made.and(read);
     let mut player = Player::new(alloc);
-    let mut heard = (0, 0);
+    let mut expected = (0, 0);
     for (call, left, right) in CALLS {
-        outcome = outcome.and(called(alloc, &mut player, &mut bank, call, heard));
-        heard = (left, right);
-        outcome = outcome.and(Outcome::done(gives(&mut player, heard)));
+        outcome = outcome.and(try_call(alloc, &mut player, &mut bank, call, expected));
+        expected = (left, right);
+        outcome = outcome.and(Outcome::done(gives(&mut player, expected)));
     }
     outcome
 }
 
 /// Starts a note on `tone` and edits the bank while it plays; the note started again is silent. A call that is out of
 /// memory leaves the player and the bank as they were and is made again.
-pub(crate) fn tone_player_walk(alloc: Global) -> Outcome {
+pub(crate) fn tone_player_calls(alloc: Global) -> Outcome {
     let file = tone();
     let Some(note) = Note::new(0, 8, 0, 0, 67, 127) else {
         return Outcome::Wrong;
@@ -103,12 +103,12 @@ pub(crate) fn tone_player_walk(alloc: Global) -> Outcome {
     let rest = Outcome::done(plays(&mut player, &TONE_SIDES[6..]));
     let again = begun(alloc, &mut player, &bank, &note);
     let silence = Outcome::done(plays(&mut player, &[0; 16]));
-    let heard = front.and(rest).and(silence);
+    let expected = front.and(rest).and(silence);
     read.and(first)
         .and(trimmed)
         .and(removed)
         .and(again)
-        .and(heard)
+        .and(expected)
 }
 
 // Starts a note, and again if it was out of memory. A voice started by the failed call would show in the next block.
@@ -144,18 +144,18 @@ fn plays(player: &mut Player<'_>, sides: &[i16]) -> bool {
 }
 
 // Makes a call, and again if it was out of memory, after comparing the player's frames with those before.
-fn called<'a>(
+fn try_call<'a>(
     alloc: Global,
     player: &mut Player<'a>,
     bank: &mut Bank<'a>,
     call: Call,
-    heard: (i16, i16),
+    expected: (i16, i16),
 ) -> Outcome {
     if let Some(note) = note_of(call) {
-        return started(alloc, player, bank, &note, heard);
+        return started(alloc, player, bank, &note, expected);
     }
     match step_of(alloc, call) {
-        Some(step) => applied(alloc, player, bank, step, heard),
+        Some(step) => applied(alloc, player, bank, step, expected),
         None => Outcome::Wrong,
     }
 }
@@ -165,12 +165,12 @@ fn started<'a>(
     player: &mut Player<'a>,
     bank: &Bank<'a>,
     note: &Note,
-    heard: (i16, i16),
+    expected: (i16, i16),
 ) -> Outcome {
     match player.start(alloc, bank, note) {
         Ok(()) => Outcome::Done,
         Err(_) => {
-            let unchanged = gives(player, heard);
+            let unchanged = gives(player, expected);
             Outcome::refused(unchanged && player.start(alloc, bank, note).is_ok())
         }
     }
@@ -181,13 +181,13 @@ fn applied<'a>(
     player: &mut Player<'a>,
     bank: &mut Bank<'a>,
     step: Step<'a>,
-    heard: (i16, i16),
+    expected: (i16, i16),
 ) -> Outcome {
     let file = file_of(bank);
     match apply(alloc, bank, Edit::One(step)) {
         Ok(_) => Outcome::Done,
         Err((Refusal::OutOfMemory, edit)) => {
-            let unchanged = gives(player, heard) && file_of(bank).has(file.text());
+            let unchanged = gives(player, expected) && file_of(bank).has(file.text());
             Outcome::refused(unchanged && apply(alloc, bank, edit).is_ok())
         }
         Err(_) => Outcome::Wrong,
@@ -195,8 +195,8 @@ fn applied<'a>(
 }
 
 // Whether the next four frames are all this frame.
-fn gives(player: &mut Player<'_>, heard: (i16, i16)) -> bool {
-    let (left, right) = heard;
+fn gives(player: &mut Player<'_>, expected: (i16, i16)) -> bool {
+    let (left, right) = expected;
     let mut out = [0; 8];
     player.block(&mut out);
     out == [left, right, left, right, left, right, left, right]

@@ -1,5 +1,5 @@
 //! Calls of `Session` that may return out of memory.
-use crate::banks::{BANK, Fixed, bank_of, file_of, fixed_writer};
+use crate::banks::{BANK, FixedWriter, bank_of, file_of, fixed_writer};
 use crate::outcome::Outcome;
 use bank_core::{InfoId, Owner};
 use base_numbered_lists::NumberedList;
@@ -7,7 +7,7 @@ use edit_forms::{Edit, PresetStep, SampleStep, Step, TextStep, ZoneStep};
 use edit_refusals::Refusal;
 use edit_script::print;
 use inverse_edits::Session;
-use sf_base::{Lent, Name20, OutOfMemory};
+use sf_base::{BorrowedBytes, Name20, OutOfMemory};
 use std::alloc::Global;
 use test_inputs::tone;
 
@@ -27,10 +27,10 @@ enum Call {
 }
 
 // A call, its refusal if it is refused, and the length of the undo list after it.
-type Called = (Call, Option<Refusal>, usize);
+type ExpectedCall = (Call, Option<Refusal>, usize);
 
 // Calls on `tone`.
-static TONE_CALLS: [Called; 8] = [
+static TONE_CALLS: [ExpectedCall; 8] = [
     (Call::Undo, Some(Refusal::NothingToUndo), 0),
     (Call::Edit(Change::Rename), None, 1),
     (Call::Redo, Some(Refusal::NothingToRedo), 1),
@@ -42,7 +42,7 @@ static TONE_CALLS: [Called; 8] = [
 ];
 
 // Calls on `BANK`, which restore it.
-static CALLS: [Called; 20] = [
+static CALLS: [ExpectedCall; 20] = [
     (Call::Undo, Some(Refusal::NothingToUndo), 0),
     (Call::Edit(Change::Rename), None, 1),
     (Call::Edit(Change::Remove), None, 2),
@@ -67,20 +67,26 @@ static CALLS: [Called; 20] = [
 
 /// Makes twenty calls of a session and of a second, equal one. They restore the first bank. A call that is out of
 /// memory leaves the session as it was and is made again.
-pub(crate) fn session_walk(alloc: Global) -> Outcome {
-    walked(alloc, BANK, &CALLS, BANK, b"")
+pub(crate) fn session_calls(alloc: Global) -> Outcome {
+    run_calls(alloc, BANK, &CALLS, BANK, b"")
 }
 
 /// Makes eight calls of a session on `tone` in the same way. They leave a bank name set, and one edit to undo.
-pub(crate) fn tone_session_walk(alloc: Global) -> Outcome {
+pub(crate) fn tone_session_calls(alloc: Global) -> Outcome {
     let titled = tone().patched(&[(60, b'x')]);
     let back = b"set-info INAM \"\"\n";
-    walked(alloc, tone().bytes(), &TONE_CALLS, titled.bytes(), back)
+    run_calls(alloc, tone().bytes(), &TONE_CALLS, titled.bytes(), back)
 }
 
 // Makes calls of a session on a file's bank, and of a second, equal session. In the end the bank is that of `last` and
 // the undo list has the text `back`.
-fn walked(alloc: Global, file: &[u8], calls: &[Called], last: &[u8], back: &[u8]) -> Outcome {
+fn run_calls(
+    alloc: Global,
+    file: &[u8],
+    calls: &[ExpectedCall],
+    last: &[u8],
+    back: &[u8],
+) -> Outcome {
     let Some((bank, read)) = bank_of(alloc, file) else {
         return Outcome::Wrong;
     };
@@ -91,7 +97,7 @@ fn walked(alloc: Global, file: &[u8], calls: &[Called], last: &[u8], back: &[u8]
     let mut twin = Session::new(alloc, same_bank);
     let mut outcome = read.and(read_again);
     for (call, refusal, undos) in calls {
-        outcome = outcome.and(called(alloc, &mut session, &mut twin, *call, *refusal));
+        outcome = outcome.and(try_call(alloc, &mut session, &mut twin, *call, *refusal));
         outcome = outcome.and(Outcome::done(session.undo_list().len() == *undos));
     }
     let right = file_of(session.bank()).has(last) && back_of(&session).has(back);
@@ -100,7 +106,7 @@ fn walked(alloc: Global, file: &[u8], calls: &[Called], last: &[u8], back: &[u8]
 
 // Makes a call of the session, and again if it was out of memory, after comparing the session with its twin. Then makes
 // the same call of the twin.
-fn called(
+fn try_call(
     alloc: Global,
     session: &mut Session<'_>,
     twin: &mut Session<'_>,
@@ -110,7 +116,7 @@ fn called(
     let outcome = match made(alloc, session, call) {
         Ok(was) => Outcome::done(was == refusal),
         Err(OutOfMemory) => {
-            let unchanged = are_alike(alloc, session, twin);
+            let unchanged = are_equal(alloc, session, twin);
             Outcome::refused(unchanged && made(alloc, session, call) == Ok(refusal))
         }
     };
@@ -131,44 +137,44 @@ fn followed(
 }
 
 // Whether two sessions are equal, with their redo lists: compares them while all edits are redone and undone again.
-fn are_alike(alloc: Global, one: &mut Session<'_>, other: &mut Session<'_>) -> bool {
+fn are_equal(alloc: Global, one: &mut Session<'_>, other: &mut Session<'_>) -> bool {
     let undos = one.undo_list().len();
-    let alike = stand_alike(one, other);
-    let forth = go_forth(alloc, one, other);
-    let back = go_back(alloc, one, other, undos);
+    let alike = have_equal_state(one, other);
+    let forth = redo_all(alloc, one, other);
+    let back = undo_until(alloc, one, other, undos);
     alike && forth && back
 }
 
 // Redoes all edits of both sessions. Returns whether they were equal after each; there are no more edits than calls in
 // `CALLS`.
-fn go_forth(alloc: Global, one: &mut Session<'_>, other: &mut Session<'_>) -> bool {
+fn redo_all(alloc: Global, one: &mut Session<'_>, other: &mut Session<'_>) -> bool {
     let mut alike = true;
     for _ in CALLS {
         let (went, followed) = (one.redo(alloc), other.redo(alloc));
-        alike = alike && went == followed && stand_alike(one, other);
+        alike = alike && went == followed && have_equal_state(one, other);
     }
     alike
 }
 
 // Undoes edits of both sessions until `undos` edits remain to undo. Returns whether they were equal after each.
-fn go_back(alloc: Global, one: &mut Session<'_>, other: &mut Session<'_>, undos: usize) -> bool {
+fn undo_until(alloc: Global, one: &mut Session<'_>, other: &mut Session<'_>, undos: usize) -> bool {
     let mut alike = true;
     for _ in CALLS {
         if one.undo_list().len() > undos {
             let (went, followed) = (one.undo(alloc), other.undo(alloc));
-            alike = alike && went == followed && stand_alike(one, other);
+            alike = alike && went == followed && have_equal_state(one, other);
         }
     }
     alike
 }
 
 // Whether two sessions have the same bank and the same undo list.
-fn stand_alike(one: &Session<'_>, other: &Session<'_>) -> bool {
+fn have_equal_state(one: &Session<'_>, other: &Session<'_>) -> bool {
     file_of(one.bank()).has(file_of(other.bank()).text()) && back_of(one).has(back_of(other).text())
 }
 
 // The text of its undo list.
-fn back_of(session: &Session<'_>) -> Fixed {
+fn back_of(session: &Session<'_>) -> FixedWriter {
     let mut out = fixed_writer();
     for edit in session.undo_list() {
         let _ = print(edit, &mut out);
@@ -202,7 +208,7 @@ fn edit_of(alloc: Global, change: Change) -> Result<Edit<'static>, OutOfMemory> 
         Change::Rename => rename(),
         Change::Title => Ok(Edit::One(Step::Text(TextStep::SetInfo {
             id: InfoId::Name,
-            text: Lent::new(b"x"),
+            text: BorrowedBytes::new(b"x"),
         }))),
         Change::Remove => Ok(Edit::One(Step::Preset(PresetStep::RemovePreset { preset: 0 }))),
         Change::Empty => emptying(alloc),

@@ -13,10 +13,10 @@ pub const NEVER: usize = usize::MAX;
 #[derive(Clone, Copy)]
 pub enum WriteFailure {
     Error,
-    TakesNone,
+    AcceptsNone,
 }
 
-/// A writer that accepts at most `bite` bytes a call, and fails from call `fails_at` on, counted from 0. Its flush
+/// A writer that accepts at most `call_limit` bytes a call, and fails from call `fails_at` on, counted from 0. Its flush
 /// fails if `flushes` is false.
 #[derive(Drop)]
 pub struct FailingWriter {
@@ -25,7 +25,7 @@ pub struct FailingWriter {
     /// The number of calls that accepted bytes.
     pub calls: usize,
     pub failed: bool,
-    bite: usize,
+    call_limit: usize,
     fails_at: usize,
     failure: WriteFailure,
 }
@@ -34,7 +34,7 @@ impl FailingWriter {
     /// A writer that holds nothing yet and whose flush succeeds.
     pub fn new(
         alloc: Global,
-        bite: usize,
+        call_limit: usize,
         fails_at: usize,
         failure: WriteFailure,
     ) -> FailingWriter {
@@ -43,7 +43,7 @@ impl FailingWriter {
             flushes: true,
             calls: 0,
             failed: false,
-            bite,
+            call_limit,
             fails_at,
             failure,
         }
@@ -58,13 +58,13 @@ impl Write for FailingWriter {
             self.failed = true;
             return match self.failure {
                 WriteFailure::Error => Err(io::Error::from(ErrorKind::BrokenPipe)),
-                WriteFailure::TakesNone => Ok(0),
+                WriteFailure::AcceptsNone => Ok(0),
             };
         }
         self.calls += 1;
-        let taken = front_of(buf, self.bite);
-        self.held.extend_from_slice(taken)?;
-        Ok(taken.len())
+        let accepted = front_of(buf, self.call_limit);
+        self.held.extend_from_slice(accepted)?;
+        Ok(accepted.len())
     }
 
     fn flush(&mut self) -> io::Result<()> {

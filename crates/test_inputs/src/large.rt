@@ -5,7 +5,7 @@ use sf_base::{front_of, part_of, rest_from};
 use std::alloc::{AllocError, Global};
 
 /// The file with `piece` inserted `times` times at position `at`, and then these size fields set.
-fn grown(
+fn with_repeated(
     alloc: Global,
     file: &[u8],
     at: usize,
@@ -34,7 +34,7 @@ fn put_size(file: &mut Vec<u8>, at: usize, size: usize) {
 
 /// The empty bank's file with `count` zero records inserted before the terminal of one list. `size` is the position of
 /// the list's size field, `record` the length of a record.
-pub fn with_more(
+pub fn with_zero_records(
     alloc: Global,
     size: usize,
     record: usize,
@@ -47,7 +47,7 @@ pub fn with_more(
         (size, bytes.saturating_add(record)),
     ];
     let zeros = front_of(&[0; 46], record);
-    grown(
+    with_repeated(
         alloc,
         empty().bytes(),
         size.saturating_add(4),
@@ -63,7 +63,7 @@ pub fn many_points(alloc: Global, samples: usize, target: u8) -> Result<Vec<u8>,
     let long = tone().patched(&[(320, target), (464, 0x22), (465, 0xc3)]);
     let sample = part_of(long.bytes(), 440, 46);
     let without = long.edited("440 46");
-    let heads = grown(alloc, without.bytes(), 440, sample, samples, &[])?;
+    let heads = with_repeated(alloc, without.bytes(), 440, sample, samples, &[])?;
     let sizes = [
         (4, more.saturating_add(100_288)),
         (66, 99_920),
@@ -71,5 +71,5 @@ pub fn many_points(alloc: Global, samples: usize, target: u8) -> Result<Vec<u8>,
         (99_994, more.saturating_add(298)),
         (100_246, more.saturating_add(46)),
     ];
-    grown(alloc, &heads, 82, &[0; 30], 3_327, &sizes)
+    with_repeated(alloc, &heads, 82, &[0; 30], 3_327, &sizes)
 }

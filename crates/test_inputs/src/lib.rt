@@ -7,4 +7,4 @@ mod large;
 
 pub use failing_writer::{FailingWriter, NEVER, WriteFailure};
 pub use files::{File, RENAME, RENAME_BACK, empty, renamed_saw, saw, tone, wide};
-pub use large::{many_points, with_more};
+pub use large::{many_points, with_zero_records};

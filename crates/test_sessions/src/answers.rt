@@ -36,36 +36,36 @@ const FAULTS: [(RequestFault, &[u8]); 5] = [
 ];
 
 /// Whether the answer is written as this text.
-fn is_told(alloc: Global, answer: &Answer<'_>, text: &[u8]) -> bool {
-    let mut told = Vec::new(alloc);
-    let mut output = Output::to(&mut told);
+fn is_written_as(alloc: Global, answer: &Answer<'_>, text: &[u8]) -> bool {
+    let mut output_text = Vec::new(alloc);
+    let mut output = Output::to(&mut output_text);
     put_answer(answer, &mut output);
-    output.end().is_ok() && told.as_slice() == text
+    output.end().is_ok() && output_text.as_slice() == text
 }
 
 #[test]
-fn refusals_are_told(rt: HostRuntime) {
+fn refusals_are_reported(rt: HostRuntime) {
     for (why, text) in REFUSALS {
-        assert!(rt; is_told(rt.alloc(), &Answer::Refused(why), text));
+        assert!(rt; is_written_as(rt.alloc(), &Answer::Refused(why), text));
     }
 }
 
 #[test]
-fn faults_are_told(rt: HostRuntime) {
+fn faults_are_reported(rt: HostRuntime) {
     for (fault, text) in FAULTS {
-        assert!(rt; is_told(rt.alloc(), &Answer::Fault(fault), text));
+        assert!(rt; is_written_as(rt.alloc(), &Answer::Fault(fault), text));
     }
 }
 
 #[test]
-fn answers_are_told(rt: HostRuntime) {
+fn answers_are_written(rt: HostRuntime) {
     let alloc = rt.alloc();
-    assert!(rt; is_told(alloc, &Answer::Done, b"ok\n"));
-    assert!(rt; is_told(alloc, &Answer::Started(0), b"ok 0\n"));
-    assert!(rt; is_told(alloc, &Answer::Started(12), b"ok 12\n"));
-    assert!(rt; is_told(alloc, &Answer::NotNeutral, b"refused 50 NotNeutral\n"));
-    assert!(rt; is_told(alloc, &Answer::TooManyFrames, b"refused 52 TooManyFrames\n"));
-    assert!(rt; is_told(alloc, &Answer::OutOfMemory, b"out of memory\n"));
+    assert!(rt; is_written_as(alloc, &Answer::Done, b"ok\n"));
+    assert!(rt; is_written_as(alloc, &Answer::Started(0), b"ok 0\n"));
+    assert!(rt; is_written_as(alloc, &Answer::Started(12), b"ok 12\n"));
+    assert!(rt; is_written_as(alloc, &Answer::NotNeutral, b"refused 50 NotNeutral\n"));
+    assert!(rt; is_written_as(alloc, &Answer::TooManyFrames, b"refused 52 TooManyFrames\n"));
+    assert!(rt; is_written_as(alloc, &Answer::OutOfMemory, b"out of memory\n"));
 }
 
 #[test]
@@ -73,7 +73,7 @@ fn write_faults_name_their_path(rt: HostRuntime) {
     if let Some(path) = FilePath::of(b"my bank.sf2") {
         let answer = Answer::WriteFault { path, written: 42 };
         assert!(rt;
-            is_told(
+            is_written_as(
                 rt.alloc(),
                 &answer,
                 b"write fault my bank.sf2 after 42 bytes\n"
@@ -87,11 +87,11 @@ fn rejected_outputs_name_their_path(rt: HostRuntime) {
     if let Some(path) = FilePath::of(b"bank.sf2") {
         let fault = OutputFault::SameFile;
         let answer = Answer::Rejected { path, fault };
-        assert!(rt; is_told(rt.alloc(), &answer, b"refused 64 SameFile bank.sf2\n"));
+        assert!(rt; is_written_as(rt.alloc(), &answer, b"refused 64 SameFile bank.sf2\n"));
     }
     if let Some(path) = FilePath::of(b"my bank.sf2") {
         let fault = OutputFault::HoldsBank;
         let answer = Answer::Rejected { path, fault };
-        assert!(rt; is_told(rt.alloc(), &answer, b"refused 65 HoldsBank my bank.sf2\n"));
+        assert!(rt; is_written_as(rt.alloc(), &answer, b"refused 65 HoldsBank my bank.sf2\n"));
     }
 }

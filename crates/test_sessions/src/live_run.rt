@@ -73,7 +73,7 @@ static ANSWERS: &[u8] = b"\
 // 500 on the left and 1500 on the right.
 static FRAMES: &[u8] = b"\xf4\x01\xdc\x05";
 
-static WAY_BACK: &[u8] = b"\
+static UNDO_SCRIPT: &[u8] = b"\
     remove-inst 0\n\
     remove-sample 0\n";
 
@@ -122,5 +122,5 @@ fn a_session_is_answered(rt: HostRuntime) {
     assert!(rt; answers.as_slice() == ANSWERS);
     assert!(rt; pcm.as_slice() == FRAMES);
     assert!(rt; kept.out.as_slice().starts_with(b"RIFF"));
-    assert!(rt; kept.undo.as_slice() == WAY_BACK);
+    assert!(rt; kept.undo.as_slice() == UNDO_SCRIPT);
 }

@@ -8,7 +8,7 @@ use edit_script::put_edit;
 use live_lines::{HELP, Paths, Request, RequestFault, pool_of_line, read_line};
 use script_notes::Note;
 use script_tokens::{Lines, Piece, put_line};
-use sf_base::{Failure, Lent};
+use sf_base::{BorrowedBytes, Failure};
 use std::alloc::Global;
 use std::io::Write;
 
@@ -141,14 +141,14 @@ fn put_note<W: Write>(note: &Note, output: &mut Output<'_, W>) {
 }
 
 fn put_paths<W: Write>(paths: &Paths<'_>, output: &mut Output<'_, W>) {
-    let out = Piece::Name(Lent::new(paths.out.text().as_bytes()));
-    let undo = Piece::Name(Lent::new(paths.undo.text().as_bytes()));
+    let out = Piece::Name(BorrowedBytes::new(paths.out.text().as_bytes()));
+    let undo = Piece::Name(BorrowedBytes::new(paths.undo.text().as_bytes()));
     put_line(b"save", &[out, undo], output);
 }
 
 fn put_fault<W: Write>(fault: RequestFault, output: &mut Output<'_, W>) {
     let number = Piece::Number(u64::from(fault.number()));
-    let name = Piece::Word(Lent::new(fault.name().as_bytes()));
+    let name = Piece::Word(BorrowedBytes::new(fault.name().as_bytes()));
     put_line(b"fault", &[number, name], output);
 }
 
@@ -160,7 +160,7 @@ fn has_no_feed(line: &[u8]) -> bool
 
 /// Writes the request of a line, or its fault. Writes nothing if out of memory, or if there is a line feed in
 /// the line.
-fn put_asked<W: Write>(alloc: Global, line: &[u8], output: &mut Output<'_, W>) {
+fn put_request_or_fault<W: Write>(alloc: Global, line: &[u8], output: &mut Output<'_, W>) {
     if !has_no_feed(line) {
         return;
     }
@@ -177,29 +177,29 @@ fn put_asked<W: Write>(alloc: Global, line: &[u8], output: &mut Output<'_, W>) {
 }
 
 /// Whether the request or fault of a line is written as `want`.
-fn asks(alloc: Global, line: &[u8], want: &[u8]) -> bool {
-    let mut told = Vec::new(alloc);
-    let mut output = Output::to(&mut told);
-    put_asked(alloc, line, &mut output);
-    output.end().is_ok() && told.as_slice() == want
+fn is_read_as(alloc: Global, line: &[u8], want: &[u8]) -> bool {
+    let mut output_text = Vec::new(alloc);
+    let mut output = Output::to(&mut output_text);
+    put_request_or_fault(alloc, line, &mut output);
+    output.end().is_ok() && output_text.as_slice() == want
 }
 
 #[test]
-fn lines_ask(rt: HostRuntime) {
+fn lines_are_read(rt: HostRuntime) {
     for (line, want) in LINES {
-        assert!(rt; asks(rt.alloc(), line, want));
+        assert!(rt; is_read_as(rt.alloc(), line, want));
     }
 }
 
 #[test]
-fn faults_are_told(rt: HostRuntime) {
+fn faults_are_reported(rt: HostRuntime) {
     for (line, want) in FAULTS {
-        assert!(rt; asks(rt.alloc(), line, want));
+        assert!(rt; is_read_as(rt.alloc(), line, want));
     }
 }
 
 /// Whether a line is read as a request.
-fn is_asked(alloc: Global, line: &[u8]) -> bool {
+fn is_request(alloc: Global, line: &[u8]) -> bool {
     has_no_feed(line)
         && match pool_of_line(alloc, line) {
             Ok(pool) => matches!(read_line(alloc, line, &pool), Ok(Some(_))),
@@ -210,6 +210,6 @@ fn is_asked(alloc: Global, line: &[u8]) -> bool {
 #[test]
 fn the_lines_of_the_help_are_read(rt: HostRuntime) {
     for line in Lines::of(HELP.as_bytes()) {
-        assert!(rt; is_asked(rt.alloc(), line));
+        assert!(rt; is_request(rt.alloc(), line));
     }
 }

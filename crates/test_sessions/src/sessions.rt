@@ -6,7 +6,7 @@ use edit_forms::{Edit, SampleStep, Step, TextStep, ZoneStep};
 use edit_refusals::{Cause, Refusal};
 use edit_script::print;
 use inverse_edits::Session;
-use sf_base::{Lent, Name20, OutOfMemory};
+use sf_base::{BorrowedBytes, Name20, OutOfMemory};
 use sf_reader::read;
 use sf_writer::write;
 use std::alloc::Global;
@@ -14,7 +14,7 @@ use std::test::Fail;
 use test_inputs::{File, tone};
 
 /// Whether the session's bank is that of this file, and its undo list has this text.
-fn stands(alloc: Global, session: &Session<'_>, file: &File, back: &[u8]) -> bool {
+fn is_at(alloc: Global, session: &Session<'_>, file: &File, back: &[u8]) -> bool {
     let mut out = Vec::new(alloc);
     let mut text = Vec::new(alloc);
     for edit in session.undo_list() {
@@ -47,41 +47,41 @@ fn titled() -> File {
 }
 
 /// Whether a session on `tone` does, undoes, redoes and undoes the renaming.
-fn goes_back_and_forth<'a>(alloc: Global, session: &mut Session<'a>, rename: Edit<'a>) -> bool {
+fn undoes_and_redoes<'a>(alloc: Global, session: &mut Session<'a>, rename: Edit<'a>) -> bool {
     let back = b"rename-sample 0 \"t\"\n";
     is_first(alloc, session)
         && session.edit(alloc, rename).is_ok()
         && is_last(alloc, session)
-        && stands(alloc, session, &renamed(), back)
+        && is_at(alloc, session, &renamed(), back)
         && session.undo(alloc).is_ok()
-        && stands(alloc, session, &tone(), b"")
+        && is_at(alloc, session, &tone(), b"")
         && session.redo(alloc).is_ok()
-        && stands(alloc, session, &renamed(), back)
+        && is_at(alloc, session, &renamed(), back)
         && session.undo(alloc).is_ok()
         && is_first(alloc, session)
 }
 
 #[test]
-fn a_session_goes_back_and_forth(rt: HostRuntime) -> Result<(), Fail> {
+fn a_session_undoes_and_redoes(rt: HostRuntime) -> Result<(), Fail> {
     let (alloc, file) = (rt.alloc(), tone());
     let (bank, _counts) = read(alloc, file.bytes())?;
     let mut session = Session::new(alloc, bank);
     let name = Name20::from_bytes(b"u")?;
     let rename = Edit::One(Step::Sample(SampleStep::RenameSample { sample: 0, name }));
-    assert!(rt; goes_back_and_forth(alloc, &mut session, rename));
-    let (id, text) = (InfoId::Name, Lent::new(b"x"));
+    assert!(rt; undoes_and_redoes(alloc, &mut session, rename));
+    let (id, text) = (InfoId::Name, BorrowedBytes::new(b"x"));
     assert!(rt;
         session
             .edit(alloc, Edit::One(Step::Text(TextStep::SetInfo { id, text })))
             .is_ok()
     );
     assert!(rt; is_last(alloc, &mut session));
-    assert!(rt; stands(alloc, &session, &titled(), b"set-info INAM \"\"\n"));
+    assert!(rt; is_at(alloc, &session, &titled(), b"set-info INAM \"\"\n"));
     Ok(())
 }
 
 /// Whether a refused edit is returned, and leaves the redo list as it was.
-fn leaves_the_redo(alloc: Global, session: &mut Session<'_>) -> bool {
+fn keeps_the_redo_list(alloc: Global, session: &mut Session<'_>) -> bool {
     let remove = Edit::One(Step::Sample(SampleStep::RemoveSample { sample: 1 }));
     let outcome = session.edit(alloc, remove);
     let refused = match &outcome {
@@ -93,11 +93,11 @@ fn leaves_the_redo(alloc: Global, session: &mut Session<'_>) -> bool {
         ) => { *sample == 1 }
         _ => false,
     };
-    refused && stands(alloc, session, &tone(), b"") && session.redo(alloc).is_ok()
+    refused && is_at(alloc, session, &tone(), b"") && session.redo(alloc).is_ok()
 }
 
 #[test]
-fn a_refused_edit_leaves_what_is_to_redo(rt: HostRuntime) -> Result<(), Fail> {
+fn a_refused_edit_keeps_the_redo_list(rt: HostRuntime) -> Result<(), Fail> {
     let (alloc, file) = (rt.alloc(), tone());
     let (bank, _counts) = read(alloc, file.bytes())?;
     let mut session = Session::new(alloc, bank);
@@ -105,13 +105,13 @@ fn a_refused_edit_leaves_what_is_to_redo(rt: HostRuntime) -> Result<(), Fail> {
     let rename = Edit::One(Step::Sample(SampleStep::RenameSample { sample: 0, name }));
     assert!(rt; session.edit(alloc, rename).is_ok());
     assert!(rt; session.undo(alloc).is_ok());
-    assert!(rt; leaves_the_redo(alloc, &mut session));
-    assert!(rt; stands(alloc, &session, &renamed(), b"rename-sample 0 \"t\"\n"));
+    assert!(rt; keeps_the_redo_list(alloc, &mut session));
+    assert!(rt; is_at(alloc, &session, &renamed(), b"rename-sample 0 \"t\"\n"));
     Ok(())
 }
 
 #[test]
-fn refusals_are_told(rt: HostRuntime) {
+fn refusals_are_reported(rt: HostRuntime) {
     let (memory, cause) = (Refusal::OutOfMemory, Refusal::Of(Cause::InUse));
     assert!(rt; memory.number() == 38 && memory.name() == "OutOfMemory");
     assert!(rt; cause.number() == 26 && cause.name() == "InUse");
@@ -121,7 +121,7 @@ fn refusals_are_told(rt: HostRuntime) {
 }
 
 /// The inverse of the group.
-const BACK: &[u8] = b"group { add-sample 0 \"t\" 44100 60 0 mono loop 1 3 xe803d00730f8 } \
+const GROUP_UNDO: &[u8] = b"group { add-sample 0 \"t\" 44100 60 0 mono loop 1 3 xe803d00730f8 } \
     { add-zone inst 0 0 { 0 g 54 1 } }\n";
 
 /// `tone` without its sample and without the zone of its instrument: 376 bytes.
@@ -151,23 +151,23 @@ fn removals(alloc: Global) -> Result<Edit<'static>, OutOfMemory> {
 }
 
 /// Whether a session on `tone` does, undoes and redoes the group.
-fn takes_a_group_back(alloc: Global, session: &mut Session<'_>) -> bool {
+fn undoes_a_group(alloc: Global, session: &mut Session<'_>) -> bool {
     let Ok(group) = removals(alloc) else {
         return false;
     };
     session.edit(alloc, group).is_ok()
-        && stands(alloc, session, &silent(), BACK)
+        && is_at(alloc, session, &silent(), GROUP_UNDO)
         && session.undo(alloc).is_ok()
-        && stands(alloc, session, &tone(), b"")
+        && is_at(alloc, session, &tone(), b"")
         && session.redo(alloc).is_ok()
-        && stands(alloc, session, &silent(), BACK)
+        && is_at(alloc, session, &silent(), GROUP_UNDO)
 }
 
 #[test]
-fn a_session_takes_a_group_back(rt: HostRuntime) -> Result<(), Fail> {
+fn a_session_undoes_a_group(rt: HostRuntime) -> Result<(), Fail> {
     let (alloc, file) = (rt.alloc(), tone());
     let (bank, _counts) = read(alloc, file.bytes())?;
     let mut session = Session::new(alloc, bank);
-    assert!(rt; takes_a_group_back(alloc, &mut session));
+    assert!(rt; undoes_a_group(alloc, &mut session));
     Ok(())
 }

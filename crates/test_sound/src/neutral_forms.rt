@@ -5,7 +5,7 @@ use sound_neutral_edits::is_neutral;
 use std::alloc::Global;
 
 /// Whether the first edit of a script is neutral; `None` if there is no edit.
-fn judged(alloc: Global, script: &[u8]) -> Option<bool> {
+fn first_is_neutral(alloc: Global, script: &[u8]) -> Option<bool> {
     let pool = pool_of(alloc, script).ok()?;
     let lines = parse(alloc, script, pool.as_slice()).ok()?;
     let line = lines.first()?;
@@ -56,9 +56,15 @@ const OTHERS: [&[u8]; 20] = [
 #[test]
 fn forms_that_are_neutral(rt: HostRuntime) {
     for (row, line) in NEUTRAL.iter().enumerate() {
-        assert!(rt; judged(rt.alloc(), line) == Some(true), "row {row}");
+        assert!(rt;
+            first_is_neutral(rt.alloc(), line) == Some(true),
+            "row {row}"
+        );
     }
     for (row, line) in OTHERS.iter().enumerate() {
-        assert!(rt; judged(rt.alloc(), line) == Some(false), "row {row}");
+        assert!(rt;
+            first_is_neutral(rt.alloc(), line) == Some(false),
+            "row {row}"
+        );
     }
 }

@@ -64,7 +64,7 @@ fn edits_both_ways(alloc: Global, file: &[u8], line: &[u8], edited: &[u8], back:
 }
 
 #[test]
-fn a_renaming_and_its_return(rt: HostRuntime) {
+fn a_renaming_and_its_inverse(rt: HostRuntime) {
     let (saw, renamed) = (saw(), renamed_saw());
     assert!(rt;
         edits_both_ways(
@@ -95,7 +95,7 @@ const ROWS: [(&[u8], &[u8]); 2] = [
 const HALVES: &[u8] = b"add-inst 0 \"z\" { 0 g 43 0..59 g 17 0 } { 0 g 43 60..127 g 17 0 }\n";
 
 /// The file of `tone` after a script; empty if the script is refused.
-fn file_behind(alloc: Global, script: &[u8]) -> Vec<u8> {
+fn file_after(alloc: Global, script: &[u8]) -> Vec<u8> {
     let mut out = Vec::new(alloc);
     let mut undo = Vec::new(alloc);
     let _ = edit_run(alloc, tone().bytes(), script, &mut out, &mut undo);
@@ -104,9 +104,9 @@ fn file_behind(alloc: Global, script: &[u8]) -> Vec<u8> {
 
 #[test]
 fn splits_and_joins(rt: HostRuntime) {
-    let halves = file_behind(rt.alloc(), HALVES);
+    let halves = file_after(rt.alloc(), HALVES);
     for (row, (whole, join)) in ROWS.iter().enumerate() {
-        let file = file_behind(rt.alloc(), whole);
+        let file = file_after(rt.alloc(), whole);
         assert!(rt;
             edits_both_ways(rt.alloc(), &file, SPLIT, &halves, join),
             "row {row}"

@@ -12,7 +12,7 @@ use std::test::Fail;
 use test_inputs::tone;
 
 // Whether the next block has these samples, left and right in turn.
-fn gives<const N: usize>(player: &mut Player<'_>, sides: [i16; N]) -> bool
+fn next_block_is<const N: usize>(player: &mut Player<'_>, sides: [i16; N]) -> bool
     requires { N % 2 ≡ 0 }
 {
     let mut out = [0; N];
@@ -30,7 +30,7 @@ fn is_done<'a>(alloc: Global, bank: &mut Bank<'a>, step: Step<'a>) -> bool {
 }
 
 // Splits the only zone of the instrument and exchanges its halves.
-fn is_split_and_turned(alloc: Global, bank: &mut Bank<'_>) -> bool {
+fn splits_and_exchanges_halves(alloc: Global, bank: &mut Bank<'_>) -> bool {
     let owner = Owner::Inst(0);
     let split = Step::Zone(
         owner,
@@ -51,17 +51,17 @@ fn a_note_while_its_zone_is_split(rt: HostRuntime) -> Result<(), Fail> {
     let note = Note::new(0, 8, 0, 0, 67, 127).expect(&rt, "a note");
     let mut player = Player::new(rt.alloc());
     player.start(rt.alloc(), &bank, &note)?;
-    assert!(rt; gives(&mut player, [500, 500, 3, 3, 993, 993]));
-    assert!(rt; is_split_and_turned(rt.alloc(), &mut bank));
+    assert!(rt; next_block_is(&mut player, [500, 500, 3, 3, 993, 993]));
+    assert!(rt; splits_and_exchanges_halves(rt.alloc(), &mut bank));
     assert!(rt;
-        gives(
+        next_block_is(
             &mut player,
             [-11, -11, -987, -987, 16, 16, 979, 979, -24, -24]
         )
     );
     player.start(rt.alloc(), &bank, &note)?;
     assert!(rt;
-        gives(
+        next_block_is(
             &mut player,
             [
                 500, 500, 3, 3, 993, 993, -11, -11, -987, -987, 16, 16, 979, 979, -24, -24

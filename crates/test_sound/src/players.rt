@@ -13,7 +13,7 @@ use test_inputs::tone;
 
 /// One action on a bank or a player.
 #[derive(Clone, Copy)]
-pub(crate) enum Act {
+pub(crate) enum Action {
     /// Starts a note of this length in frames and this key, on preset 0 of bank 0.
     Start(u32, u8),
     /// Plays a block and expects these samples, left and right of each frame in turn.
@@ -29,14 +29,14 @@ pub(crate) enum Act {
 }
 
 // The step of an action that edits the bank; `None` for the others.
-fn step_of<'a>(alloc: Global, act: Act) -> Result<Option<Step<'a>>, Fail> {
+fn step_of<'a>(alloc: Global, action: Action) -> Result<Option<Step<'a>>, Fail> {
     let owner = Owner::Inst(0);
-    Ok(match act {
-        Act::Start(_, _) | Act::Block(_) => None,
-        Act::Trim => Some(Step::Points(0, PointStep::Trim { front: 1, back: 0 })),
-        Act::Extend => Some(extension(alloc)?),
-        Act::RemoveZone => Some(Step::Zone(owner, ZoneStep::RemoveZone { zone: 0 })),
-        Act::ClearClass => Some(Step::Setting(
+    Ok(match action {
+        Action::Start(_, _) | Action::Block(_) => None,
+        Action::Trim => Some(Step::Points(0, PointStep::Trim { front: 1, back: 0 })),
+        Action::Extend => Some(extension(alloc)?),
+        Action::RemoveZone => Some(Step::Zone(owner, ZoneStep::RemoveZone { zone: 0 })),
+        Action::ClearClass => Some(Step::Setting(
             owner,
             Place::Zone(0),
             SettingStep::ClearGen { operator: 57 },
@@ -51,15 +51,15 @@ fn extension<'a>(alloc: Global) -> Result<Step<'a>, Fail> {
 }
 
 /// Applies the edit of an action. Returns false if it is refused, and true if the action has no edit.
-pub(crate) fn edits<'a>(alloc: Global, bank: &mut Bank<'a>, act: Act) -> Result<bool, Fail> {
-    Ok(match step_of(alloc, act)? {
+pub(crate) fn edits<'a>(alloc: Global, bank: &mut Bank<'a>, action: Action) -> Result<bool, Fail> {
+    Ok(match step_of(alloc, action)? {
         Some(step) => apply(alloc, bank, Edit::One(step)).is_ok(),
         None => true,
     })
 }
 
 // Whether the next block has these samples, at most 24.
-fn gives(player: &mut Player<'_>, sides: &[i16]) -> bool {
+fn next_block_is(player: &mut Player<'_>, sides: &[i16]) -> bool {
     let mut out = [0; 24];
     if sides.len() > out.len() || sides.len() % 2 != 0 {
         return false;
@@ -70,13 +70,13 @@ fn gives(player: &mut Player<'_>, sides: &[i16]) -> bool {
 }
 
 // Whether all actions succeed, and their blocks have the expected samples, starting from the bank of a file.
-fn goes(alloc: Global, file: &[u8], acts: &[Act]) -> Result<bool, Fail> {
+fn plays_as_expected(alloc: Global, file: &[u8], actions: &[Action]) -> Result<bool, Fail> {
     let (mut bank, _counts) = read(alloc, file)?;
     let mut player = Player::new(alloc);
-    for act in acts {
-        let is_right = match *act {
-            Act::Block(sides) => gives(&mut player, sides),
-            Act::Start(length, key) => match Note::new(0, length, 0, 0, key, 127) {
+    for action in actions {
+        let is_right = match *action {
+            Action::Block(sides) => next_block_is(&mut player, sides),
+            Action::Start(length, key) => match Note::new(0, length, 0, 0, key, 127) {
                 Some(note) => player.start(alloc, &bank, &note).is_ok(),
                 None => false,
             },
@@ -133,7 +133,7 @@ fn blocks_of_any_length_from_a_bank_that_is_dropped(rt: HostRuntime) -> Result<(
         let file = tone();
         let mut player = playing(rt.alloc(), file.bytes())?;
         for block in *blocks {
-            assert!(rt; gives(&mut player, block), "row {row}");
+            assert!(rt; next_block_is(&mut player, block), "row {row}");
         }
     }
     Ok(())
@@ -141,16 +141,16 @@ fn blocks_of_any_length_from_a_bank_that_is_dropped(rt: HostRuntime) -> Result<(
 
 #[test]
 fn a_note_plays_on_while_its_bank_is_edited(rt: HostRuntime) -> Result<(), Fail> {
-    let acts = [
-        Act::Start(8, 67),
-        Act::Block(&[500, 500, 3, 3, 993, 993]),
-        Act::Trim,
-        Act::RemoveZone,
-        Act::Block(&[-11, -11, -987, -987, 16, 16, 979, 979, -24, -24]),
-        Act::Start(8, 67),
-        Act::Block(&[0; 16]),
+    let actions = [
+        Action::Start(8, 67),
+        Action::Block(&[500, 500, 3, 3, 993, 993]),
+        Action::Trim,
+        Action::RemoveZone,
+        Action::Block(&[-11, -11, -987, -987, 16, 16, 979, 979, -24, -24]),
+        Action::Start(8, 67),
+        Action::Block(&[0; 16]),
     ];
-    assert!(rt; goes(rt.alloc(), tone().bytes(), &acts)?);
+    assert!(rt; plays_as_expected(rt.alloc(), tone().bytes(), &actions)?);
     Ok(())
 }
 
@@ -161,15 +161,15 @@ pub(crate) const TEN: &[u8] =
 const OF_CLASS_1: &[u8] = b"add-inst 0 \"i\" { 0 g 54 1 g 57 1 }\n";
 
 /// Samples, instruments that play them, and actions on the bank and its player.
-const PLAYED: [(&[u8], &[u8], &[Act]); 3] = [
+const PLAYED: [(&[u8], &[u8], &[Action]); 3] = [
     // A block crosses from one slice of the sample's points to the next.
     (
         TEN,
         b"add-inst 0 \"i\" { 0 }\n",
         &[
-            Act::Extend,
-            Act::Start(12, 60),
-            Act::Block(&[
+            Action::Extend,
+            Action::Start(12, 60),
+            Action::Block(&[
                 5, 5, 0, 0, 1, 1, 1, 1, 2, 2, 2, 2, 3, 3, 3, 3, 4, 4, 4, 4, 5, 5, 6, 6,
             ]),
         ],
@@ -179,10 +179,10 @@ const PLAYED: [(&[u8], &[u8], &[Act]); 3] = [
         THREE,
         OF_CLASS_1,
         &[
-            Act::Start(8, 67),
-            Act::Block(&[500, 500, 3, 3, 993, 993, -11, -11]),
-            Act::Start(4, 60),
-            Act::Block(&[500, 500, 1000, 1000, -1000, -1000, 1000, 1000]),
+            Action::Start(8, 67),
+            Action::Block(&[500, 500, 3, 3, 993, 993, -11, -11]),
+            Action::Start(4, 60),
+            Action::Block(&[500, 500, 1000, 1000, -1000, -1000, 1000, 1000]),
         ],
     ),
     // A voice keeps its exclusive class of the time when its note started.
@@ -190,20 +190,23 @@ const PLAYED: [(&[u8], &[u8], &[Act]); 3] = [
         THREE,
         OF_CLASS_1,
         &[
-            Act::Start(8, 67),
-            Act::Block(&[500, 500, 3, 3, 993, 993, -11, -11]),
-            Act::ClearClass,
-            Act::Start(4, 60),
-            Act::Block(&[-487, -487, 1016, 1016, -21, -21, 976, 976]),
+            Action::Start(8, 67),
+            Action::Block(&[500, 500, 3, 3, 993, 993, -11, -11]),
+            Action::ClearClass,
+            Action::Start(4, 60),
+            Action::Block(&[-487, -487, 1016, 1016, -21, -21, 976, 976]),
         ],
     ),
 ];
 
 #[test]
 fn slices_and_classes(rt: HostRuntime) -> Result<(), Fail> {
-    for (row, (sample, instrument, acts)) in PLAYED.into_iter().enumerate() {
+    for (row, (sample, instrument, actions)) in PLAYED.into_iter().enumerate() {
         let file = file_of(rt.alloc(), sample, instrument)?;
-        assert!(rt; goes(rt.alloc(), file.as_slice(), acts)?, "row {row}");
+        assert!(rt;
+            plays_as_expected(rt.alloc(), file.as_slice(), actions)?,
+            "row {row}"
+        );
     }
     Ok(())
 }

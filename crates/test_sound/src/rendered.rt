@@ -18,9 +18,9 @@ fn rendered(alloc: Global, notes: &[u8]) -> Result<Vec<i16>, Fail> {
 #[test]
 fn two_notes(rt: HostRuntime) -> Result<(), Fail> {
     let sides = rendered(rt.alloc(), b"4 4 0 0 60 127\n0 8 0 0 67 127")?;
-    let worked: [i16; 16] = [
+    let expected: [i16; 16] = [
         500, 500, 3, 3, 993, 993, -11, -11, -487, -487, 1016, 1016, -21, -21, 976, 976,
     ];
-    assert!(rt; sides.as_slice() == worked.as_slice());
+    assert!(rt; sides.as_slice() == expected.as_slice());
     Ok(())
 }

@@ -20,7 +20,7 @@ fn plain(end: u32, length: u32) -> VoiceParameters {
         loop_end: 0,
         looped: false,
         until_release: false,
-        step: 65536,
+        phase_increment: 65536,
         delay: 0,
         attack: 0,
         hold: 0,
@@ -40,14 +40,18 @@ fn looped() -> VoiceParameters {
     parameters.loop_start = 1;
     parameters.loop_end = 3;
     parameters.looped = true;
-    parameters.step = 98193;
+    parameters.phase_increment = 98193;
     parameters
 }
 
 // The voice over these points; `None` if a parameter is out of its range.
 fn voice_of<'a>(points: Points<'a>, parameters: VoiceParameters) -> Option<Voice<'a>> {
     let p = parameters;
-    if p.end as usize > points.len() || p.step > 73_043_661 || p.pan < -500 || p.pan > 500 {
+    if p.end as usize > points.len()
+        || p.phase_increment > 73_043_661
+        || p.pan < -500
+        || p.pan > 500
+    {
         return None;
     }
     if p.looped && (p.loop_start >= p.loop_end || p.loop_end > p.end) {
@@ -153,7 +157,7 @@ fn a_loop_goes_round(rt: HostRuntime) -> Result<(), Fail> {
 }
 
 #[test]
-fn a_run_is_cut_anywhere(rt: HostRuntime) -> Result<(), Fail> {
+fn a_run_is_split_anywhere(rt: HostRuntime) -> Result<(), Fail> {
     let mut voice = voice_over(rt.alloc(), &THREE, looped())?.expect(&rt, "a voice");
     let mut front: [i32; 6] = silence();
     add(&mut voice, &mut front);
@@ -193,21 +197,21 @@ fn an_attack_and_a_release_on_the_right(rt: HostRuntime) -> Result<(), Fail> {
     let mut sums: [i32; 186] = silence();
     add(&mut voice, &mut sums);
     assert!(rt; voice.done());
-    let heard = [0, 1, 42, 43, 50, 71, 92].map(|frame| frame_of(&sums, frame));
+    let chosen_frames = [0, 1, 42, 43, 50, 71, 92].map(|frame| frame_of(&sums, frame));
     let right = [0, 23, 976, 1000, 1000, 4, 0];
-    assert!(rt; heard == right.map(|side| Some((0, side))));
+    assert!(rt; chosen_frames == right.map(|side| Some((0, side))));
     Ok(())
 }
 
 #[test]
-fn a_loop_that_the_notes_end_leaves(rt: HostRuntime) -> Result<(), Fail> {
+fn a_loop_until_release(rt: HostRuntime) -> Result<(), Fail> {
     let bytes = [0xe8, 0x03, 0xd0, 0x07, 0x30, 0xf8, 0xb8, 0x0b, 0x00, 0x80];
     let mut parameters = plain(5, 6);
     parameters.loop_start = 1;
     parameters.loop_end = 3;
     parameters.looped = true;
     parameters.until_release = true;
-    parameters.step = 49152;
+    parameters.phase_increment = 49152;
     parameters.release = 1000;
     parameters.attenuation = 60;
     parameters.pan = -250;
@@ -239,7 +243,7 @@ fn over_three_slices(alloc: Global) -> Result<Option<Voice<'static>>, Fail> {
         return Ok(None);
     }
     let mut parameters = plain(7, 20);
-    parameters.step = 40000;
+    parameters.phase_increment = 40000;
     Ok(voice_of(points, parameters))
 }
 

@@ -1,6 +1,6 @@
 //! Tests of `Voice::start` and `params`, on banks made by scripts.
 
-use crate::players::{Act, TEN, edits};
+use crate::players::{Action, TEN, edits};
 use script_notes::Note;
 use sf_reader::read;
 use sfbank::edit_run;
@@ -136,7 +136,7 @@ const PLAYED: [(&[u8], (u32, u8), Frames<'static>); 7] = [
 ];
 
 #[test]
-fn worked_voices(rt: HostRuntime) -> Result<(), Fail> {
+fn frames_of_started_voices(rt: HostRuntime) -> Result<(), Fail> {
     for (instrument, sound, frames) in PLAYED {
         let file = file_of(rt.alloc(), THREE, instrument)?;
         let note = Note::new(0, sound.0, 0, 0, sound.1, 127).expect(&rt, "a note");
@@ -254,7 +254,7 @@ fn no_such_pair(rt: HostRuntime) -> Result<(), Fail> {
 fn frames_over_three_slices(alloc: Global) -> Result<Vec<(i32, i32)>, Fail> {
     let file = file_of(alloc, TEN, b"add-inst 0 \"i\" { 0 }\n")?;
     let (mut bank, _counts) = read(alloc, file.as_slice())?;
-    if !edits(alloc, &mut bank, Act::Extend)? {
+    if !edits(alloc, &mut bank, Action::Extend)? {
         return Ok(Vec::new(alloc));
     }
     match Note::new(0, 12, 0, 0, 60, 127) {
@@ -266,7 +266,7 @@ fn frames_over_three_slices(alloc: Global) -> Result<Vec<(i32, i32)>, Fail> {
 #[test]
 fn a_sample_over_three_slices(rt: HostRuntime) -> Result<(), Fail> {
     let left = [5, 0, 1, 1, 2, 2, 3, 3, 4, 4, 5, 6];
-    let worked = left.map(|side| (side, side));
-    assert!(rt; frames_over_three_slices(rt.alloc())?.as_slice() == worked.as_slice());
+    let expected = left.map(|side| (side, side));
+    assert!(rt; frames_over_three_slices(rt.alloc())?.as_slice() == expected.as_slice());
     Ok(())
 }

@@ -20,28 +20,28 @@ fn gains_of_attenuations(rt: HostRuntime) {
 
 #[test]
 fn frames_of_times(rt: HostRuntime) {
-    let worked = [
+    let expected = [
         frames(-12000),
         frames(-11999),
         frames(-1200),
         frames(0),
         frames(8000),
     ];
-    assert!(rt; worked == [0, 43, 22050, 44100, 4_480_284]);
+    assert!(rt; expected == [0, 43, 22050, 44100, 4_480_284]);
     let ends = [frames(i64::MIN), frames(8001), frames(i64::MAX)];
     assert!(rt; ends == [0, 4_480_284, 4_480_284]);
 }
 
 #[test]
 fn attenuations_of_velocities(rt: HostRuntime) {
-    let worked = [velatt(127), velatt(64), velatt(0), velatt(255)];
-    assert!(rt; worked == [0, 119, 960, 0]);
+    let expected = [velatt(127), velatt(64), velatt(0), velatt(255)];
+    assert!(rt; expected == [0, 119, 960, 0]);
 }
 
 #[test]
 fn steps_of_intervals(rt: HostRuntime) {
-    let worked = [step(700, 44100), step(0, 44100), step(-14400, 400)];
-    assert!(rt; worked == [98193, 65536, 0]);
+    let expected = [step(700, 44100), step(0, 44100), step(-14400, 400)];
+    assert!(rt; expected == [98193, 65536, 0]);
     let octaves = [step(-1200, 44100), step(1200, 44100), step(0, 22050)];
     assert!(rt; octaves == [32768, 131_072, 32768]);
     let ends = [step(i64::MIN, 0), step(0, 0), step(i64::MAX, u32::MAX)];

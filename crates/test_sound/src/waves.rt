@@ -26,7 +26,7 @@ const SILENCE: &[u8] =
 data\0\0\0\0";
 
 #[test]
-fn worked_files(rt: HostRuntime) {
+fn whole_files(rt: HostRuntime) {
     let mut out = Vec::new(rt.alloc());
     assert!(rt; write_wave(&FRAMES, &mut out).is_ok());
     assert!(rt; out.as_slice() == FILE);
@@ -74,19 +74,19 @@ fn a_long_file(rt: HostRuntime) {
 
 /// A writer that accepts `room` bytes, at most 1000 a call, and no more.
 #[derive(Drop)]
-struct Short {
+struct LimitedWriter {
     held: Vec<u8>,
     room: usize,
 }
 
-impl Write for Short {
+impl Write for LimitedWriter {
     ghost contents = { λ s. Some s.held.items };
 
     fn write(&mut self, buf: &[u8]) -> io::Result<usize> {
-        let taken = front_of(buf, self.room.min(1000));
-        self.held.extend_from_slice(taken)?;
-        self.room -= taken.len();
-        Ok(taken.len())
+        let accepted = front_of(buf, self.room.min(1000));
+        self.held.extend_from_slice(accepted)?;
+        self.room -= accepted.len();
+        Ok(accepted.len())
     }
 
     fn flush(&mut self) -> io::Result<()> {
@@ -95,10 +95,10 @@ impl Write for Short {
 }
 
 /// Writes the samples as a WAVE file to a writer with this room. Returns what it holds, and the count of the fault.
-fn cut_off(alloc: Global, samples: &[i16], room: usize) -> (Vec<u8>, Option<u64>)
+fn written_until_full(alloc: Global, samples: &[i16], room: usize) -> (Vec<u8>, Option<u64>)
     requires { FitsWave samples.now }
 {
-    let mut out = Short {
+    let mut out = LimitedWriter {
         held: Vec::new(alloc),
         room,
     };
@@ -107,19 +107,19 @@ fn cut_off(alloc: Global, samples: &[i16], room: usize) -> (Vec<u8>, Option<u64>
 }
 
 #[test]
-fn writers_that_take_no_more(rt: HostRuntime) {
+fn writers_that_accept_no_more(rt: HostRuntime) {
     for room in 0..76 {
-        let (held, written) = cut_off(rt.alloc(), &FRAMES, room);
+        let (held, written) = written_until_full(rt.alloc(), &FRAMES, room);
         assert!(rt;
             held.as_slice() == &FILE[..room] && written == Some(room as u64),
             "room {room}"
         );
     }
-    let (held, written) = cut_off(rt.alloc(), &FRAMES, 76);
+    let (held, written) = written_until_full(rt.alloc(), &FRAMES, 76);
     assert!(rt; held.as_slice() == FILE && written == None);
     let samples = many();
     for room in [43, 44, 8191, 8236, 8237, 20_043] {
-        let (held, written) = cut_off(rt.alloc(), &samples, room);
+        let (held, written) = written_until_full(rt.alloc(), &samples, room);
         assert!(rt;
             held.len() == room && written == Some(room as u64),
             "room {room}"

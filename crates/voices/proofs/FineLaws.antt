@@ -5,9 +5,9 @@ use Rattle.std.proofs.lemmas.Int.{ints}
 use Rattle.std.proofs.lemmas.Nat.{div-add-mod', mod_below, mul-le}
 use Rattle.std.specs.Int.{w16, w32}
 use Rattle.std.specs.Int.Signed.{shr_z}
-use Rattle.sound_envelopes.proofs.LevelLaws.{product_within, shifted_down}
+use Rattle.sound_envelopes.proofs.GainLaws.{product_within, shifted_down}
 use Rattle.sound_tables.specs.Floor.{floor_div}
-use Rattle.voices.specs.Levels.{side, fine_of}
+use Rattle.voices.specs.Panning.{side, fine_of}
 
 -- a number, as its quotient rounded down and its remainder
 record Split (z : ℤ) (n : ℕ) : Type 0 where

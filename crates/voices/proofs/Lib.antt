@@ -1,6 +1,6 @@
-pub mod SideLaws
+pub mod PanningLaws
 pub mod FineLaws
-pub mod PlaceLaws
+pub mod PositionLaws
 pub mod OverLaws
 pub mod RunLaws
 pub mod SliceLaws

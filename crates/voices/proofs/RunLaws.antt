@@ -7,18 +7,18 @@ use Rattle.std.proofs.lemmas.Int.{ints}
 use Rattle.std.proofs.lemmas.Bool.{cases_lt}
 use Rattle.std.proofs.lemmas.Bool.Decides.{nat_tests}
 use Rattle.zone_select.specs.declared.parameters.VoiceParameters.{VoiceParameters}
-use Rattle.voices.specs.Levels.{side}
-use Rattle.voices.specs.Place.{wrapped, place, is_looping, is_over}
+use Rattle.voices.specs.Panning.{side}
+use Rattle.voices.specs.Position.{wrapped, position, is_looping, is_over}
 use Rattle.zone_select.specs.Playable.{IsPlayable}
 use Rattle.zone_select.specs.Select.{Voice}
-use Rattle.voices.specs.Sound.{snd, sound_at, heard_at, part_of}
+use Rattle.voices.specs.Sound.{snd, unpanned_frame_at, frame_or_silence_at, part_of}
 use Rattle.voices.specs.Within.{IsWithin}
-use Rattle.voices.specs.Runs.{IsAdded, IsShared, IsStretch, limit, gone_on}
-use Rattle.voices.proofs.PlaceLaws.{place_more, place_inside, wrapped_above, wrapped_below, wrapped_step}
+use Rattle.voices.specs.Runs.{IsAdded, IsShared, IsStretch, limit, wrapped_position}
+use Rattle.voices.proofs.PositionLaws.{position_more, position_inside, wrapped_above, wrapped_below, wrapped_step}
 use Rattle.std.proofs.lemmas.Nat.{div-add-mod'}
-use Rattle.voices.proofs.OverLaws.{loop_left_stays, over_stays, place_sounds}
-use Rattle.voices.proofs.SideLaws.{side_of_none}
-use Rattle.sound_tables.specs.Floor.{above_zero}
+use Rattle.voices.proofs.OverLaws.{loop_left_stays, over_stays, position_sounds}
+use Rattle.voices.proofs.PanningLaws.{side_of_none}
+use Rattle.sound_tables.specs.Floor.{clamped_at_zero}
 
 same_end : (l t k : ℕ) → (t < l → t + k < l) → nat_le l (t + k) ≡ nat_le l t
 same_end l t k h =
@@ -39,23 +39,23 @@ same_loop v t k h = ap (λ b. v.looped && not (v.until_release && b)) (same_end 
 -- without an active loop the position advances linearly
 pub straight_on : (v : VoiceParameters) (t k : ℕ) → (v.looped ≡ true → v.loop_start < v.loop_end)
     → is_looping v t ≡ false
-    → (is_looping v (t + k) ≡ false) × (place v (t + k) ≡ place v t + k * v.step)
+    → (is_looping v (t + k) ≡ false) × (position v (t + k) ≡ position v t + k * v.phase_increment)
 straight_on v t zero h e =
     let q : t ≡ t + 0 = omega arith in
-    (subst (λ x. is_looping v x ≡ false) q e, subst (λ x. place v x ≡ place v t + 0 * v.step) q (omega arith))
+    (subst (λ x. is_looping v x ≡ false) q e, subst (λ x. position v x ≡ position v t + 0 * v.phase_increment) q (omega arith))
 straight_on v t (suc k) h e =
     let ih = straight_on v t k h e in
     let q : t + k + 1 ≡ t + suc k = omega arith in
-    let m : place v (t + k + 1) ≡ place v (t + k) + v.step =
-    place_more v (t + k) h
+    let m : position v (t + k + 1) ≡ position v (t + k) + v.phase_increment =
+    position_more v (t + k) h
     ∙ ap
     (λ b.
-    cond b (wrapped (65536 * v.loop_start) (65536 * v.loop_end) (place v (t + k) + v.step))
-    (place v (t + k) + v.step))
+    cond b (wrapped (65536 * v.loop_start) (65536 * v.loop_end) (position v (t + k) + v.phase_increment))
+    (position v (t + k) + v.phase_increment))
     ih.0 in
-    let f : place v (t + k + 1) ≡ place v t + suc k * v.step = m ∙ ap (λ x. x + v.step) ih.1 ∙ omega arith in (
+    let f : position v (t + k + 1) ≡ position v t + suc k * v.phase_increment = m ∙ ap (λ x. x + v.phase_increment) ih.1 ∙ omega arith in (
       subst (λ x. is_looping v x ≡ false) q (loop_left_stays v (t + k) ih.0),
-      subst (λ x. place v x ≡ place v t + suc k * v.step) q f,
+      subst (λ x. position v x ≡ position v t + suc k * v.phase_increment) q f,
     )
 
 not_over : (ended looping : Bool) (at end : ℕ) → ended ≡ false → (looping ≡ false → at < end)
@@ -66,7 +66,7 @@ not_over true looping at end e h = absurd cc
 
 pub stretch_is : (v : VoiceParameters) (t n : ℕ) → (v.looped ≡ true → v.loop_start < v.loop_end)
     → t + n < 8589934592 → t + n ≤ v.length + v.release → (t < v.length → t + n ≤ v.length)
-    → (is_looping v t ≡ false → (k : ℕ) → k < n → place v t + k * v.step < 65536 * v.end)
+    → (is_looping v t ≡ false → (k : ℕ) → k < n → position v t + k * v.phase_increment < 65536 * v.end)
     → IsStretch v t n
 stretch_is v t n h young unreleased before near = record {
   young = young;
@@ -76,11 +76,11 @@ stretch_is v t n h young unreleased before near = record {
   sounds = λ k l.
       let s : is_looping v (t + k) ≡ is_looping v t =
       same_loop v t k (λ g. let b : t + n ≤ v.length = before g in omega arith) in
-      not_over (nat_le (v.length + v.release) (t + k)) (is_looping v (t + k)) (place v (t + k)) (65536 * v.end)
+      not_over (nat_le (v.length + v.release) (t + k)) (is_looping v (t + k)) (position v (t + k)) (65536 * v.end)
       (let u : t + k < v.length + v.release = omega arith in grind (arith, nat_tests))
       (λ e. let f : is_looping v t ≡ false = sym s ∙ e in
-      let p : place v (t + k) ≡ place v t + k * v.step = (straight_on v t k h f).1 in
-      let b : place v t + k * v.step < 65536 * v.end = near f k l in omega arith);
+      let p : position v (t + k) ≡ position v t + k * v.phase_increment = (straight_on v t k h f).1 in
+      let b : position v t + k * v.phase_increment < 65536 * v.end = near f k l in omega arith);
 }
 
 -- a sum of at most 65534 voices has space for one more
@@ -143,7 +143,7 @@ silent_added was s sum e f =
 -- a voice that is over is silent
 pub over_is_silent : (v : Voice) (left : Bool) (t : ℕ) → is_over v.parameters t ≡ true → snd v left t ≡ pos 0
 unfolding snd
-over_is_silent v left t e = ap (λ b. cond b (pos 0) (side (sound_at v t) (part_of v.parameters left))) e
+over_is_silent v left t e = ap (λ b. cond b (pos 0) (side (unpanned_frame_at v t) (part_of v.parameters left))) e
 
 -- adding a stretch, with frames counted from the start of the run
 pub later_added : (v : Voice) (age at k : ℕ) (was was' sum : ℤ) → at % 2 ≡ 0 → was' ≡ was
@@ -157,18 +157,18 @@ later_added v age at k was was' sum even e a =
     (subst (λ x. IsAdded was' (snd v (nat_eq (k % 2) 0) x) sum) q a))
 
 -- the frame of a voice that isn't over, and of one that is
-pub heard_is : (v : Voice) (t : ℕ) → is_over v.parameters t ≡ false → heard_at v t ≡ sound_at v t
-unfolding heard_at
-heard_is v t e = ap (λ b. cond b (pos 0) (sound_at v t)) e
+pub heard_is : (v : Voice) (t : ℕ) → is_over v.parameters t ≡ false → frame_or_silence_at v t ≡ unpanned_frame_at v t
+unfolding frame_or_silence_at
+heard_is v t e = ap (λ b. cond b (pos 0) (unpanned_frame_at v t)) e
 
-pub heard_over : (v : Voice) (s t : ℕ) → is_over v.parameters s ≡ true → s ≤ t → heard_at v t ≡ pos 0
-unfolding heard_at
-heard_over v s t e l = ap (λ b. cond b (pos 0) (sound_at v t)) (over_stays v.parameters s t l e)
+pub heard_over : (v : Voice) (s t : ℕ) → is_over v.parameters s ≡ true → s ≤ t → frame_or_silence_at v t ≡ pos 0
+unfolding frame_or_silence_at
+heard_over v s t e l = ap (λ b. cond b (pos 0) (unpanned_frame_at v t)) (over_stays v.parameters s t l e)
 
 -- panning a frame gives its side
-heard_side : (v : Voice) (left : Bool) (t : ℕ) → side (heard_at v t) (part_of v.parameters left) ≡ snd v left t
-unfolding heard_at snd
-heard_side v left t = by_case (is_over v.parameters t) (sound_at v t) (part_of v.parameters left)
+heard_side : (v : Voice) (left : Bool) (t : ℕ) → side (frame_or_silence_at v t) (part_of v.parameters left) ≡ snd v left t
+unfolding frame_or_silence_at snd
+heard_side v left t = by_case (is_over v.parameters t) (unpanned_frame_at v t) (part_of v.parameters left)
   where
     by_case : (over : Bool) (z : ℤ) (part : ℕ) → side (cond over (pos 0) z) part ≡ cond over (pos 0) (side z part)
     by_case true z part = side_of_none part
@@ -176,23 +176,23 @@ heard_side v left t = by_case (is_over v.parameters t) (sound_at v t) (part_of v
 
 pub heard_added : (v : Voice) (t i left right : ℕ) (z was sum : ℤ)
     → IsAdded was (side z (cond (nat_eq i 0) left right)) sum
-    → z ≡ heard_at v t → left ≡ part_of v.parameters true → right ≡ part_of v.parameters false
+    → z ≡ frame_or_silence_at v t → left ≡ part_of v.parameters true → right ≡ part_of v.parameters false
     → IsAdded was (snd v (nat_eq i 0) t) sum
 heard_added v t i left right z was sum a e f g =
     subst (λ (s : ℤ). IsAdded was s sum)
     (ap (λ (y : ℤ). side y (cond (nat_eq i 0) left right)) e ∙ by_side (nat_eq i 0)) a
   where
-    by_side : (b : Bool) → side (heard_at v t) (cond b left right) ≡ snd v b t
-    by_side true = ap (side (heard_at v t)) f ∙ heard_side v true t
-    by_side false = ap (side (heard_at v t)) g ∙ heard_side v false t
+    by_side : (b : Bool) → side (frame_or_silence_at v t) (cond b left right) ≡ snd v b t
+    by_side true = ap (side (frame_or_silence_at v t)) f ∙ heard_side v true t
+    by_side false = ap (side (frame_or_silence_at v t)) g ∙ heard_side v false t
 
 -- both sides of a centred voice get half of each frame
-pub central_side : (v : Voice) (left : Bool) (t : ℕ) → v.parameters.pan ≡ pos 0 → side (heard_at v t) 500 ≡ snd v left t
+pub central_side : (v : Voice) (left : Bool) (t : ℕ) → v.parameters.pan ≡ pos 0 → side (frame_or_silence_at v t) 500 ≡ snd v left t
 central_side v left t e =
-    ap (side (heard_at v t)) (by_side left ∙ sym (ap (λ p. above_zero (cond left (pos 500 -ℤ p) (pos 500 +ℤ p))) e))
+    ap (side (frame_or_silence_at v t)) (by_side left ∙ sym (ap (λ p. clamped_at_zero (cond left (pos 500 -ℤ p) (pos 500 +ℤ p))) e))
     ∙ heard_side v left t
   where
-    by_side : (b : Bool) → 500 ≡ above_zero (cond b (pos 500 -ℤ pos 0) (pos 500 +ℤ pos 0))
+    by_side : (b : Bool) → 500 ≡ clamped_at_zero (cond b (pos 500 -ℤ pos 0) (pos 500 +ℤ pos 0))
     by_side true = refl
     by_side false = refl
 
@@ -206,40 +206,40 @@ near_is x x' s s' e e' k p q r h =
     (subst (λ y. x + k * y < 65536 * e') q (subst (λ y. x + k * s < 65536 * y) r h))
 
 -- a voice that isn't over reads before the loop's end, or the sample's
-pub place_near : (n : ℕ) (v : VoiceParameters) (t : ℕ) (looping : Bool) → IsPlayable n v → is_over v t ≡ false
+pub position_near : (n : ℕ) (v : VoiceParameters) (t : ℕ) (looping : Bool) → IsPlayable n v → is_over v t ≡ false
     → is_looping v t ≡ looping
-    → place v t < 65536 * limit v looping
-place_near n v t true p o e = place_inside v t e p.ordered
-place_near n v t false p o e = place_sounds n v t p o
+    → position v t < 65536 * limit v looping
+position_near n v t true p o e = position_inside v t e p.ordered
+position_near n v t false p o e = position_sounds n v t p o
 
 -- the position k frames later can be wrapped in one step
-pub place_on : (v : VoiceParameters) (t k : ℕ) (looping : Bool) → (v.looped ≡ true → v.loop_start < v.loop_end)
+pub position_on : (v : VoiceParameters) (t k : ℕ) (looping : Bool) → (v.looped ≡ true → v.loop_start < v.loop_end)
     → is_looping v t ≡ looping
     → ((j : ℕ) → j < k → is_looping v (t + j) ≡ looping) → (looping ≡ true → v.loop_start < v.loop_end)
-    → place v (t + k) ≡ gone_on v looping (place v t + k * v.step)
-place_on v t k false h e same o = (straight_on v t k h e).1
-place_on v t zero true h e same o =
-    let q : place v t ≡ place v (t + 0) = ap (place v) (omega arith) in
-    let r : place v t ≡ place v t + 0 * v.step = omega arith in
-    sym q ∙ sym (wrapped_below (65536 * v.loop_start) (65536 * v.loop_end) (place v t) (place_inside v t e h))
+    → position v (t + k) ≡ wrapped_position v looping (position v t + k * v.phase_increment)
+position_on v t k false h e same o = (straight_on v t k h e).1
+position_on v t zero true h e same o =
+    let q : position v t ≡ position v (t + 0) = ap (position v) (omega arith) in
+    let r : position v t ≡ position v t + 0 * v.phase_increment = omega arith in
+    sym q ∙ sym (wrapped_below (65536 * v.loop_start) (65536 * v.loop_end) (position v t) (position_inside v t e h))
     ∙ ap (wrapped (65536 * v.loop_start) (65536 * v.loop_end)) r
-place_on v t (suc k) true h e same o =
+position_on v t (suc k) true h e same o =
     let from = 65536 * v.loop_start in
     let to = 65536 * v.loop_end in
-    let ih : place v (t + k) ≡ wrapped from to (place v t + k * v.step) =
-    place_on v t k true h e (λ j l. same j (omega arith)) o in
-    let q : place v (t + suc k) ≡ place v (t + k + 1) = ap (place v) (omega arith) in
+    let ih : position v (t + k) ≡ wrapped from to (position v t + k * v.phase_increment) =
+    position_on v t k true h e (λ j l. same j (omega arith)) o in
+    let q : position v (t + suc k) ≡ position v (t + k + 1) = ap (position v) (omega arith) in
     let lt : v.loop_start < v.loop_end = o refl in
-    let m : place v (t + k + 1) ≡ wrapped from to (place v (t + k) + v.step) =
-    place_more v (t + k) h
-    ∙ ap (λ b. cond b (wrapped from to (place v (t + k) + v.step)) (place v (t + k) + v.step))
+    let m : position v (t + k + 1) ≡ wrapped from to (position v (t + k) + v.phase_increment) =
+    position_more v (t + k) h
+    ∙ ap (λ b. cond b (wrapped from to (position v (t + k) + v.phase_increment)) (position v (t + k) + v.phase_increment))
     (same k (omega arith)) in
-    let r : place v t + k * v.step + v.step ≡ place v t + suc k * v.step = omega arith in
-    q ∙ m ∙ ap (λ x. wrapped from to (x + v.step)) ih
-    ∙ wrapped_step from to (place v t + k * v.step) v.step (omega arith) ∙ ap (wrapped from to) r
+    let r : position v t + k * v.phase_increment + v.phase_increment ≡ position v t + suc k * v.phase_increment = omega arith in
+    q ∙ m ∙ ap (λ x. wrapped from to (x + v.phase_increment)) ih
+    ∙ wrapped_step from to (position v t + k * v.phase_increment) v.phase_increment (omega arith) ∙ ap (wrapped from to) r
 
 -- before its limit a position doesn't wrap
-pub gone_near : (v : VoiceParameters) (looping : Bool) (x : ℕ) → x < 65536 * limit v looping → gone_on v looping x ≡ x
+pub gone_near : (v : VoiceParameters) (looping : Bool) (x : ℕ) → x < 65536 * limit v looping → wrapped_position v looping x ≡ x
 gone_near v true x h = wrapped_below (65536 * v.loop_start) (65536 * v.loop_end) x h
 gone_near v false x h = refl
 
@@ -250,7 +250,7 @@ whole_part y w =
 
 -- wrapping keeps the fraction of a position
 pub gone_part : (v : VoiceParameters) (looping : Bool) (x : ℕ) → (looping ≡ true → v.loop_start < v.loop_end)
-    → gone_on v looping x % 65536 ≡ x % 65536
+    → wrapped_position v looping x % 65536 ≡ x % 65536
 gone_part v false x h = refl
 gone_part v true x h =
     let from = 65536 * v.loop_start in
@@ -266,8 +266,8 @@ gone_part v true x h =
     ]
 
 -- the fraction of a position k frames later, from fractions alone
-pub same_part : (x step k : ℕ) → (x % 65536 + k * (step % 65536)) % 65536 ≡ (x + k * step) % 65536
-same_part x step k =
-    let e : step ≡ step / 65536 * 65536 + step % 65536 = omega arith in
-    let f : k * step ≡ k * (step / 65536) * 65536 + k * (step % 65536) = ap (λ y. k * y) e ∙ omega arith in
+pub same_part : (x phase_increment k : ℕ) → (x % 65536 + k * (phase_increment % 65536)) % 65536 ≡ (x + k * phase_increment) % 65536
+same_part x phase_increment k =
+    let e : phase_increment ≡ phase_increment / 65536 * 65536 + phase_increment % 65536 = omega arith in
+    let f : k * phase_increment ≡ k * (phase_increment / 65536) * 65536 + k * (phase_increment % 65536) = ap (λ y. k * y) e ∙ omega arith in
     omega (arith, f)

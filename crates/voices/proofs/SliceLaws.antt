@@ -11,9 +11,9 @@ use Rattle.std.proofs.lemmas.List.{length-drop, drop-take}
 use Rattle.std.proofs.lemmas.Grind.{common_steps}
 use Rattle.zone_select.specs.declared.parameters.VoiceParameters.{VoiceParameters}
 use Rattle.voices.specs.declared.slices.Slice.{Slice}
-use Rattle.voices.specs.Course.{IsInHand}
+use Rattle.voices.specs.VoiceState.{IsCurrentSlice}
 use Rattle.voices.specs.Points.{between, point_at, follower, point_of}
-use Rattle.voices.specs.Runs.{limit, pair_at, pair_says, straight}
+use Rattle.voices.specs.Runs.{limit, pair_at, interpolated_pair, straight}
 
 word_at : (bytes : List ℕ) (i : ℕ) → 2 * i + 1 < length bytes
     → get_or (words bytes) i 0 ≡ get_or bytes (2 * i) 0 + 256 * get_or bytes (2 * i + 1) 0
@@ -78,12 +78,12 @@ straight_is points bytes v looping i first x run l from last slice =
     ∙ ap (between (point_at points (x / 65536)) (follower points v looping (x / 65536))) f.1
 
 -- interpolation of a pair is interpolation in its slice
-pub pair_straight : (bytes : List ℕ) (place : ℕ) → ((j : ℕ) → get_or bytes j 0 < 256)
-    → 2 * (place / 65536) + 3 < length bytes
-    → pair_says (pair_at (words bytes) (place / 65536)) (place % 65536) ≡ straight (words bytes) place
+pub pair_straight : (bytes : List ℕ) (position : ℕ) → ((j : ℕ) → get_or bytes j 0 < 256)
+    → 2 * (position / 65536) + 3 < length bytes
+    → interpolated_pair (pair_at (words bytes) (position / 65536)) (position % 65536) ≡ straight (words bytes) position
 unfolding straight point_at
-pair_straight bytes place all h =
-    let i = place / 65536 in
+pair_straight bytes position all h =
+    let i = position / 65536 in
     let ws = words bytes in
     let e = word_at bytes i (omega arith) in
     let low_byte : get_or bytes (2 * i) 0 < 256 = all (2 * i) in
@@ -91,8 +91,8 @@ pair_straight bytes place all h =
     let fits : get_or ws i 0 < 65536 = omega (arith, e) in
     let here : pair_at ws i % 65536 ≡ get_or ws i 0 = omega arith in
     let next : pair_at ws i / 65536 ≡ get_or ws (i + 1) 0 = omega arith in
-    ap (λ y. between (cast_signed w16 y) (cast_signed w16 (pair_at ws i / 65536)) (place % 65536)) here
-    ∙ ap (λ y. between (cast_signed w16 (get_or ws i 0)) (cast_signed w16 y) (place % 65536)) next
+    ap (λ y. between (cast_signed w16 y) (cast_signed w16 (pair_at ws i / 65536)) (position % 65536)) here
+    ∙ ap (λ y. between (cast_signed w16 (get_or ws i 0)) (cast_signed w16 y) (position % 65536)) next
 
 -- the part of a slice from the point itself on
 pub run_from : (points bytes : List ℕ) (i first : ℕ) → IsRunAround points i bytes first
@@ -119,12 +119,12 @@ run_from points bytes i first run =
     }
 
 -- a slice that contains one point in place is a slice of these points
-pub in_hand : (points : List ℕ) (i place : ℕ) (slice : Slice) → IsRunAround points i slice.bytes.now place
-    → slice.first ≡ i - place → IsInHand points slice
-in_hand points i place slice run e = record {
+pub is_current : (points : List ℕ) (i position : ℕ) (slice : Slice) → IsRunAround points i slice.bytes.now position
+    → slice.first ≡ i - position → IsCurrentSlice points slice
+is_current points i position slice run e = record {
   holds = λ k le inside.
       let begins = run.begins in
-      let f : i - place ≡ k - (k - slice.first) = omega (arith, e, le, begins) in
+      let f : i - position ≡ k - (k - slice.first) = omega (arith, e, le, begins) in
       record {
         begins = omega arith;
         inside = omega (arith, inside);
@@ -134,5 +134,5 @@ in_hand points i place slice run e = record {
 }
 
 -- the empty slice is valid for any points
-pub none_in_hand : (points : List ℕ) (slice : Slice) → length slice.bytes.now ≡ 0 → IsInHand points slice
-none_in_hand points slice e = record { holds = λ k le inside. absurd (omega (arith, e, inside)) }
+pub none_is_current : (points : List ℕ) (slice : Slice) → length slice.bytes.now ≡ 0 → IsCurrentSlice points slice
+none_is_current points slice e = record { holds = λ k le inside. absurd (omega (arith, e, inside)) }

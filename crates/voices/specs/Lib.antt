@@ -1,9 +1,9 @@
 pub mod Classes
-pub mod Levels
-pub mod Place
+pub mod Panning
+pub mod Position
 pub mod Points
 pub mod Sound
 pub mod Within
 pub mod Runs
-pub mod Course
+pub mod VoiceState
 pub mod Starts

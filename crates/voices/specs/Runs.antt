@@ -3,7 +3,7 @@ use Rattle.std.specs.Prelude.{ℕ, ◌+◌, ◌*◌, ◌/◌, ◌%◌, Bool, con
 use Rattle.std.specs.Prelude.{◌≤ℤ◌, false, slice_index}
 use Rattle.std.specs.Int.{cast_signed, w16}
 use Rattle.zone_select.specs.declared.parameters.VoiceParameters.{VoiceParameters}
-use Rattle.voices.specs.Place.{wrapped, is_over, is_looping}
+use Rattle.voices.specs.Position.{wrapped, is_over, is_looping}
 use Rattle.voices.specs.Points.{between, point_at}
 use Rattle.voices.specs.Within.{IsWithin}
 
@@ -33,8 +33,8 @@ abbrev pub limit : VoiceParameters → Bool → ℕ
 limit v looping = cond looping v.loop_end v.end
 
 -- x, wrapped if the loop is active
-abbrev pub gone_on : VoiceParameters → Bool → ℕ → ℕ
-gone_on v looping x = cond looping (wrapped (65536 * v.loop_start) (65536 * v.loop_end) x) x
+abbrev pub wrapped_position : VoiceParameters → Bool → ℕ → ℕ
+wrapped_position v looping x = cond looping (wrapped (65536 * v.loop_start) (65536 * v.loop_end) x) x
 
 -- the interpolated point at a position, without a loop or an end
 unfoldable pub straight : List ℕ → ℕ → ℤ
@@ -45,5 +45,5 @@ abbrev pub pair_at : List ℕ → ℕ → ℕ
 pair_at points i = slice_index points i + 65536 * slice_index points (i + 1)
 
 -- linear interpolation between the two points of a pair, at `part` of 65536
-abbrev pub pair_says : ℕ → ℕ → ℤ
-pair_says pair part = between (cast_signed w16 (pair % 65536)) (cast_signed w16 (pair / 65536)) part
+abbrev pub interpolated_pair : ℕ → ℕ → ℤ
+interpolated_pair pair part = between (cast_signed w16 (pair % 65536)) (cast_signed w16 (pair / 65536)) part

@@ -10,12 +10,12 @@ use Rattle.voices.specs.declared.start.VoiceFault.TheVariants.{NoMatch, OutOfMem
 use Rattle.voices.specs.Sound.{Live}
 
 -- a voice at its first frame
-abbrev pub fresh : Voice → Live
-fresh v = record { value = v; age = 0 }
+abbrev pub at_first_frame : Voice → Live
+at_first_frame v = record { value = v; age = 0 }
 
 -- the voice of a pair, if the note selects the pair
 abbrev pub started : Parts → Numbers → ℕ × ℕ → Option Live
-started b n q = option_map fresh (voice_by b n q)
+started b n q = option_map at_first_frame (voice_by b n q)
 
 -- `NoMatch`: the note doesn't select the pair; `OutOfMemory` is only returned where it does
 abbrev pub IsStartFault : Option Live → VoiceFault → Type 0

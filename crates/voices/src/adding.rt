@@ -1,14 +1,14 @@
 //! Adds the next frames of a voice to sums.
 ghost use Rattle.std.specs.Prelude.{◌≡◌, ℕ, ◌+◌, ◌*◌, ◌/◌, ◌%◌, ◌^◌, ◌≤◌, ◌<◌, pos, EachIndex, length, nat_eq, slice_index_or};
 ghost use Rattle.zone_select.specs.Playable.{IsPlayable};
-ghost use Rattle.voices.specs.Course.{IsCourse};
+ghost use Rattle.voices.specs.VoiceState.{IsVoiceState};
 ghost use Rattle.voices.specs.Runs.{IsAdded, IsShared};
-ghost use Rattle.voices.specs.Sound.{heard_at, snd};
+ghost use Rattle.voices.specs.Sound.{frame_or_silence_at, snd};
 ghost use Rattle.voices.specs.Within.{AllWithin};
 
-use crate::courses::Course;
 use crate::frames::{left_part, right_part};
 use crate::runs::{add_halves_once, add_sides, fill_run};
+use crate::voice_state::VoiceState;
 use crate::workspace::{LONGEST, Stages};
 use sample_view::Points;
 use zone_select::VoiceParameters;
@@ -18,26 +18,26 @@ pub(crate) fn add_run<'a>(
     points: &Points<'a>,
     v: &VoiceParameters,
     age: u64,
-    course: &mut Course<'a>,
+    state: &mut VoiceState<'a>,
     stages: &mut Stages,
     run: &mut [i16; LONGEST],
     sums: &mut [i32],
 )
     requires playable { IsPlayable (length points.now) v.now }
-    requires course { IsCourse points.now v.now age course.old }
+    requires state { IsVoiceState points.now v.now age state.old }
     requires even { length sums.old % 2 ≡ 0 }
     requires young { age + length sums.old < 2 ^ 64 }
     requires room { AllWithin 65534 sums.old }
     ensures sums { EachIndex sums.new (λ i. IsAdded (slice_index_or sums.old i (pos 0))
         (snd (record { points = points.now; parameters = v.now }) (nat_eq (i % 2) 0) (age + i / 2))
         (slice_index_or sums.new i (pos 0))) }
-    ensures course { IsCourse points.now v.now (age + length sums.old / 2) course.new }
+    ensures state { IsVoiceState points.now v.now (age + length sums.old / 2) state.new }
 {
     let mut at = 0;
     while at < sums.len() {
         let n = ((sums.len() - at) / 2).min(LONGEST);
         let part = &mut run[..n];
-        fill_run(points, v, age + at as u64 / 2, course, stages, part);
+        fill_run(points, v, age + at as u64 / 2, state, stages, part);
         add_sides(part, left_part(v), right_part(v), &mut sums[at..at + 2 * n]);
         at += 2 * n;
     }
@@ -48,7 +48,7 @@ pub(crate) fn add_run_apart<'a>(
     points: &Points<'a>,
     v: &VoiceParameters,
     age: u64,
-    course: &mut Course<'a>,
+    state: &mut VoiceState<'a>,
     stages: &mut Stages,
     run: &mut [i16; LONGEST],
     sums: &mut [i32],
@@ -56,7 +56,7 @@ pub(crate) fn add_run_apart<'a>(
 )
     requires sums { length sums.old ≡ 2 * length middle.old }
     requires playable { IsPlayable (length points.now) v.now }
-    requires course { IsCourse points.now v.now age course.old }
+    requires state { IsVoiceState points.now v.now age state.old }
     requires short { length middle.old ≤ LONGEST }
     requires young { age + length middle.old < 2 ^ 64 }
     requires room { AllWithin 65534 sums.old }
@@ -64,10 +64,10 @@ pub(crate) fn add_run_apart<'a>(
     ensures sums { EachIndex sums.new (λ i. IsShared (slice_index_or sums.old i (pos 0)) (slice_index_or middle.old (i / 2) (pos 0))
         (snd (record { points = points.now; parameters = v.now }) (nat_eq (i % 2) 0) (age + i / 2))
         (slice_index_or sums.new i (pos 0)) (slice_index_or middle.new (i / 2) (pos 0))) }
-    ensures course { IsCourse points.now v.now (age + length middle.old) course.new }
+    ensures state { IsVoiceState points.now v.now (age + length middle.old) state.new }
 {
     let run = &mut run[..middle.len()];
-    fill_run(points, v, age, course, stages, run);
+    fill_run(points, v, age, state, stages, run);
     share(points, v, age, run, sums, middle);
 }
 
@@ -84,7 +84,7 @@ fn share(
     requires sums { length sums.old ≡ 2 * length middle.old }
     requires playable { IsPlayable (length points.now) v.now }
     requires heard { EachIndex run.now (λ k. slice_index_or run.now k (pos 0)
-        ≡ heard_at (record { points = points.now; parameters = v.now }) (age + k)) }
+        ≡ frame_or_silence_at (record { points = points.now; parameters = v.now }) (age + k)) }
     requires room { AllWithin 65534 sums.old }
     requires middle { AllWithin 65534 middle.old }
     ensures { EachIndex sums.new (λ i. IsShared (slice_index_or sums.old i (pos 0)) (slice_index_or middle.old (i / 2) (pos 0))

@@ -4,15 +4,15 @@
 ghost use Rattle.voices.specs.Sound.{OverStaysOver};
 
 mod adding;
-mod courses;
 mod frames;
-mod places;
+mod interpolation;
+mod panning;
+mod positions;
 mod runs;
-mod sampled;
-mod sides;
 mod slices;
 mod start;
 mod voice;
+mod voice_state;
 mod workspace;
 
 pub use start::VoiceFault;

@@ -1,24 +1,24 @@
 //! Runs of frames, computed in stages over short stretches: the points, the envelope and attenuation, and both sides.
 ghost use Rattle.std.specs.Prelude.{◌≡◌, ℕ, ◌+◌, ◌*◌, ◌/◌, ◌%◌, ◌^◌, ◌≤◌, ◌<◌, ◌≤ℤ◌, ◌+ℤ◌, pos, negsuc, true, false, cond, EachIndex, length, nat_eq, slice_index, slice_index_or};
 ghost use Rattle.sound_tables.specs.Tables.{gain_of};
-ghost use Rattle.sound_envelopes.specs.Levels.{scaled_by};
-ghost use Rattle.voices.specs.Levels.{side, turn_of};
-ghost use Rattle.voices.specs.Place.{is_over, place};
-ghost use Rattle.sound_envelopes.specs.Even.{IsEven};
-ghost use Rattle.voices.specs.Course.{IsCourse};
+ghost use Rattle.sound_envelopes.specs.Gain.{scaled_by};
+ghost use Rattle.voices.specs.Panning.{side, side_index};
+ghost use Rattle.voices.specs.Position.{is_over, position};
+ghost use Rattle.sound_envelopes.specs.Constant.{IsConstantUntil};
+ghost use Rattle.voices.specs.VoiceState.{IsVoiceState};
 ghost use Rattle.sound_envelopes.specs.Envelope.{held, envelope};
 ghost use Rattle.zone_select.specs.Playable.{IsPlayable};
-ghost use Rattle.voices.specs.Sound.{sound_at, heard_at};
+ghost use Rattle.voices.specs.Sound.{unpanned_frame_at, frame_or_silence_at};
 ghost use Rattle.voices.specs.Within.{AllWithin};
 ghost use Rattle.voices.specs.Runs.{IsAdded, IsStretch};
 
-use crate::courses::Course;
-use crate::places::{ONE_POINT, frames_before, is_looping_at};
-use crate::sides::{HALF, WHOLE, fine_part, finely_panned, halved};
+use crate::panning::{HALF, WHOLE, fine_part, finely_panned, halved};
+use crate::positions::{ONE_POINT, frames_before, is_looping_at};
 use crate::slices::fill_points;
+use crate::voice_state::VoiceState;
 use crate::workspace::{LONGEST, Stages};
 use sample_view::Points;
-use sound_envelopes::soften;
+use sound_envelopes::apply_envelope;
 use sound_tables::MOST_PHASE_INCREMENT;
 use zone_select::VoiceParameters;
 
@@ -26,9 +26,9 @@ use zone_select::VoiceParameters;
 // position of the first is `x`.
 fn stretch(v: &VoiceParameters, t: u64, x: u64, most: usize) -> usize
     requires loop_is { v.now.looped ≡ true → v.now.loop_start < v.now.loop_end }
-    requires steps { v.now.step ≤ MOST_PHASE_INCREMENT }
+    requires steps { v.now.phase_increment ≤ MOST_PHASE_INCREMENT }
     requires sounds { is_over v.now t ≡ false }
-    requires here { x ≡ place v.now t }
+    requires here { x ≡ position v.now t }
     requires young { (t < 2 ^ 33) × (t < v.now.length + v.now.release) }
     requires more { (0 < most) × (most ≤ LONGEST) }
     ensures some { (0 < result) × (result ≤ most) }
@@ -39,7 +39,7 @@ fn stretch(v: &VoiceParameters, t: u64, x: u64, most: usize) -> usize
         return n as usize;
     }
     let end = ONE_POINT * u64::from(v.end);
-    frames_before(x, u64::from(v.step), end, n) as usize
+    frames_before(x, u64::from(v.phase_increment), end, n) as usize
 }
 
 // How many frames, at most `most`, remain before the note's end or, from there on, before the release's.
@@ -65,7 +65,7 @@ fn fill_by_stages<'a>(
     points: &Points<'a>,
     v: &VoiceParameters,
     t: u64,
-    course: &mut Course<'a>,
+    state: &mut VoiceState<'a>,
     words: &mut [u32; LONGEST],
     levels: &mut [u16; LONGEST],
     others: &mut [u16; LONGEST],
@@ -73,27 +73,27 @@ fn fill_by_stages<'a>(
 )
     requires playable { IsPlayable (length points.now) v.now }
     requires one_way { IsStretch v.now t (length run.old) }
-    requires course { IsCourse points.now v.now t course.old }
-    requires heard { course.old.over ≡ false }
+    requires state { IsVoiceState points.now v.now t state.old }
+    requires heard { state.old.over ≡ false }
     requires short { length run.old ≤ LONGEST }
     ensures sounds { EachIndex run.new (λ k. slice_index_or run.new k (pos 0)
-        ≡ sound_at (record { points = points.now; parameters = v.now }) (t + k)) }
-    ensures course { IsCourse points.now v.now (t + length run.old) course.new }
+        ≡ unpanned_frame_at (record { points = points.now; parameters = v.now }) (t + k)) }
+    ensures state { IsVoiceState points.now v.now (t + length run.old) state.new }
 {
     let n = run.len();
     let words = &mut words[..n];
-    let (next, slice) = fill_points(points, v, t, course.place, course.slice, words, run);
-    let level = soften(
+    let (next, slice) = fill_points(points, v, t, state.position, state.slice, words, run);
+    let level = apply_envelope(
         v,
         t,
-        course.level,
-        course.at_end,
-        course.loudness,
+        state.level,
+        state.at_end,
+        state.loudness,
         &mut levels[..n],
         &mut others[..n],
         run,
     );
-    course.go_on(v, t + n as u64, next, level, slice);
+    state.advance_to(v, t + n as u64, next, level, slice);
 }
 
 // The side of a frame; its sums are interleaved with those of the other side.
@@ -103,8 +103,8 @@ enum Side {
 }
 
 // The index of a side's first sum.
-fn turn_of(side: Side) -> usize
-    ensures value { result ≡ turn_of side }
+fn side_index(side: Side) -> usize
+    ensures value { result ≡ side_index side }
     ensures first { result < 2 }
 {
     match side {
@@ -118,10 +118,10 @@ fn add_one_side(run: &[i16], heard: Side, sums: &mut [i32])
     requires long { length sums.old ≡ 2 * length run.now }
     requires room { AllWithin 65534 sums.old }
     ensures { EachIndex sums.new (λ i. IsAdded (slice_index_or sums.old i (pos 0))
-        (cond (nat_eq (i % 2) (turn_of heard)) (slice_index_or run.now (i / 2) (pos 0)) (pos 0))
+        (cond (nat_eq (i % 2) (side_index heard)) (slice_index_or run.now (i / 2) (pos 0)) (pos 0))
         (slice_index_or sums.new i (pos 0))) }
 {
-    let first = turn_of(heard);
+    let first = side_index(heard);
     for k in 0..run.len() {
         sums[2 * k + first] += i32::from(run[k]);
     }
@@ -199,31 +199,31 @@ pub(crate) fn fill_run<'a>(
     points: &Points<'a>,
     v: &VoiceParameters,
     age: u64,
-    course: &mut Course<'a>,
+    state: &mut VoiceState<'a>,
     stages: &mut Stages,
     run: &mut [i16],
 )
     requires playable { IsPlayable (length points.now) v.now }
-    requires here { IsCourse points.now v.now age course.old }
+    requires here { IsVoiceState points.now v.now age state.old }
     requires short { length run.old ≤ LONGEST }
     requires young { age + length run.old < 2 ^ 64 }
     ensures heard { EachIndex run.new (λ k. slice_index_or run.new k (pos 0)
-        ≡ heard_at (record { points = points.now; parameters = v.now }) (age + k)) }
-    ensures there { IsCourse points.now v.now (age + length run.old) course.new }
+        ≡ frame_or_silence_at (record { points = points.now; parameters = v.now }) (age + k)) }
+    ensures there { IsVoiceState points.now v.now (age + length run.old) state.new }
 {
     let mut at = 0;
     while at < run.len() {
         let t = age + at as u64;
-        if course.over {
+        if state.over {
             run[at..].fill(0);
             return;
         }
-        let n = stretch(v, t, course.place, run.len() - at);
+        let n = stretch(v, t, state.position, run.len() - at);
         fill_by_stages(
             points,
             v,
             t,
-            course,
+            state,
             &mut stages.words,
             &mut stages.levels,
             &mut stages.others,

@@ -2,14 +2,14 @@
 ghost use Rattle.std.specs.Prelude.{◌≡◌, ℕ, ◌+◌, ◌-◌, ◌*◌, ◌/◌, ◌%◌, ◌^◌, ◌≤◌, ◌<◌, ◌≤ℤ◌, pos, negsuc, true, EachIndex, length, slice_index, slice_index_or};
 ghost use Rattle.sample_view.specs.Runs.{IsRunAround};
 ghost use Rattle.sample_view.specs.Words.{words};
-ghost use Rattle.voices.specs.Course.{IsInHand};
-ghost use Rattle.voices.specs.Place.{is_looping, place};
+ghost use Rattle.voices.specs.VoiceState.{IsCurrentSlice};
+ghost use Rattle.voices.specs.Position.{is_looping, position};
 ghost use Rattle.voices.specs.Points.{point_of};
 ghost use Rattle.zone_select.specs.Playable.{IsPlayable};
-ghost use Rattle.voices.specs.Runs.{IsStretch, limit, pair_at, pair_says, straight};
+ghost use Rattle.voices.specs.Runs.{IsStretch, limit, pair_at, interpolated_pair, straight};
 
-use crate::places::{ONE_POINT, advanced, frames_before, is_looping_at};
-use crate::sampled::{interpolated, pair_of_place};
+use crate::interpolation::{interpolated, pair_at_position};
+use crate::positions::{ONE_POINT, advanced, frames_before, is_looping_at};
 use crate::workspace::LONGEST;
 use sample_view::Points;
 use zone_select::VoiceParameters;
@@ -35,75 +35,75 @@ const APART: usize = 16;
 
 // Reads some of the points ahead, so that memory fetches the parts of a slice in parallel and not one after another.
 // The reads are stored only so that the compiler keeps them; `read_pairs` overwrites the values.
-#[tactic(auto, using(crate::proofs::PlaceLaws::less_far))]
-fn read_ahead(bytes: &[u8], x: u32, step: u32, pairs: &mut [u32])
+#[tactic(auto, using(crate::proofs::PositionLaws::less_far))]
+fn read_ahead(bytes: &[u8], x: u32, phase_increment: u32, pairs: &mut [u32])
     requires short { length pairs.old ≤ LONGEST }
-    requires ends { (k : ℕ) → k < length pairs.old → 2 * ((x + k * step) / 65536) + 3 < length bytes.now }
-    requires near { x + length pairs.old * step < 2 ^ 32 }
+    requires ends { (k : ℕ) → k < length pairs.old → 2 * ((x + k * phase_increment) / 65536) + 3 < length bytes.now }
+    requires near { x + length pairs.old * phase_increment < 2 ^ 32 }
 {
     let mut k = 0;
     while k < pairs.len() {
-        let place = x + k as u32 * step;
-        pairs[k] = pair_in(bytes, (place >> 16) as usize);
+        let position = x + k as u32 * phase_increment;
+        pairs[k] = pair_in(bytes, (position >> 16) as usize);
         k += APART;
     }
 }
 
-// Reads the pairs of points around positions of a slice, from `x` on with `step` more for each frame, four frames at a
+// Reads the pairs of points around positions of a slice, from `x` on with `phase_increment` more for each frame, four frames at a
 // time, so that the four positions don't depend on one another. Returns how many frames were read.
-fn read_fours(bytes: &[u8], x: u32, step: u32, pairs: &mut [u32]) -> usize
-    requires ends { (k : ℕ) → k < length pairs.old → 2 * ((x + k * step) / 65536) + 3 < length bytes.now }
-    requires near { x + length pairs.old * step < 2 ^ 32 }
+fn read_fours(bytes: &[u8], x: u32, phase_increment: u32, pairs: &mut [u32]) -> usize
+    requires ends { (k : ℕ) → k < length pairs.old → 2 * ((x + k * phase_increment) / 65536) + 3 < length bytes.now }
+    requires near { x + length pairs.old * phase_increment < 2 ^ 32 }
     ensures most { result ≤ length pairs.new }
-    ensures value { (k : ℕ) → k < result → slice_index pairs.new k ≡ pair_at (words bytes.now) ((x + k * step) / 65536) }
+    ensures value { (k : ℕ) → k < result → slice_index pairs.new k ≡ pair_at (words bytes.now) ((x + k * phase_increment) / 65536) }
 {
-    let mut place = x;
+    let mut position = x;
     let mut k = 0;
     while 4 <= pairs.len() - k {
-        pairs[k] = pair_in(bytes, (place >> 16) as usize);
-        pairs[k + 1] = pair_in(bytes, ((place + step) >> 16) as usize);
-        pairs[k + 2] = pair_in(bytes, ((place + 2 * step) >> 16) as usize);
-        pairs[k + 3] = pair_in(bytes, ((place + 3 * step) >> 16) as usize);
-        place += 4 * step;
+        pairs[k] = pair_in(bytes, (position >> 16) as usize);
+        pairs[k + 1] = pair_in(bytes, ((position + phase_increment) >> 16) as usize);
+        pairs[k + 2] = pair_in(bytes, ((position + 2 * phase_increment) >> 16) as usize);
+        pairs[k + 3] = pair_in(bytes, ((position + 3 * phase_increment) >> 16) as usize);
+        position += 4 * phase_increment;
         k += 4;
     }
     k
 }
 
-// Reads the pairs of points around positions of a slice, from `x` on with `step` more for each frame.
-fn read_pairs(bytes: &[u8], x: u32, step: u32, pairs: &mut [u32])
+// Reads the pairs of points around positions of a slice, from `x` on with `phase_increment` more for each frame.
+fn read_pairs(bytes: &[u8], x: u32, phase_increment: u32, pairs: &mut [u32])
     requires short { length pairs.old ≤ LONGEST }
-    requires ends { (k : ℕ) → k < length pairs.old → 2 * ((x + k * step) / 65536) + 3 < length bytes.now }
-    requires near { x + length pairs.old * step < 2 ^ 32 }
-    ensures { EachIndex pairs.new (λ k. slice_index pairs.new k ≡ pair_at (words bytes.now) ((x + k * step) / 65536)) }
+    requires ends { (k : ℕ) → k < length pairs.old → 2 * ((x + k * phase_increment) / 65536) + 3 < length bytes.now }
+    requires near { x + length pairs.old * phase_increment < 2 ^ 32 }
+    ensures { EachIndex pairs.new (λ k. slice_index pairs.new k ≡ pair_at (words bytes.now) ((x + k * phase_increment) / 65536)) }
 {
-    let front = read_fours(bytes, x, step, pairs);
-    let mut place = x + front as u32 * step;
+    let front = read_fours(bytes, x, phase_increment, pairs);
+    let mut position = x + front as u32 * phase_increment;
     for k in front..pairs.len() {
-        pairs[k] = pair_in(bytes, (place >> 16) as usize);
-        place += step;
+        pairs[k] = pair_in(bytes, (position >> 16) as usize);
+        position += phase_increment;
     }
 }
 
 // Like `read_pairs`, but prefetches unless the points are near.
-fn read_straight(bytes: &[u8], near: bool, x: u32, step: u32, pairs: &mut [u32])
+fn read_straight(bytes: &[u8], near: bool, x: u32, phase_increment: u32, pairs: &mut [u32])
     requires short { length pairs.old ≤ LONGEST }
-    requires ends { (k : ℕ) → k < length pairs.old → 2 * ((x + k * step) / 65536) + 3 < length bytes.now }
-    requires near { x + length pairs.old * step < 2 ^ 32 }
-    ensures { EachIndex pairs.new (λ k. pair_says (slice_index pairs.new k) ((x + k * step) % 65536)
-        ≡ straight (words bytes.now) (x + k * step)) }
+    requires ends { (k : ℕ) → k < length pairs.old → 2 * ((x + k * phase_increment) / 65536) + 3 < length bytes.now }
+    requires near { x + length pairs.old * phase_increment < 2 ^ 32 }
+    ensures { EachIndex pairs.new (λ k. interpolated_pair (slice_index pairs.new k) ((x + k * phase_increment) % 65536)
+        ≡ straight (words bytes.now) (x + k * phase_increment)) }
 {
     if !near {
-        read_ahead(bytes, x, step, pairs);
+        read_ahead(bytes, x, phase_increment, pairs);
     }
-    read_pairs(bytes, x, step, pairs);
+    read_pairs(bytes, x, phase_increment, pairs);
 }
 
 // Linear interpolation between the two points of a pair, at `part` of 65536.
 #[inline(always)]
 fn between_pair(pair: u32, part: u32) -> i32
     requires { part < 65536 }
-    ensures value { result ≡ pair_says pair part }
+    ensures value { result ≡ interpolated_pair pair part }
     ensures low { negsuc 32767 ≤ℤ result }
     ensures high { result ≤ℤ pos 32767 }
 {
@@ -113,15 +113,15 @@ fn between_pair(pair: u32, part: u32) -> i32
 }
 
 // Interpolates between the points of each pair, at positions from `x` on.
-fn interpolate(pairs: &[u32], x: u32, step: u32, run: &mut [i16])
+fn interpolate(pairs: &[u32], x: u32, phase_increment: u32, run: &mut [i16])
     requires long { length pairs.now ≡ length run.old }
-    requires near { x + length run.old * step < 2 ^ 32 }
-    ensures { EachIndex run.new (λ k. slice_index_or run.new k (pos 0) ≡ pair_says (slice_index pairs.now k) ((x + k * step) % 65536)) }
+    requires near { x + length run.old * phase_increment < 2 ^ 32 }
+    ensures { EachIndex run.new (λ k. slice_index_or run.new k (pos 0) ≡ interpolated_pair (slice_index pairs.now k) ((x + k * phase_increment) % 65536)) }
 {
-    let mut place = x;
+    let mut position = x;
     for k in 0..run.len() {
-        run[k] = between_pair(pairs[k], place & 65535) as i16;
-        place += step;
+        run[k] = between_pair(pairs[k], position & 65535) as i16;
+        position += phase_increment;
     }
 }
 
@@ -149,18 +149,18 @@ impl<'a> Slice<'a> {
     // The cached slice if it contains point `i`; otherwise the slice that does.
     fn around(self, points: &Points<'a>, i: usize) -> Slice<'a>
         requires inside { i < length points.now }
-        requires in_hand { IsInHand points.now self }
-        ensures in_hand { IsInHand points.now result }
+        requires is_current { IsCurrentSlice points.now self }
+        ensures is_current { IsCurrentSlice points.now result }
         ensures begins { result.first ≤ i }
         ensures run { IsRunAround points.now i result.bytes.now (i - result.first) }
     {
         if self.first <= i && i - self.first < self.bytes.len() / 2 {
             return self;
         }
-        let (bytes, place) = points.slice_at(i);
+        let (bytes, position) = points.slice_at(i);
         Slice {
             bytes,
-            first: i - place,
+            first: i - position,
         }
     }
 }
@@ -181,25 +181,25 @@ fn fill_front<'a>(
     points: &Points<'a>,
     v: &VoiceParameters,
     looping: bool,
-    hand: Slice<'a>,
+    current: Slice<'a>,
     x: u64,
     pairs: &mut [u32],
 ) -> (usize, Slice<'a>)
     requires playable { IsPlayable (length points.now) v.now }
     requires looped { looping ≡ true → v.now.looped ≡ true }
-    requires in_hand { IsInHand points.now hand }
+    requires is_current { IsCurrentSlice points.now current }
     requires near { x < 65536 * limit v.now looping }
     requires some { (0 < length pairs.old) × (length pairs.old ≤ LONGEST) }
     ensures near { x < 2 ^ 48 }
     ensures some { (0 < result.0) × (result.0 ≤ length pairs.new) }
-    ensures before { (k : ℕ) → k < result.0 → x + k * v.now.step < 65536 * limit v.now looping }
+    ensures before { (k : ℕ) → k < result.0 → x + k * v.now.phase_increment < 65536 * limit v.now looping }
     ensures value { (k : ℕ) → k < result.0
-        → pair_says (slice_index pairs.new k) ((x + k * v.now.step) % 65536)
-        ≡ point_of points.now v.now looping (x + k * v.now.step) }
-    ensures in_hand { IsInHand points.now result.1 }
+        → interpolated_pair (slice_index pairs.new k) ((x + k * v.now.phase_increment) % 65536)
+        ≡ point_of points.now v.now looping (x + k * v.now.phase_increment) }
+    ensures is_current { IsCurrentSlice points.now result.1 }
 {
     let i = (x / ONE_POINT) as usize;
-    let slice = hand.around(points, i);
+    let slice = current.around(points, i);
     let first = i - slice.first;
     let ahead = &slice.bytes[2 * first..];
     let ends = (limit_of(v, looping) as usize - i)
@@ -208,11 +208,22 @@ fn fill_front<'a>(
     if 1 < ends {
         let part = (x % ONE_POINT) as u32;
         let to = ONE_POINT * (ends as u64 - 1);
-        let n = frames_before(u64::from(part), u64::from(v.step), to, pairs.len() as u64) as usize;
-        read_straight(ahead, is_near(v, looping, i), part, v.step, &mut pairs[..n]);
+        let n = frames_before(
+            u64::from(part),
+            u64::from(v.phase_increment),
+            to,
+            pairs.len() as u64,
+        ) as usize;
+        read_straight(
+            ahead,
+            is_near(v, looping, i),
+            part,
+            v.phase_increment,
+            &mut pairs[..n],
+        );
         (n, slice)
     } else {
-        pairs[0] = pair_of_place(points, v, looping, x);
+        pairs[0] = pair_at_position(points, v, looping, x);
         (1, slice)
     }
 }
@@ -232,22 +243,22 @@ fn fill_pairs<'a>(
     v: &VoiceParameters,
     t: u64,
     from: u64,
-    hand: Slice<'a>,
+    current: Slice<'a>,
     pairs: &mut [u32],
 ) -> (u64, Slice<'a>)
     requires playable { IsPlayable (length points.now) v.now }
     requires one_way { IsStretch v.now t (length pairs.old) }
-    requires here { from ≡ place v.now t }
-    requires in_hand { IsInHand points.now hand }
+    requires here { from ≡ position v.now t }
+    requires is_current { IsCurrentSlice points.now current }
     requires short { length pairs.old ≤ LONGEST }
-    ensures pairs { EachIndex pairs.new (λ k. pair_says (slice_index pairs.new k) ((from + k * v.now.step) % 65536)
-        ≡ point_of points.now v.now (is_looping v.now (t + k)) (place v.now (t + k))) }
-    ensures there { result.0 ≡ place v.now (t + length pairs.old) }
-    ensures in_hand { IsInHand points.now result.1 }
+    ensures pairs { EachIndex pairs.new (λ k. interpolated_pair (slice_index pairs.new k) ((from + k * v.now.phase_increment) % 65536)
+        ≡ point_of points.now v.now (is_looping v.now (t + k)) (position v.now (t + k))) }
+    ensures there { result.0 ≡ position v.now (t + length pairs.old) }
+    ensures is_current { IsCurrentSlice points.now result.1 }
 {
     let looping = is_looping_at(v, t);
     let mut x = from;
-    let mut slice = hand;
+    let mut slice = current;
     let mut at = 0;
     while at < pairs.len() {
         let (n, next) = fill_front(points, v, looping, slice, x, &mut pairs[at..]);
@@ -265,22 +276,22 @@ pub(crate) fn fill_points<'a>(
     v: &VoiceParameters,
     t: u64,
     from: u64,
-    hand: Slice<'a>,
+    current: Slice<'a>,
     pairs: &mut [u32],
     run: &mut [i16],
 ) -> (u64, Slice<'a>)
     requires playable { IsPlayable (length points.now) v.now }
     requires one_way { IsStretch v.now t (length run.old) }
-    requires here { from ≡ place v.now t }
-    requires in_hand { IsInHand points.now hand }
+    requires here { from ≡ position v.now t }
+    requires is_current { IsCurrentSlice points.now current }
     requires short { length run.old ≤ LONGEST }
     requires long { length pairs.old ≡ length run.old }
     ensures points { EachIndex run.new (λ k. slice_index_or run.new k (pos 0)
-        ≡ point_of points.now v.now (is_looping v.now (t + k)) (place v.now (t + k))) }
-    ensures there { result.0 ≡ place v.now (t + length run.old) }
-    ensures in_hand { IsInHand points.now result.1 }
+        ≡ point_of points.now v.now (is_looping v.now (t + k)) (position v.now (t + k))) }
+    ensures there { result.0 ≡ position v.now (t + length run.old) }
+    ensures is_current { IsCurrentSlice points.now result.1 }
 {
-    let behind = fill_pairs(points, v, t, from, hand, pairs);
-    interpolate(pairs, (from % 65536) as u32, v.step % 65536, run);
+    let behind = fill_pairs(points, v, t, from, current, pairs);
+    interpolate(pairs, (from % 65536) as u32, v.phase_increment % 65536, run);
     behind
 }

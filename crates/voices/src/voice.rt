@@ -2,14 +2,14 @@
 ghost use Rattle.std.specs.Prelude.{◌≡◌, ℕ, ◌+◌, ◌-◌, ◌*◌, ◌/◌, ◌%◌, ◌^◌, ◌≤◌, ◌<◌, ◌+ℤ◌, ◌≤ℤ◌, pos, negsuc, true, false, EachIndex, length, nat_eq, slice_index_or};
 ghost use Rattle.std.specs.Bool.{OnFalse};
 ghost use Rattle.voices.specs.Classes.{exclusive_class};
-ghost use Rattle.voices.specs.Place.{is_over};
+ghost use Rattle.voices.specs.Position.{is_over};
 ghost use Rattle.zone_select.specs.Playable.{IsPlayable};
 ghost use Rattle.voices.specs.Sound.{snd, after_frame};
 ghost use Rattle.voices.specs.Within.{AllWithin};
 
 use crate::adding::{add_run, add_run_apart};
-use crate::courses::Course;
-use crate::frames::{frame, next_place};
+use crate::frames::{frame, next_position};
+use crate::voice_state::VoiceState;
 use crate::workspace::{LONGEST, Workspace};
 use sample_view::Points;
 use std::marker::Model;
@@ -24,20 +24,20 @@ pub struct Voice<'a> {
     points: Points<'a>,
     parameters: VoiceParameters,
     age: u64,
-    course: Course<'a>,
+    state: VoiceState<'a>,
 }
 
 impl<'a> Model for Voice<'a> {
     ghost use Rattle.std.specs.Prelude.{length};
     ghost use Rattle.zone_select.specs.Playable.{IsPlayable};
-    ghost use Rattle.voices.specs.Course.{IsCourse};
+    ghost use Rattle.voices.specs.VoiceState.{IsVoiceState};
     ghost use Rattle.voices.specs.Sound.{Live};
 
     ghost Value = { Live };
 
     ghost view = { λ v. record { value = record { points = v.points; parameters = v.parameters }; age = v.age } };
 
-    ghost invariant = { λ v. IsPlayable (length v.points) v.parameters × IsCourse v.points v.parameters v.age v.course };
+    ghost invariant = { λ v. IsPlayable (length v.points) v.parameters × IsVoiceState v.points v.parameters v.age v.state };
 }
 
 impl<'a> Voice<'a> {
@@ -46,12 +46,12 @@ impl<'a> Voice<'a> {
         requires { IsPlayable (length points) parameters }
         ensures { result ≡ record { value = record { points = points.entry; parameters = parameters }; age = 0 } }
     {
-        let course = Course::start(&parameters);
+        let state = VoiceState::start(&parameters);
         Voice {
             points,
             parameters,
             age: 0,
-            course,
+            state,
         }
     }
 
@@ -60,7 +60,7 @@ impl<'a> Voice<'a> {
         ensures value { result ≡ is_over self.now.value.parameters self.now.age }
         ensures young { OnFalse result (self.now.age < 2 ^ 33) }
     {
-        self.course.over
+        self.state.over
     }
 
     /// The exclusive class of the voice's zones, if it isn't 0 (SoundFont 2.04, section 8.1.2, generator 57).
@@ -76,7 +76,7 @@ impl<'a> Voice<'a> {
     /// Returns the next frame, left and right, each from -32768 to 32767.
     ///
     /// A voice that is over returns silence and doesn't advance.
-    #[tactic(auto, using(sound_envelopes::proofs::PhaseLaws::even_later))]
+    #[tactic(auto, using(sound_envelopes::proofs::PhaseLaws::constant_later))]
     pub fn next_frame(&mut self) -> (i32, i32)
         ensures left { result.0 ≡ snd self.old.value true self.old.age }
         ensures right { result.1 ≡ snd self.old.value false self.old.age }
@@ -84,14 +84,15 @@ impl<'a> Voice<'a> {
         ensures right_fits { (negsuc 32767 ≤ℤ result.1) × (result.1 ≤ℤ pos 32767) }
         ensures live { self.new ≡ after_frame self.old }
     {
-        let course = self.course;
-        if course.over {
+        let state = self.state;
+        if state.over {
             return (0, 0);
         }
-        let sides = frame(&self.points, &self.parameters, self.age, course.place);
-        let next = next_place(&self.points, &self.parameters, self.age, course.place);
+        let sides = frame(&self.points, &self.parameters, self.age, state.position);
+        let next = next_position(&self.points, &self.parameters, self.age, state.position);
         self.age += 1;
-        self.course.go_on(&self.parameters, self.age, next, course.level, course.slice);
+        self.state
+            .advance_to(&self.parameters, self.age, next, state.level, state.slice);
         sides
     }
 
@@ -110,7 +111,7 @@ impl<'a> Voice<'a> {
             &self.points,
             &self.parameters,
             self.age,
-            &mut self.course,
+            &mut self.state,
             &mut work.stages,
             &mut work.run,
             sums,
@@ -138,7 +139,7 @@ impl<'a> Voice<'a> {
             &self.points,
             &self.parameters,
             self.age,
-            &mut self.course,
+            &mut self.state,
             &mut work.stages,
             &mut work.run,
             sums,
@@ -153,6 +154,6 @@ impl<'a> Voice<'a> {
         ensures { self.new ≡ record { value = self.old.value; age = self.old.age - frames } }
     {
         self.age -= frames;
-        self.course.go_to(&self.parameters, self.age);
+        self.state.move_to(&self.parameters, self.age);
     }
 }

@@ -14,8 +14,8 @@ use Rattle.sample_view.specs.Words.{word_bytes}
 use Rattle.sample_view.proofs.WordLaws.{words_of_bytes, length-word_bytes}
 use Rattle.riff_chunks.specs.Walk.{Chunk, walk}
 use Rattle.riff_chunks.specs.Finding.{chunks_in, is_whole, first_body}
-use Rattle.riff_chunks.specs.Spelling.{chunk, spell, FitsChunk}
-use Rattle.riff_chunks.proofs.SpellingLaws.{chunks_in-spell, is_whole-spell}
+use Rattle.riff_chunks.specs.Encoding.{chunk, encode, FitsChunk}
+use Rattle.riff_chunks.proofs.EncodingLaws.{chunks_in-encode, is_whole-encode}
 use Rattle.bank_parts.specs.declared.parts.Sample.{Sample}
 use Rattle.bank_parts.specs.Valid.{IsLoop}
 use Rattle.bank_parts.specs.Fits.{FitsSample, FitsLoop}
@@ -32,15 +32,15 @@ use Rattle.wave_file.specs.declared.recording.Layout.TheVariants as layout
 use Rattle.wave_file.specs.declared.recording.Format.{Format}
 use Rattle.wave_file.specs.declared.recording.Channels.TheVariants.{Mono}
 use Rattle.wave_file.specs.declared.recording.Pitch.{Pitch}
-use Rattle.bank_format.specs.Steps.{first_broken}
+use Rattle.bank_format.specs.FaultChecks.{first_fault}
 use Rattle.wave_file.specs.Recordings.{layout_in, format_in, channels_in, frame_count, forward_loop, ends_of}
 use Rattle.wave_file.specs.Recordings.{unity_note_in, fraction_in, data_in, pitch_held, is_held, held_in, pitch_of}
 use Rattle.wave_file.specs.Recordings.{sampler_in}
-use Rattle.wave_file.specs.ReadSteps.{riff_steps, format_steps, frame_steps, data_steps, has_loops, loop_steps}
-use Rattle.wave_file.specs.ReadSteps.{chunk_steps, sampler_steps, content_steps, content_in, window_steps, steps}
-use Rattle.wave_file.specs.ReadSteps.{unless_broken, recording_in}
+use Rattle.wave_file.specs.ReadChecks.{riff_checks, format_checks, frame_checks, data_checks, has_loops, loop_checks}
+use Rattle.wave_file.specs.ReadChecks.{chunk_checks, sampler_checks, content_checks, content_in, window_checks, steps}
+use Rattle.wave_file.specs.ReadChecks.{unless_broken, recording_in}
 use Rattle.wave_file.specs.Laws.{recorded, WavesReadBack}
-use Rattle.bank_format.proofs.StepLaws.{then_none}
+use Rattle.bank_format.proofs.CheckLaws.{then_none}
 use Rattle.bank_format.proofs.FormLaws.{same_bytes, form_window, form_holds}
 use Rattle.wave_file.specs.declared.fault.WaveFault.TheVariants.{NotWave, Truncated}
 
@@ -111,18 +111,18 @@ pitch_small key (negsuc down) = omega arith
 
 -- the fields of the `smpl` chunk of a sample
 record SaysSample (b : List ℕ) (n key : ℕ) (c : ℤ) (looped : Option (ℕ × ℕ)) : Type 0 where
-  holds : first_broken (chunk_steps n b) ≡ None
+  holds : first_fault (chunk_checks n b) ≡ None
   is : sampler_in (Some b) ≡ record { pitch = record { key = key; correction = c }; looped = looped }
 
 -- a loop among `n` points, if there is one
 record Found (n : ℕ) (looped : Option (ℕ × ℕ)) (found : Option SamplerLoop) : Type 0 where
-  inside : first_broken (loop_steps n found) ≡ None
+  inside : first_fault (loop_checks n found) ≡ None
   ends : option_map ends_of found ≡ looped
 
 says_sample : (b : List ℕ) (n key : ℕ) (c : ℤ) (looped : Option (ℕ × ℕ)) (found : Option SamplerLoop) → FitsSigned w8 c
     → Says b (unity_note key c) (pitch_fraction key c) (held_pitch key c) found → Found n looped found
     → SaysSample b n key c looped
-unfolding chunk_steps
+unfolding chunk_checks
 says_sample b n key c looped found fits s o =
     let most = pitch_small key c in
     let low : leb (unity_note_in b) 127 ≡ true = le-leb _ _ (let e = s.note_is in omega (arith, e, most)) in
@@ -131,8 +131,8 @@ says_sample b n key c looped found fits s o =
     ap (λ (x : Option Pitch). pitch_of x b) h in
     let loop_is : option_map ends_of (forward_loop b) ≡ looped =
     ap (λ (x : Option SamplerLoop). option_map ends_of x) s.found_is ∙ o.ends in
-    let loop_holds : first_broken (loop_steps n (forward_loop b)) ≡ None =
-    ap (λ (x : Option SamplerLoop). first_broken (loop_steps n x)) s.found_is ∙ o.inside in
+    let loop_holds : first_fault (loop_checks n (forward_loop b)) ≡ None =
+    ap (λ (x : Option SamplerLoop). first_fault (loop_checks n x)) s.found_is ∙ o.inside in
     record { holds = rw (s.whole, low) loop_holds; is = λ i. record { pitch = pitch_is i; looped = loop_is i } }
 
 no_loop : (n : ℕ) → Found n None None
@@ -179,8 +179,8 @@ loop_count_small : (looped : Option (ℕ × ℕ)) → loop_count looped ≤ 1
 loop_count_small None = omega arith
 loop_count_small (Some looped) = omega arith
 
-format_holds : (rate : ℕ) → first_broken (format_steps (mono_format rate)) ≡ None
-unfolding format_steps mono_format
+format_holds : (rate : ℕ) → first_fault (format_checks (mono_format rate)) ≡ None
+unfolding format_checks mono_format
 format_holds rate = refl
 
 format_back : (rate : ℕ) → rate < 2 ^ 32 → format_in (mono_format rate) ≡ record { layout = layout.Mono; rate = rate }
@@ -194,7 +194,7 @@ unfolding mono_format
 mono_layout rate = refl
 
 module _ (s : Sample) (f : FitsSample s) (l : IsLoop (length s.points) s.looped) (most : length s.points ≤ POINTS) where
-  form_small : length (WAVE ++ spell (sample_chunks s)) < 2 ^ 32
+  form_small : length (WAVE ++ encode (sample_chunks s)) < 2 ^ 32
   form_small =
       let a = length-content s in
       let b = length-sampler s in let c = loop_count_small s.looped in omega (arith, a, b, c, most)
@@ -211,20 +211,20 @@ module _ (s : Sample) (f : FitsSample s) (l : IsLoop (length s.points) s.looped)
         (record { id = ids.3; body = omega (arith, b, c) }, (record { id = ids.4; body = omega (arith, d, most) }, tt)),
       )
 
-  wave_is : sample_wave s ≡ chunk RIFF (WAVE ++ spell (sample_chunks s))
+  wave_is : sample_wave s ≡ chunk RIFF (WAVE ++ encode (sample_chunks s))
   unfolding sample_wave RIFF wave.RIFF
   wave_is = refl
 
-  window_is : window (sample_wave s) ≡ spell (sample_chunks s)
-  window_is = ap window wave_is ∙ form_window WAVE (spell (sample_chunks s)) length-ids.1 form_small
+  window_is : window (sample_wave s) ≡ encode (sample_chunks s)
+  window_is = ap window wave_is ∙ form_window WAVE (encode (sample_chunks s)) length-ids.1 form_small
 
-  chunks_are : chunks_in (walk (spell (sample_chunks s))) ≡ sample_chunks s
-  chunks_are = chunks_in-spell (sample_chunks s) chunks_fit
+  chunks_are : chunks_in (walk (encode (sample_chunks s))) ≡ sample_chunks s
+  chunks_are = chunks_in-encode (sample_chunks s) chunks_fit
 
-  riff_holds : first_broken (riff_steps (sample_wave s)) ≡ None
+  riff_holds : first_fault (riff_checks (sample_wave s)) ≡ None
   riff_holds =
-      ap (λ (file : List ℕ). first_broken (riff_steps file)) wave_is
-      ∙ form_holds WAVE (spell (sample_chunks s)) length-ids.1 form_small NotWave Truncated NotWave
+      ap (λ (file : List ℕ). first_fault (riff_checks file)) wave_is
+      ∙ form_holds WAVE (encode (sample_chunks s)) length-ids.1 form_small NotWave Truncated NotWave
 
   -- ---- its chunks
 
@@ -250,8 +250,8 @@ module _ (s : Sample) (f : FitsSample s) (l : IsLoop (length s.points) s.looped)
   channels_back : channels_in layout.Mono points ≡ Mono s.points
   channels_back = ap (λ (x : List ℕ). Mono x) (words_of_bytes s.points)
 
-  data_holds : first_broken (data_steps layout.Mono (Some points)) ≡ None
-  unfolding data_steps frame_steps
+  data_holds : first_fault (data_checks layout.Mono (Some points)) ≡ None
+  unfolding data_checks frame_checks
   data_holds =
       let even : eqb (length points % 2) 0 ≡ true =
       eq-eqb _ _ (let a = length-word_bytes s.points in omega (arith, a)) in
@@ -264,19 +264,19 @@ module _ (s : Sample) (f : FitsSample s) (l : IsLoop (length s.points) s.looped)
       ≡ Mono s.points
   channels_are = (λ i. channels_in (layout_is i) (unwrap_or (data_found i) [])) ∙ channels_back
 
-  content_holds : first_broken (content_steps (sample_chunks s)) ≡ None
-  unfolding content_steps
+  content_holds : first_fault (content_checks (sample_chunks s)) ≡ None
+  unfolding content_checks
   content_holds =
       let counted : frame_count
       (channels_in (layout_in (body_in FORMAT (sample_chunks s))) (body_in DATA (sample_chunks s)))
       ≡ length s.points =
       ap frame_count channels_are in
-      then_none (format_steps (body_in FORMAT (sample_chunks s))) _
-      (ap (λ (x : List ℕ). first_broken (format_steps x)) format_found ∙ format_holds s.rate)
-      (then_none (data_steps (layout_in (body_in FORMAT (sample_chunks s)))
-      (first_body DATA (sample_chunks s))) _ ((λ i. first_broken (data_steps (layout_is i) (data_found i))) ∙
+      then_none (format_checks (body_in FORMAT (sample_chunks s))) _
+      (ap (λ (x : List ℕ). first_fault (format_checks x)) format_found ∙ format_holds s.rate)
+      (then_none (data_checks (layout_in (body_in FORMAT (sample_chunks s)))
+      (first_body DATA (sample_chunks s))) _ ((λ i. first_fault (data_checks (layout_is i) (data_found i))) ∙
       data_holds)
-      ((λ i. first_broken (sampler_steps (counted i) (sampler_found i))) ∙ says.holds))
+      ((λ i. first_fault (sampler_checks (counted i) (sampler_found i))) ∙ says.holds))
 
   content_is : content_in (sample_chunks s) ≡ recorded s
   unfolding content_in
@@ -290,18 +290,18 @@ module _ (s : Sample) (f : FitsSample s) (l : IsLoop (length s.points) s.looped)
 
   -- ---- all together
 
-  window_holds : first_broken (window_steps (spell (sample_chunks s))) ≡ None
-  unfolding window_steps
+  window_holds : first_fault (window_checks (encode (sample_chunks s))) ≡ None
+  unfolding window_checks
   window_holds =
-      let walked : is_whole (walk (spell (sample_chunks s))) ≡ true = is_whole-spell (sample_chunks s) chunks_fit in
-      rw walked (ap (λ (cs : List Chunk). first_broken (content_steps cs)) chunks_are ∙ content_holds)
+      let walked : is_whole (walk (encode (sample_chunks s))) ≡ true = is_whole-encode (sample_chunks s) chunks_fit in
+      rw walked (ap (λ (cs : List Chunk). first_fault (content_checks cs)) chunks_are ∙ content_holds)
 
   reads_back : recording_in (sample_wave s) ≡ Ok (recorded s)
   unfolding recording_in steps
   reads_back =
-      let holds : first_broken (steps (sample_wave s)) ≡ None =
-      then_none (riff_steps (sample_wave s)) (window_steps (window (sample_wave s))) riff_holds
-      (ap (λ (w : List ℕ). first_broken (window_steps w)) window_is ∙ window_holds) in
+      let holds : first_fault (steps (sample_wave s)) ≡ None =
+      then_none (riff_checks (sample_wave s)) (window_checks (window (sample_wave s))) riff_holds
+      (ap (λ (w : List ℕ). first_fault (window_checks w)) window_is ∙ window_holds) in
       let is : content_in (chunks_in (walk (window (sample_wave s)))) ≡ recorded s =
       ap (λ (w : List ℕ). content_in (chunks_in (walk w))) window_is ∙ ap content_in chunks_are ∙ content_is in
       (λ i. unless_broken (holds i) (is i))

@@ -24,7 +24,7 @@ use Rattle.bank_parts.specs.declared.parts.Kind.TheVariants as kind
 use Rattle.bank_parts.specs.declared.parts.Sample.{Sample}
 use Rattle.bank_parts.specs.Fits.{FitsSample, FitsKind, FitsLoop}
 use Rattle.bank_format.specs.Chunks.{window, body_in}
-use Rattle.bank_format.proofs.StepLaws.{split_none, both_none}
+use Rattle.bank_format.proofs.CheckLaws.{split_none, both_none}
 use Rattle.bank_format.proofs.ReadBytes.{OfBytes, take_bytes, drop_bytes, walk_bytes, body_bytes, window_bytes}
 use Rattle.edit_forms.specs.declared.edit.Edit.TheVariants.{One}
 use Rattle.edit_forms.specs.declared.points.PointStep.TheVariants.{SetKind}
@@ -42,13 +42,13 @@ use Rattle.wave_file.specs.declared.recording.Channels.TheVariants.{Mono, Stereo
 use Rattle.wave_file.specs.declared.recording.Pitch.{Pitch}
 use Rattle.wave_file.specs.declared.recording.Sampler.{Sampler}
 use Rattle.wave_file.specs.declared.recording.Recording.{Recording}
-use Rattle.bank_format.specs.Steps.{first_broken}
+use Rattle.bank_format.specs.FaultChecks.{first_fault}
 use Rattle.wave_file.specs.Recordings.{layout_in, frame_of, channels_in, forward_loop, ends_of, unity_note_in}
 use Rattle.wave_file.specs.Recordings.{fraction_in, data_in, pitch_held, is_held, held_in, cents_in, nearest}
 use Rattle.wave_file.specs.Recordings.{pitch_of, sampler_in}
-use Rattle.wave_file.specs.ReadSteps.{riff_steps, format_steps, data_steps, has_loops, is_inside, loop_steps}
-use Rattle.wave_file.specs.ReadSteps.{chunk_steps, sampler_steps, content_steps, content_in, window_steps, steps}
-use Rattle.wave_file.specs.ReadSteps.{unless_broken, recording_in}
+use Rattle.wave_file.specs.ReadChecks.{riff_checks, format_checks, data_checks, has_loops, is_inside, loop_checks}
+use Rattle.wave_file.specs.ReadChecks.{chunk_checks, sampler_checks, content_checks, content_in, window_checks, steps}
+use Rattle.wave_file.specs.ReadChecks.{unless_broken, recording_in}
 use Rattle.wave_file.specs.Imports.{left_points, right_points, mono_name, side_name, sample_of, add_edit}
 use Rattle.wave_file.specs.Imports.{pair_edits, channel_edits, import_edits}
 use Rattle.wave_file.proofs.ImportLaws.{cut_text, side_named}
@@ -134,7 +134,7 @@ pitch_fits s b note =
 
 -- ---- the loop
 
-loop_fits : (n : ℕ) (o : Option SamplerLoop) → first_broken (loop_steps n o) ≡ None → FitsLoop (option_map ends_of o)
+loop_fits : (n : ℕ) (o : Option SamplerLoop) → first_fault (loop_checks n o) ≡ None → FitsLoop (option_map ends_of o)
 loop_fits n None h = tt
 loop_fits n (Some l) h =
     let inside = split_none (is_inside n l) _ _ h in
@@ -145,9 +145,9 @@ loop_fits n (Some l) h =
 
 -- ---- the `smpl` chunk
 
-sampler_fits : (n : ℕ) (o : Option (List ℕ)) → AreBytes (unwrap_or o []) → first_broken (sampler_steps n o) ≡ None
+sampler_fits : (n : ℕ) (o : Option (List ℕ)) → AreBytes (unwrap_or o []) → first_fault (sampler_checks n o) ≡ None
     → FitsSampler (sampler_in o)
-unfolding chunk_steps
+unfolding chunk_checks
 sampler_fits n None b h =
     record { pitch = record { key = omega arith; correction = record { sfits = omega arith } }; looped = tt }
 sampler_fits n (Some s) b h =
@@ -157,13 +157,13 @@ sampler_fits n (Some s) b h =
 
 -- ---- together
 
-content_fits : (chunks : List Chunk) → AllByRecursion OfBytes chunks → first_broken (content_steps chunks) ≡ None
+content_fits : (chunks : List Chunk) → AllByRecursion OfBytes chunks → first_fault (content_checks chunks) ≡ None
     → FitsRecording (content_in chunks)
-unfolding content_steps content_in
+unfolding content_checks content_in
 content_fits chunks b h =
     let f = body_in FORMAT chunks in
-    let past_format = both_none (format_steps f) _ h in
-    let past_data = both_none (data_steps (layout_in f) (first_body DATA chunks)) _ past_format.1 in
+    let past_format = both_none (format_checks f) _ h in
+    let past_data = both_none (data_checks (layout_in f) (first_body DATA chunks)) _ past_format.1 in
     record {
       channels = channels_fit (layout_in f) (body_in DATA chunks) (body_bytes DATA chunks b);
       rate = field_at-lt 4 4 f (body_bytes FORMAT chunks b);
@@ -172,23 +172,23 @@ content_fits chunks b h =
 
 -- a WAVE file that fails no check
 pub record IsRead (wave : List ℕ) (r : Recording) : Type 0 where
-  pub holds : first_broken (steps wave) ≡ None
+  pub holds : first_fault (steps wave) ≡ None
   pub is : content_in (chunks_in (walk (window wave))) ≡ r
 
 pub is_read : (wave : List ℕ) (r : Recording) → recording_in wave ≡ Ok r → IsRead wave r
 unfolding recording_in
-is_read wave r h = by_what (first_broken (steps wave)) refl h
+is_read wave r h = by_what (first_fault (steps wave)) refl h
   where
-    by_what : (o : Option WaveFault) → first_broken (steps wave) ≡ o
+    by_what : (o : Option WaveFault) → first_fault (steps wave) ≡ o
         → unless_broken o (content_in (chunks_in (walk (window wave)))) ≡ Ok r → IsRead wave r
     by_what None e k = record { holds = e; is = cc }
     by_what (Some f) e k = absurd cc
 
 pub recording_fits : (wave : List ℕ) (r : Recording) → AreBytes wave → recording_in wave ≡ Ok r → FitsRecording r
-unfolding steps window_steps
+unfolding steps window_checks
 recording_fits wave r b h =
     let read = is_read wave r h in
-    let past_riff = both_none (riff_steps wave) (window_steps (window wave)) read.holds in
+    let past_riff = both_none (riff_checks wave) (window_checks (window wave)) read.holds in
     let walked = split_none _ _ _ past_riff.1 in
     rw (← read.is)
     (content_fits (chunks_in (walk (window wave))) (walk_bytes (window wave) (window_bytes wave b)) walked.1)

@@ -13,18 +13,18 @@ use Rattle.wave_file.specs.declared.recording.Format.{Format}
 use Rattle.wave_file.specs.declared.recording.Channels.{Channels}
 use Rattle.wave_file.specs.declared.recording.Sampler.{Sampler}
 use Rattle.wave_file.specs.declared.recording.Recording.{Recording}
-use Rattle.bank_format.specs.Steps.{Step, first_broken, Passes}
+use Rattle.bank_format.specs.FaultChecks.{Check, first_fault, Passes}
 use Rattle.wave_file.specs.Recordings.{layout_in, format_in, channels_in, frame_count, sampler_in}
-use Rattle.wave_file.specs.ReadSteps.{riff_steps, format_steps, data_steps, sampler_steps, content_steps}
-use Rattle.wave_file.specs.ReadSteps.{window_steps, content_in, steps, unless_broken, recording_in}
-use Rattle.bank_format.proofs.StepLaws.{first_broken-append, first_broken-front, passes_by, passes_front, passes_after}
+use Rattle.wave_file.specs.ReadChecks.{riff_checks, format_checks, data_checks, sampler_checks, content_checks}
+use Rattle.wave_file.specs.ReadChecks.{window_checks, content_in, steps, unless_broken, recording_in}
+use Rattle.bank_format.proofs.CheckLaws.{first_fault-append, first_fault-front, passes_by, passes_front, passes_after}
 
 abbrev said : List ℕ → Recording
 said w = content_in (chunks_in (walk w))
 
 -- the RIFF chunk has a fault
 pub riff_fails : (file : List ℕ) (r : Result Recording WaveFault) (f : WaveFault) → IsErrAnd r (λ e. e ≡ f)
-    → first_broken (riff_steps file) ≡ Some f
+    → first_fault (riff_checks file) ≡ Some f
     → r ≡ recording_in file
 unfolding recording_in steps
 riff_fails file (Ok x) f is h = absurd is
@@ -32,46 +32,46 @@ riff_fails file (Err e) f is h =
     ap (λ (x : WaveFault). Err x) is
     ∙ sym
     (ap (λ (o : Option WaveFault). unless_broken o (said (window file)))
-    (first_broken-front (riff_steps file) (window_steps (window file)) f h))
+    (first_fault-front (riff_checks file) (window_checks (window file)) f h))
 
 -- the result of reading the window is that of the file
-pub window_says : (file w : List ℕ) (r : Result Recording WaveFault) → first_broken (riff_steps file) ≡ None
+pub window_says : (file w : List ℕ) (r : Result Recording WaveFault) → first_fault (riff_checks file) ≡ None
     → w ≡ window file
-    → Passes (λ (x : Recording). x) r (window_steps w) (said w) → r ≡ recording_in file
+    → Passes (λ (x : Recording). x) r (window_checks w) (said w) → r ≡ recording_in file
 unfolding recording_in steps
 window_says file w (Ok x) h e p =
-    let whole : first_broken (steps file) ≡ None =
-    first_broken-append (riff_steps file) (window_steps (window file)) h
-    ∙ ap (λ (v : List ℕ). first_broken (window_steps v)) (sym e) ∙ p.0 in
+    let whole : first_fault (steps file) ≡ None =
+    first_fault-append (riff_checks file) (window_checks (window file)) h
+    ∙ ap (λ (v : List ℕ). first_fault (window_checks v)) (sym e) ∙ p.0 in
     ap (λ (y : Recording). Ok y) p.1
     ∙ ap (λ (v : List ℕ). Ok (said v)) e
     ∙ sym (ap (λ (o : Option WaveFault). unless_broken o (said (window file))) whole)
 window_says file w (Err f) h e p =
-    let whole : first_broken (steps file) ≡ Some f =
-    first_broken-append (riff_steps file) (window_steps (window file)) h
-    ∙ ap (λ (v : List ℕ). first_broken (window_steps v)) (sym e) ∙ p in
+    let whole : first_fault (steps file) ≡ Some f =
+    first_fault-append (riff_checks file) (window_checks (window file)) h
+    ∙ ap (λ (v : List ℕ). first_fault (window_checks v)) (sym e) ∙ p in
     sym (ap (λ (o : Option WaveFault). unless_broken o (said (window file))) whole)
 
 -- ---- the chunks
 
 pub record HasFormat (chunks : List Chunk) (format : Format) : Type 0 where
-  pub holds : first_broken (format_steps (body_in FORMAT chunks)) ≡ None
+  pub holds : first_fault (format_checks (body_in FORMAT chunks)) ≡ None
   pub is : format ≡ format_in (body_in FORMAT chunks)
 
 pub has_format : (chunks : List Chunk) (f : List ℕ) (format : Format) → f ≡ body_in FORMAT chunks
-    → first_broken (format_steps f) ≡ None → format ≡ format_in f → HasFormat chunks format
+    → first_fault (format_checks f) ≡ None → format ≡ format_in f → HasFormat chunks format
 has_format chunks f format e h is =
-    record { holds = ap (λ (x : List ℕ). first_broken (format_steps x)) (sym e) ∙ h; is = is ∙ ap format_in e }
+    record { holds = ap (λ (x : List ℕ). first_fault (format_checks x)) (sym e) ∙ h; is = is ∙ ap format_in e }
 
 pub record HasData (chunks : List Chunk) (format : Format) (found : Channels) : Type 0 where
-  pub holds : first_broken (data_steps format.layout (first_body DATA chunks)) ≡ None
+  pub holds : first_fault (data_checks format.layout (first_body DATA chunks)) ≡ None
   pub is : found ≡ channels_in format.layout (body_in DATA chunks)
 
 pub has_data : (chunks : List Chunk) (format : Format) (o : Option (List ℕ)) (found : Channels)
-    → o ≡ first_body DATA chunks → first_broken (data_steps format.layout o) ≡ None
+    → o ≡ first_body DATA chunks → first_fault (data_checks format.layout o) ≡ None
     → found ≡ channels_in format.layout (unwrap_or o []) → HasData chunks format found
 has_data chunks format o found e h is = record {
-  holds = ap (λ (x : Option (List ℕ)). first_broken (data_steps format.layout x)) (sym e) ∙ h;
+  holds = ap (λ (x : Option (List ℕ)). first_fault (data_checks format.layout x)) (sym e) ∙ h;
   is = is ∙ ap (λ (x : Option (List ℕ)). channels_in format.layout (unwrap_or x [])) e;
 }
 
@@ -79,43 +79,43 @@ module _ (chunks : List Chunk) (r : Result Recording WaveFault) where
   abbrev f : List ℕ
   f = body_in FORMAT chunks
 
-  abbrev last_steps : List (Step WaveFault)
-  last_steps = sampler_steps (frame_count (channels_in (layout_in f) (body_in DATA chunks))) (first_body SAMPLER chunks)
+  abbrev last_checks : List (Check WaveFault)
+  last_checks = sampler_checks (frame_count (channels_in (layout_in f) (body_in DATA chunks))) (first_body SAMPLER chunks)
 
   abbrev Reads : Type 0
-  Reads = Passes (λ (x : Recording). x) r (content_steps chunks) (content_in chunks)
+  Reads = Passes (λ (x : Recording). x) r (content_checks chunks) (content_in chunks)
 
   pub format_fails : (bytes : List ℕ) (e : WaveFault) → bytes ≡ body_in FORMAT chunks → IsErrAnd r (λ d. d ≡ e)
-      → first_broken (format_steps bytes) ≡ Some e → Reads
-  unfolding content_steps
+      → first_fault (format_checks bytes) ≡ Some e → Reads
+  unfolding content_checks
   format_fails bytes e same is h =
-      passes_front (λ (x : Recording). x) (content_in chunks) r e (format_steps f)
-      (data_steps (layout_in f) (first_body DATA chunks) ++ last_steps) is
-      (ap (λ (x : List ℕ). first_broken (format_steps x)) (sym same) ∙ h)
+      passes_front (λ (x : Recording). x) (content_in chunks) r e (format_checks f)
+      (data_checks (layout_in f) (first_body DATA chunks) ++ last_checks) is
+      (ap (λ (x : List ℕ). first_fault (format_checks x)) (sym same) ∙ h)
 
   pub data_fails : (format : Format) (o : Option (List ℕ)) (e : WaveFault) → HasFormat chunks format
       → o ≡ first_body DATA chunks → IsErrAnd r (λ d. d ≡ e)
-      → first_broken (data_steps format.layout o) ≡ Some e → Reads
-  unfolding content_steps
+      → first_fault (data_checks format.layout o) ≡ Some e → Reads
+  unfolding content_checks
   data_fails format o e has same is h =
       let l : layout_in f ≡ format.layout = sym (ap (λ (x : Format). x.layout) has.is) in
-      passes_after (λ (x : Recording). x) (content_in chunks) r (format_steps f)
-      (data_steps (layout_in f) (first_body DATA chunks) ++ last_steps) has.holds
+      passes_after (λ (x : Recording). x) (content_in chunks) r (format_checks f)
+      (data_checks (layout_in f) (first_body DATA chunks) ++ last_checks) has.holds
       (passes_front (λ (x : Recording). x) (content_in chunks) r e
-      (data_steps (layout_in f) (first_body DATA chunks)) last_steps is
-      ((λ i. first_broken (data_steps (l i) (sym same i))) ∙ h))
+      (data_checks (layout_in f) (first_body DATA chunks)) last_checks is
+      ((λ i. first_fault (data_checks (l i) (sym same i))) ∙ h))
 
   -- the checks of the `smpl` chunk, if all others hold
   pub sampler_left : (format : Format) (found : Channels) → HasFormat chunks format → HasData chunks format found
-      → Passes (λ (x : Recording). x) r last_steps (content_in chunks) → Reads
-  unfolding content_steps
+      → Passes (λ (x : Recording). x) r last_checks (content_in chunks) → Reads
+  unfolding content_checks
   sampler_left format found has there p =
       let l : layout_in f ≡ format.layout = sym (ap (λ (x : Format). x.layout) has.is) in
-      passes_after (λ (x : Recording). x) (content_in chunks) r (format_steps f)
-      (data_steps (layout_in f) (first_body DATA chunks) ++ last_steps) has.holds
-      (passes_after (λ (x : Recording). x) (content_in chunks) r (data_steps (layout_in f)
-      (first_body DATA chunks)) last_steps
-      (ap (λ (x : Layout). first_broken (data_steps x (first_body DATA chunks))) l ∙ there.holds) p)
+      passes_after (λ (x : Recording). x) (content_in chunks) r (format_checks f)
+      (data_checks (layout_in f) (first_body DATA chunks) ++ last_checks) has.holds
+      (passes_after (λ (x : Recording). x) (content_in chunks) r (data_checks (layout_in f)
+      (first_body DATA chunks)) last_checks
+      (ap (λ (x : Layout). first_fault (data_checks x (first_body DATA chunks))) l ∙ there.holds) p)
 
 -- the number of frames
 counted : (chunks : List Chunk) (format : Format) (found : Channels) → HasFormat chunks format
@@ -128,21 +128,21 @@ pub sampler_fails : (chunks : List Chunk) (r : Result Recording WaveFault) (form
     (n : ℕ) (o : Option (List ℕ)) (e : WaveFault)
     → HasFormat chunks format → HasData chunks format found
     → n ≡ frame_count found → o ≡ first_body SAMPLER chunks → IsErrAnd r (λ d. d ≡ e)
-    → first_broken (sampler_steps n o) ≡ Some e
-    → Passes (λ (x : Recording). x) r (content_steps chunks) (content_in chunks)
+    → first_fault (sampler_checks n o) ≡ Some e
+    → Passes (λ (x : Recording). x) r (content_checks chunks) (content_in chunks)
 sampler_fails chunks r format found n o e has there count same is h =
     let k = count ∙ counted chunks format found has there in
     sampler_left chunks r format found has there
     (passes_by (λ (x : Recording). x) (content_in chunks) r e _ is
-    ((λ i. first_broken (sampler_steps (sym k i) (sym same i))) ∙ h))
+    ((λ i. first_fault (sampler_checks (sym k i) (sym same i))) ∙ h))
 
 pub content_reads : (chunks : List Chunk) (format : Format) (found : Channels) (n : ℕ) (o : Option (List ℕ))
     (sampler : Sampler)
     → HasFormat chunks format → HasData chunks format found
-    → n ≡ frame_count found → o ≡ first_body SAMPLER chunks → first_broken (sampler_steps n o) ≡ None
+    → n ≡ frame_count found → o ≡ first_body SAMPLER chunks → first_fault (sampler_checks n o) ≡ None
     → sampler ≡ sampler_in o
     → Passes (λ (x : Recording). x) (Ok (record { channels = found; rate = format.rate; sampler = sampler }))
-    (content_steps chunks) (content_in chunks)
+    (content_checks chunks) (content_in chunks)
 unfolding content_in
 content_reads chunks format found n o sampler has there count same h is =
     let k = count ∙ counted chunks format found has there in
@@ -152,4 +152,4 @@ content_reads chunks format found n o sampler has there count same h is =
     let read : Recording = record { channels = found; rate = format.rate; sampler = sampler } in
     let is_said : read ≡ content_in chunks = λ i. record { channels = channels i; rate = rate i; sampler = chunk i } in
     sampler_left chunks (Ok read) format found has there
-    ((λ i. first_broken (sampler_steps (sym k i) (sym same i))) ∙ h, is_said)
+    ((λ i. first_fault (sampler_checks (sym k i) (sym same i))) ∙ h, is_said)

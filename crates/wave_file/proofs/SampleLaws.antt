@@ -4,8 +4,8 @@ use Rattle.std.proofs.Common.{None, refl, ap, sym, ◌∙◌, arith}
 use Rattle.std.specs.List.{flat_map}
 use Rattle.std.proofs.lemmas.Bool.{ne_eqb}
 use Rattle.std.proofs.lemmas.List.{length-append, append-nil}
-use Rattle.riff_chunks.specs.Spelling.{pad, chunk, chunk_head, spell}
-use Rattle.riff_chunks.proofs.SpellingLaws.{length-chunk}
+use Rattle.riff_chunks.specs.Encoding.{pad, chunk, chunk_head, encode}
+use Rattle.riff_chunks.proofs.EncodingLaws.{length-chunk}
 use Rattle.sample_view.specs.Words.{word_bytes}
 use Rattle.sample_view.proofs.WordLaws.{length-word_bytes}
 use Rattle.bank_parts.specs.declared.parts.Sample.{Sample}
@@ -56,7 +56,7 @@ data-even points = let l = length-word_bytes points in omega (arith, l)
 -- ---- all parts
 
 pub length-content : (s : Sample)
-    → length (WAVE ++ spell (sample_chunks s)) ≡ 44 + length (sampler s) + 2 * length s.points
+    → length (WAVE ++ encode (sample_chunks s)) ≡ 44 + length (sampler s) + 2 * length s.points
 unfolding sample_chunks
 length-content s =
     let f = mono_format s.rate in
@@ -78,11 +78,11 @@ length-content s =
     let ld = length-word_bytes s.points in
     omega (arith, a1, a2, a3, a4, ids.1, c1, c2, c3, lf, even, ld)
 
-content-even : (s : Sample) → length (WAVE ++ spell (sample_chunks s)) % 2 ≡ 0
+content-even : (s : Sample) → length (WAVE ++ encode (sample_chunks s)) % 2 ≡ 0
 content-even s = let l = length-content s in let even = sampler-even s in omega (arith, l, even)
 
 -- the file, as it is put
-pub put-parts : (s : Sample) (size data_size : ℕ) → size ≡ length (WAVE ++ spell (sample_chunks s))
+pub put-parts : (s : Sample) (size data_size : ℕ) → size ≡ length (WAVE ++ encode (sample_chunks s))
     → data_size ≡ length (flat_map word_bytes s.points)
     → chunk_head RIFF size
     ++
@@ -108,7 +108,7 @@ put-parts s size data_size e k =
     e
     ∙ ap
     (λ (t : List ℕ).
-    chunk_head RIFF (length (WAVE ++ spell (sample_chunks s)))
+    chunk_head RIFF (length (WAVE ++ encode (sample_chunks s)))
     ++ (WAVE ++ (chunk FORMAT (mono_format s.rate) ++ (chunk SAMPLER (sampler s) ++ t))))
     last
-    ∙ sym (chunk-even RIFF (WAVE ++ spell (sample_chunks s)) (content-even s))
+    ∙ sym (chunk-even RIFF (WAVE ++ encode (sample_chunks s)) (content-even s))

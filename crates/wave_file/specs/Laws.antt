@@ -7,7 +7,7 @@ use Rattle.bank_parts.specs.Fits.{FitsSample}
 use Rattle.wave_file.specs.SampleWave.{sample_wave}
 use Rattle.wave_file.specs.declared.recording.Channels.TheVariants.{Mono}
 use Rattle.wave_file.specs.declared.recording.Recording.{Recording}
-use Rattle.wave_file.specs.ReadSteps.{recording_in}
+use Rattle.wave_file.specs.ReadChecks.{recording_in}
 
 -- a mono recording with the points, the rate, the key, the correction and the loop of a sample
 abbrev pub recorded : Sample → Recording

@@ -3,6 +3,6 @@ pub mod SamplerPitch
 pub mod SampleWave
 pub mod FaultNames
 pub mod Recordings
-pub mod ReadSteps
+pub mod ReadChecks
 pub mod Imports
 pub mod Laws

@@ -30,12 +30,12 @@ abbrev pub bits_in : List ℕ → ℕ
 bits_in f = field_at 14 2 f
 
 -- the subformat GUID of integer PCM
-unfoldable pub PLAIN : List ℕ
-PLAIN = 1 ∷ 0 ∷ 0 ∷ 0 ∷ 0 ∷ 0 ∷ 16 ∷ 0 ∷ 128 ∷ 0 ∷ 0 ∷ 170 ∷ 0 ∷ 56 ∷ 155 ∷ 113 ∷ []
+unfoldable pub PCM : List ℕ
+PCM = 1 ∷ 0 ∷ 0 ∷ 0 ∷ 0 ∷ 0 ∷ 16 ∷ 0 ∷ 128 ∷ 0 ∷ 0 ∷ 170 ∷ 0 ∷ 56 ∷ 155 ∷ 113 ∷ []
 
 -- integer PCM, directly or as WAVE_FORMAT_EXTENSIBLE
-abbrev pub is_plain : List ℕ → Bool
-is_plain f = tag_in f == 1 || (tag_in f == 65534 && bytes_eq (take 16 (drop 24 f)) PLAIN)
+abbrev pub is_pcm : List ℕ → Bool
+is_pcm f = tag_in f == 1 || (tag_in f == 65534 && bytes_eq (take 16 (drop 24 f)) PCM)
 
 abbrev pub layout_in : List ℕ → Layout
 layout_in f = if channel_count_in f == 2 then layout.Stereo else layout.Mono

@@ -5,7 +5,7 @@ use Rattle.std.specs.List.{flat_map}
 use Rattle.std.specs.Int.{w8, cast_unsigned}
 use Rattle.byteorder.specs.Endian.{little_bytes}
 use Rattle.riff_chunks.specs.Walk.{Chunk}
-use Rattle.riff_chunks.specs.Spelling.{chunk, spell}
+use Rattle.riff_chunks.specs.Encoding.{chunk, encode}
 use Rattle.sample_view.specs.Words.{word_bytes}
 use Rattle.bank_parts.specs.declared.parts.Sample.{Sample}
 use Rattle.wave_file.specs.Wave.{RIFF, WAVE, FORMAT, DATA}
@@ -61,4 +61,4 @@ sample_chunks s =
 
 -- the WAVE file of a sample
 unfoldable pub sample_wave : Sample → List ℕ
-sample_wave s = chunk RIFF (WAVE ++ spell (sample_chunks s))
+sample_wave s = chunk RIFF (WAVE ++ encode (sample_chunks s))

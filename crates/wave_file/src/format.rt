@@ -1,9 +1,9 @@
 //! The `fmt ` and `data` chunks of a WAVE file.
 ghost use Rattle.std.specs.Prelude.{◌≡◌, ◌≤◌, [], length, unwrap_or};
 ghost use Rattle.std.specs.Option.{option_copied};
-ghost use Rattle.bank_format.specs.Steps.{Passes};
-ghost use Rattle.wave_file.specs.Recordings.{format_in, is_plain, channels_in};
-ghost use Rattle.wave_file.specs.ReadSteps.{format_steps, data_steps, frame_steps};
+ghost use Rattle.bank_format.specs.FaultChecks.{Passes};
+ghost use Rattle.wave_file.specs.Recordings.{format_in, is_pcm, channels_in};
+ghost use Rattle.wave_file.specs.ReadChecks.{format_checks, data_checks, frame_checks};
 
 use crate::fault::WaveFault;
 use crate::recording::{Channels, Format, Layout};
@@ -16,26 +16,26 @@ use std::alloc::Global;
 const FORMAT_SIZE: usize = 16;
 
 /// The format tag of integer PCM.
-const PLAIN_TAG: u16 = 1;
+const PCM_TAG: u16 = 1;
 
 /// The format tag of WAVE_FORMAT_EXTENSIBLE, which has a subformat.
 const EXTENSIBLE_TAG: u16 = 0xfffe;
 
 /// The offset of the subformat GUID.
-const SUBFORMAT_PLACE: usize = 24;
+const SUBFORMAT_OFFSET: usize = 24;
 
 /// The subformat GUID of integer PCM.
-const PLAIN_SUBFORMAT: [u8; 16] = [1, 0, 0, 0, 0, 0, 16, 0, 128, 0, 0, 170, 0, 56, 155, 113];
+const PCM_SUBFORMAT: [u8; 16] = [1, 0, 0, 0, 0, 0, 16, 0, 128, 0, 0, 170, 0, 56, 155, 113];
 
 /// Reads the `fmt ` chunk, which must be 16-bit integer PCM of one or two channels.
-#[tactic(auto, unfolding(crate::specs::ReadSteps::format_steps))]
+#[tactic(auto, unfolding(crate::specs::ReadChecks::format_checks))]
 pub(crate) fn read_format(format: &[u8]) -> Result<Format, WaveFault>
-    ensures { Passes (λ f. f) result (format_steps format.now) (format_in format.now) }
+    ensures { Passes (λ f. f) result (format_checks format.now) (format_in format.now) }
 {
     if format.len() < FORMAT_SIZE {
         return Err(WaveFault::NoFormat);
     }
-    if !is_plain(format) {
+    if !is_pcm(format) {
         return Err(WaveFault::Compressed);
     }
     if u16_at(format, 14) != 16 {
@@ -56,25 +56,25 @@ pub(crate) fn read_format(format: &[u8]) -> Result<Format, WaveFault>
 }
 
 // Whether the format is integer PCM, directly or as WAVE_FORMAT_EXTENSIBLE.
-#[tactic(auto, unfolding(crate::specs::Recordings::PLAIN))]
-fn is_plain(format: &[u8]) -> bool
+#[tactic(auto, unfolding(crate::specs::Recordings::PCM))]
+fn is_pcm(format: &[u8]) -> bool
     requires { 16 ≤ length format.now }
-    ensures { result ≡ is_plain format.now }
+    ensures { result ≡ is_pcm format.now }
 {
     let tag = u16_at(format, 0);
-    tag == PLAIN_TAG
+    tag == PCM_TAG
         || (tag == EXTENSIBLE_TAG
-            && part_of(format, SUBFORMAT_PLACE, 16) == PLAIN_SUBFORMAT.as_slice())
+            && part_of(format, SUBFORMAT_OFFSET, 16) == PCM_SUBFORMAT.as_slice())
 }
 
 /// Reads the `data` chunk, which must exist and consist of whole frames. Allocates nothing.
-#[tactic(auto, unfolding(crate::specs::ReadSteps::data_steps))]
+#[tactic(auto, unfolding(crate::specs::ReadChecks::data_checks))]
 pub(crate) fn read_data<'a>(
     alloc: Global,
     layout: Layout,
     body: Option<&'a [u8]>,
 ) -> Result<Channels<'a>, WaveFault>
-    ensures { Passes (λ c. c) result (data_steps layout (option_copied body.entry))
+    ensures { Passes (λ c. c) result (data_checks layout (option_copied body.entry))
         (channels_in layout (unwrap_or (option_copied body.entry) [])) }
 {
     match body {
@@ -84,13 +84,13 @@ pub(crate) fn read_data<'a>(
 }
 
 // The points of a mono recording, or the frames of a stereo one.
-#[tactic(auto, unfolding(crate::specs::ReadSteps::frame_steps))]
+#[tactic(auto, unfolding(crate::specs::ReadChecks::frame_checks))]
 fn read_channels<'a>(
     alloc: Global,
     layout: Layout,
     bytes: &'a [u8],
 ) -> Result<Channels<'a>, WaveFault>
-    ensures { Passes (λ c. c) result (frame_steps layout bytes.now) (channels_in layout bytes.now) }
+    ensures { Passes (λ c. c) result (frame_checks layout bytes.now) (channels_in layout bytes.now) }
 {
     match layout {
         Layout::Mono => match Points::of_slice(alloc, bytes) {

@@ -37,7 +37,7 @@ pub fn import_edits<'a>(
     sides: &'a Sides,
 ) -> Result<Vec<Edit<'a>>, OutOfMemory>
     requires count { samples ≤ SAMPLES }
-    requires parted { sides.now ≡ sides_of recording.channels }
+    requires split { sides.now ≡ sides_of recording.channels }
     ensures { IfOk result (λ edits. edits.items ≡ import_edits samples name.now recording.entry) }
 {
     let Recording {

@@ -4,6 +4,7 @@
 //! all others are skipped.
 #![tactic(auto)]
 
+mod encoding;
 mod fault;
 mod format;
 mod frames;
@@ -15,8 +16,8 @@ mod sample;
 mod sampler;
 mod sampler_pitch;
 mod sides;
-mod spelling;
 
+pub use encoding::{put_wave, write_wave};
 pub use fault::WaveFault;
 pub use frames::{Frame, SamplerLoop};
 pub use importing::import_edits;
@@ -25,4 +26,3 @@ pub use reading::read_recording;
 pub use recording::{Channels, Pitch, Recording, Sampler};
 pub use sample::put_sample_wave;
 pub use sides::Sides;
-pub use spelling::{put_wave, write_wave};

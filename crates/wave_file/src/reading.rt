@@ -4,8 +4,8 @@ ghost use Rattle.bank_format.specs.Chunks.{body_in};
 ghost use Rattle.wave_file.specs.Wave.{FORMAT};
 ghost use Rattle.riff_chunks.specs.Walk.{walk};
 ghost use Rattle.riff_chunks.specs.Finding.{chunks_in};
-ghost use Rattle.bank_format.specs.Steps.{Passes};
-ghost use Rattle.wave_file.specs.ReadSteps.{window_steps, content_steps, content_in, recording_in};
+ghost use Rattle.bank_format.specs.FaultChecks.{Passes};
+ghost use Rattle.wave_file.specs.ReadChecks.{window_checks, content_checks, content_in, recording_in};
 
 use crate::fault::WaveFault;
 use crate::format::{read_data, read_format};
@@ -37,9 +37,9 @@ pub fn read_recording<'a>(alloc: Global, file: &'a [u8]) -> Result<Recording<'a>
 }
 
 // Reads the chunks of the window, which must fill it.
-#[tactic(auto, unfolding(crate::specs::ReadSteps::window_steps))]
+#[tactic(auto, unfolding(crate::specs::ReadChecks::window_checks))]
 fn read_window<'a>(alloc: Global, window: &'a [u8]) -> Result<Recording<'a>, WaveFault>
-    ensures { Passes (λ r. r) result (window_steps window.now) (content_in (chunks_in (walk window.now))) }
+    ensures { Passes (λ r. r) result (window_checks window.now) (content_in (chunks_in (walk window.now))) }
 {
     let chunks = FirstChunks::over(window, IDS)?;
     read_content(alloc, &chunks)
@@ -47,7 +47,7 @@ fn read_window<'a>(alloc: Global, window: &'a [u8]) -> Result<Recording<'a>, Wav
 
 // Reads the first chunk of each id.
 fn read_content<'a>(alloc: Global, chunks: &FirstChunks<'a>) -> Result<Recording<'a>, WaveFault>
-    ensures { Passes (λ r. r) result (content_steps chunks.now) (content_in chunks.now) }
+    ensures { Passes (λ r. r) result (content_checks chunks.now) (content_in chunks.now) }
 {
     let format = read_format(format_of(chunks))?;
     let channels = read_data(alloc, format.layout, chunks.body_of(*b"data"))?;

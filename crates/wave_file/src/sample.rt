@@ -2,7 +2,7 @@
 ghost use Rattle.std.specs.Prelude.{◌≡◌, ◌+◌, ◌*◌, ◌≤◌, length};
 ghost use Rattle.std.specs.List.{flat_map};
 ghost use Rattle.base_outputs.specs.Output.{Puts};
-ghost use Rattle.riff_chunks.specs.Spelling.{chunk};
+ghost use Rattle.riff_chunks.specs.Encoding.{chunk};
 ghost use Rattle.sample_view.specs.Words.{word_bytes};
 ghost use Rattle.sf_base.specs.declared.limits.TheConstants.{POINTS};
 ghost use Rattle.wave_file.specs.Wave.{FORMAT, DATA};

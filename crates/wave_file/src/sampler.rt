@@ -1,9 +1,9 @@
 //! The `smpl` chunk of a WAVE file: loop and pitch.
 ghost use Rattle.std.specs.Prelude.{◌≡◌, ◌+◌, ◌*◌, ◌≤◌, length};
 ghost use Rattle.std.specs.Option.{option_copied, option_map};
-ghost use Rattle.bank_format.specs.Steps.{Passes};
+ghost use Rattle.bank_format.specs.FaultChecks.{Passes};
 ghost use Rattle.wave_file.specs.Recordings.{loop_count_in, forward_loop, ends_of, unity_note_in, data_in, is_held, held_in, cents_in, nearest, pitch_in, sampler_in};
-ghost use Rattle.wave_file.specs.ReadSteps.{has_loops, loop_steps, chunk_steps, sampler_steps};
+ghost use Rattle.wave_file.specs.ReadChecks.{has_loops, loop_checks, chunk_checks, sampler_checks};
 
 use crate::fault::WaveFault;
 use crate::frames::SamplerLoop;
@@ -30,7 +30,7 @@ const HIGHEST_KEY: u32 = 127;
 /// Reads the `smpl` chunk of a recording of `frames` frames. Without one the key is 60, the correction 0, and there is
 /// no loop.
 pub(crate) fn read_sampler(chunk: Option<&[u8]>, frames: usize) -> Result<Sampler, WaveFault>
-    ensures { Passes (λ s. s) result (sampler_steps frames (option_copied chunk.entry)) (sampler_in (option_copied chunk.entry)) }
+    ensures { Passes (λ s. s) result (sampler_checks frames (option_copied chunk.entry)) (sampler_in (option_copied chunk.entry)) }
 {
     match chunk {
         None => Ok(Sampler {
@@ -44,9 +44,9 @@ pub(crate) fn read_sampler(chunk: Option<&[u8]>, frames: usize) -> Result<Sample
     }
 }
 
-#[tactic(auto, unfolding(crate::specs::ReadSteps::chunk_steps))]
+#[tactic(auto, unfolding(crate::specs::ReadChecks::chunk_checks))]
 fn read_chunk(chunk: &[u8], frames: usize) -> Result<Sampler, WaveFault>
-    ensures { Passes (λ s. s) result (chunk_steps frames chunk.now)
+    ensures { Passes (λ s. s) result (chunk_checks frames chunk.now)
         (record { pitch = pitch_in chunk.now; looped = option_map ends_of (forward_loop chunk.now) }) }
 {
     if !has_loops(chunk) {
@@ -93,7 +93,7 @@ fn forward_loop(chunk: &[u8]) -> Option<SamplerLoop>
 
 // The ends of a loop, which must lie within the frames.
 fn read_loop(found: Option<SamplerLoop>, frames: usize) -> Result<Option<(u32, u32)>, WaveFault>
-    ensures { Passes (λ looped. looped) result (loop_steps frames found) (option_map ends_of found) }
+    ensures { Passes (λ looped. looped) result (loop_checks frames found) (option_map ends_of found) }
 {
     let Some(found) = found else {
         return Ok(None);
@@ -141,8 +141,8 @@ fn data_in(chunk: &[u8]) -> &[u8]
     requires { 36 ≤ length chunk.now }
     ensures { result.now ≡ data_in chunk.now }
 {
-    let place = HEAD_SIZE + LOOP_SIZE * loop_count(chunk);
-    part_of(chunk, place, u32_at(chunk, 32) as usize)
+    let offset = HEAD_SIZE + LOOP_SIZE * loop_count(chunk);
+    part_of(chunk, offset, u32_at(chunk, 32) as usize)
 }
 
 // Whether the chunk is what sfbank writes for a sample of this pitch.

@@ -40,12 +40,12 @@ impl Sides {
                 left: Vec::new(alloc),
                 right: Vec::new(alloc),
             }),
-            Channels::Stereo(frames) => Sides::parted(alloc, frames),
+            Channels::Stereo(frames) => Sides::split(alloc, frames),
         }
     }
 
     // Splits stereo frames.
-    fn parted(alloc: Global, frames: &Table<'_, Frame>) -> Result<Sides, OutOfMemory>
+    fn split(alloc: Global, frames: &Table<'_, Frame>) -> Result<Sides, OutOfMemory>
         ensures { IfOk result (λ sides. sides ≡ sides_of (Channels.Stereo frames.now)) }
     {
         let mut left = Vec::new(alloc);

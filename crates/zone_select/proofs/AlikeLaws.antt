@@ -9,33 +9,33 @@ use Rattle.script_notes.specs.Notes.{Numbers}
 use Rattle.bank_parts.specs.declared.parts.Head.{Head}
 use Rattle.bank_parts.specs.declared.parts.GlobalZone.{GlobalZone}
 use Rattle.bank_parts.specs.declared.parts.Zone.{Zone}
-use Rattle.bank_parts.specs.declared.parts.WithZones.{WithZones}
+use Rattle.bank_parts.specs.declared.parts.ZoneOwner.{ZoneOwner}
 use Rattle.bank_parts.specs.declared.parts.Sample.{Sample}
 use Rattle.bank_parts.specs.declared.parts.Parts.{Parts}
 use Rattle.bank_parts.specs.Settings.{with_zones}
 use Rattle.bank_changes.specs.declared.members.Owner.{Owner}
 use Rattle.bank_changes.specs.declared.members.Owner.TheVariants as owner
-use Rattle.zone_select.specs.Taken.{Taken}
-use Rattle.zone_select.specs.Select.{Voice, voice_of, voices_of, is_called}
+use Rattle.zone_select.specs.ZoneSettings.{ZoneSettings}
+use Rattle.zone_select.specs.Select.{Voice, voice_of, voices_of, has_preset_numbers}
 use Rattle.zone_select.proofs.Given.{sample_given, instrument_given, number_given, preset_given, given, GivenAlike}
 use Rattle.zone_select.proofs.Matched.{Matched, MatchedOption, matched-get, matched-find, matched-or}
 use Rattle.zone_select.proofs.Matched.{matched-same, matched-changed, matched-option_same}
 use Rattle.zone_select.proofs.ZoneVoices.{Inside, voices_of-same}
 
 abbrev Instrument : Type 0
-Instrument = WithZones (List ℕ)
+Instrument = ZoneOwner (List ℕ)
 
 abbrev Preset : Type 0
-Preset = WithZones Head
+Preset = ZoneOwner Head
 
 -- the samples have the same voices
-abbrev pub SoundSame : Sample → Sample → Type 0
-SoundSame s t = (n : Numbers) (v u : Taken) → voice_of n v u s ≡ voice_of n v u t
+abbrev pub HaveSameVoices : Sample → Sample → Type 0
+HaveSameVoices s t = (n : Numbers) (v u : ZoneSettings) → voice_of n v u s ≡ voice_of n v u t
 
-pub sound_same : (s : Sample) → SoundSame s s
+pub sound_same : (s : Sample) → HaveSameVoices s s
 sound_same s n v u = refl
 
-pub same_voices : (n : Numbers) (u v : Taken) (o p : Option Sample) → MatchedOption SoundSame o p
+pub same_voices : (n : Numbers) (u v : ZoneSettings) (o p : Option Sample) → MatchedOption HaveSameVoices o p
     → option_map (voice_of n v u) o ≡ option_map (voice_of n v u) p
 same_voices n u v None None h = refl
 same_voices n u v None (Some y) h = absurd h
@@ -58,15 +58,15 @@ OfOwner b (owner.Inst k) P = (x : Instrument) → slice_get b.instruments k ≡ 
 module _ {X : Type 0} (g : Option Voice → List X) where
   abbrev pub InstrumentsAlike : Parts → Parts → Instrument → Instrument → Type 0
   InstrumentsAlike b c i j =
-      (n : Numbers) (u : Taken) → IsPermutation (instrument_given g b n u i) (instrument_given g c n u j)
+      (n : Numbers) (u : ZoneSettings) → IsPermutation (instrument_given g b n u i) (instrument_given g c n u j)
 
   abbrev pub PresetsAlike : Parts → Parts → Preset → Preset → Type 0
   PresetsAlike b c p q =
       (p.head.bank ≡ q.head.bank) × (p.head.number ≡ q.head.number)
       × ((n : Numbers) → IsPermutation (preset_given g b n p) (preset_given g c n q))
 
-  sample_given-alike : (b c : Parts) (t k : ℕ) → MatchedOption SoundSame (slice_get b.samples t) (slice_get c.samples k)
-      → (n : Numbers) (u v : Taken) → IsPermutation (sample_given g b n u v t) (sample_given g c n u v k)
+  sample_given-alike : (b c : Parts) (t k : ℕ) → MatchedOption HaveSameVoices (slice_get b.samples t) (slice_get c.samples k)
+      → (n : Numbers) (u v : ZoneSettings) → IsPermutation (sample_given g b n u v t) (sample_given g c n u v k)
   unfolding sample_given
   sample_given-alike b c t k h n u v =
       subst (IsPermutation (g (option_map (voice_of n v u) (slice_get b.samples t))))
@@ -74,18 +74,18 @@ module _ {X : Type 0} (g : Option Voice → List X) where
 
   number_given-alike : (b c : Parts) (t k : ℕ)
       → MatchedOption (InstrumentsAlike b c) (slice_get b.instruments t) (slice_get c.instruments k)
-      → (n : Numbers) (u : Taken) → IsPermutation (number_given g b n u t) (number_given g c n u k)
+      → (n : Numbers) (u : ZoneSettings) → IsPermutation (number_given g b n u t) (number_given g c n u k)
   unfolding number_given
   number_given-alike b c t k h n u =
       matched-or (InstrumentsAlike b c) (instrument_given g b n u) (instrument_given g c n u) (λ x y e. e n u)
       (slice_get b.instruments t) (slice_get c.instruments k) h
 
   given-alike : (b c : Parts) → Matched (PresetsAlike b c) b.presets c.presets → GivenAlike g b c
-  unfolding given is_called
+  unfolding given has_preset_numbers
   given-alike b c h n =
       matched-or (PresetsAlike b c) (preset_given g b n) (preset_given g c n) (λ p q e. e.2 n)
-      (find (is_called n) b.presets) (find (is_called n) c.presets)
-      (matched-find (PresetsAlike b c) (is_called n) (is_called n) (λ p q e. λ i. e.0 i == n.bank && e.1 i == n.number)
+      (find (has_preset_numbers n) b.presets) (find (has_preset_numbers n) c.presets)
+      (matched-find (PresetsAlike b c) (has_preset_numbers n) (has_preset_numbers n) (λ p q e. λ i. e.0 i == n.bank && e.1 i == n.number)
       b.presets c.presets h)
 
   -- the same presets over instruments that are alike
@@ -102,7 +102,7 @@ module _ {X : Type 0} (g : Option Voice → List X) where
   )
 
   -- the same instruments over samples with the same voices
-  same_instruments : (b c : Parts) → ((t : ℕ) → MatchedOption SoundSame (slice_get b.samples t) (slice_get c.samples t))
+  same_instruments : (b c : Parts) → ((t : ℕ) → MatchedOption HaveSameVoices (slice_get b.samples t) (slice_get c.samples t))
       → (i : Instrument) → InstrumentsAlike b c i i
   unfolding instrument_given
   same_instruments b c h i n u =
@@ -121,7 +121,7 @@ module _ {X : Type 0} (g : Option Voice → List X) where
   instrument_changed-alike b k f h =
       let c : Parts = record b { instruments = changed b.instruments k f } in
       let same : (i : Instrument) → InstrumentsAlike b c i i =
-      same_instruments b c (λ t. matched-option_same SoundSame sound_same (slice_get b.samples t)) in
+      same_instruments b c (λ t. matched-option_same HaveSameVoices sound_same (slice_get b.samples t)) in
       given-alike b c (matched-same (PresetsAlike b c)
       (same_presets b c
       (λ t.
@@ -142,7 +142,7 @@ module _ {X : Type 0} (g : Option Voice → List X) where
       same_presets b c
       (λ t.
       matched-option_same (InstrumentsAlike b c)
-      (same_instruments b c (λ k. matched-option_same SoundSame sound_same (slice_get b.samples k)))
+      (same_instruments b c (λ k. matched-option_same HaveSameVoices sound_same (slice_get b.samples k)))
       (slice_get b.instruments t))
       in
       given-alike b c (matched-changed (PresetsAlike b c) same f b.presets k h)

@@ -9,7 +9,7 @@ use Rattle.std.proofs.lemmas.List.Sorted.{IsPermutation-refl, IsPermutation-sym,
 use Rattle.std.proofs.lemmas.List.Sorted.{IsPermutation-append_left, IsPermutation-append_comm}
 use Rattle.base_numbered_lists.specs.Moved.{moved}
 use Rattle.base_numbered_lists.proofs.Lists.{insert-remove}
-use Rattle.bank_zone_ranges.specs.Splits.{parted, merged}
+use Rattle.bank_zone_ranges.specs.Splits.{split_in_two, merged}
 
 module _ {Z : Type 0} where
   exchange : (a b c : List Z) → IsPermutation (a ++ (b ++ c)) (b ++ (a ++ c))
@@ -46,18 +46,18 @@ module _ {X Z : Type 0} (f : X → List Z) where
         | Some x ↦ λ e. IsPermutation-trans _ _ _ (flat_map-remove xs i x e) (flat_map-insert (remove xs i) j x)
       ] refl
 
-  parted-next : (xs : List X) (k : ℕ) (x y z : X) → slice_get xs k ≡ Some z → f z ≡ f x ++ f y
+  split_in_two-next : (xs : List X) (k : ℕ) (x y z : X) → slice_get xs k ≡ Some z → f z ≡ f x ++ f y
       → flat_map f xs ≡ flat_map f (slice_set (insert xs (suc k) y) k x)
-  parted-next [] k x y z e h = cc
-  parted-next (w ∷ ws) zero x y z e h =
+  split_in_two-next [] k x y z e h = cc
+  split_in_two-next (w ∷ ws) zero x y z e h =
       let same : w ≡ z = cc in
       ap (λ l. l ++ flat_map f ws) (ap f same ∙ h) ∙ append_assoc (f x) (f y) (flat_map f ws)
-  parted-next (w ∷ ws) (suc k) x y z e h = ap (λ l. f w ++ l) (parted-next ws k x y z e h)
+  split_in_two-next (w ∷ ws) (suc k) x y z e h = ap (λ l. f w ++ l) (split_in_two-next ws k x y z e h)
 
-  pub flat_map-parted : (xs : List X) (k : ℕ) (x y z : X) → slice_get xs k ≡ Some z → f z ≡ f x ++ f y
-      → flat_map f xs ≡ flat_map f (parted xs k x y)
-  flat_map-parted xs k x y z e h =
-      parted-next xs k x y z e h ∙ ap (λ i. flat_map f (slice_set (insert xs i y) k x)) (sym (add-one k))
+  pub flat_map-split_in_two : (xs : List X) (k : ℕ) (x y z : X) → slice_get xs k ≡ Some z → f z ≡ f x ++ f y
+      → flat_map f xs ≡ flat_map f (split_in_two xs k x y)
+  flat_map-split_in_two xs k x y z e h =
+      split_in_two-next xs k x y z e h ∙ ap (λ i. flat_map f (slice_set (insert xs i y) k x)) (sym (add-one k))
 
   merged-next : (xs : List X) (k : ℕ) (x y z : X) → slice_get xs k ≡ Some y → slice_get xs (suc k) ≡ Some z
       → f x ≡ f y ++ f z → flat_map f xs ≡ flat_map f (slice_set (remove xs (suc k)) k x)

@@ -9,11 +9,11 @@ use Rattle.bank_parts.specs.declared.parts.Zone.{Zone}
 use Rattle.bank_zone_ranges.specs.declared.axes.Axis.{Axis}
 use Rattle.bank_zone_ranges.specs.declared.axes.Axis.TheVariants.{Key, Vel}
 use Rattle.bank_zone_ranges.specs.Ranges.{low_end, high_end, range_from, range_of}
-use Rattle.bank_zone_ranges.specs.Splits.{lower_part, upper_part}
+use Rattle.bank_zone_ranges.specs.Splits.{lower_zone, upper_zone}
 use Rattle.bank_zone_ranges.proofs.SplitLaws.{IsSplitAt, low_is_small}
 use Rattle.zone_select.specs.Ranges.{within, holds}
-use Rattle.zone_select.specs.Taken.{Taken, taken}
-use Rattle.zone_select.proofs.RangeLaws.{taken-with, range-with, other-with, within_ends}
+use Rattle.zone_select.specs.ZoneSettings.{ZoneSettings, zone_settings}
+use Rattle.zone_select.proofs.RangeLaws.{zone_settings-with, range-with, other-with, within_ends}
 
 -- a test t of the whole range, and the tests of its two parts
 pub data Halved (t lower upper : Bool) : Type 0 where
@@ -62,8 +62,8 @@ halved w m x above inside small =
     ]
 
 halves-hold : (n : Numbers) (global : GlobalZone) (z : Zone) (axis : Axis) (m : ℕ) → IsSplitAt axis m global z → m < 256
-    → Halved (holds n global z) (holds n global (lower_part axis m global z))
-    (holds n global (upper_part axis m global z))
+    → Halved (holds n global z) (holds n global (lower_zone axis m global z))
+    (holds n global (upper_zone axis m global z))
 unfolding holds
 halves-hold n global z Key m h small =
     let w : ℕ = range_of Key global z in
@@ -101,20 +101,20 @@ halves-hold n global z Vel m h small =
     (within (range_of Key global z) n.key) (halved w m n.velocity h.above h.within small))
 
 -- one part has the voices of the zone's target, and the other has none
-pub halves-give : {X : Type 0} (inside : Taken → ℕ → List X) (n : Numbers) (global : GlobalZone) (z : Zone)
+pub halves-give : {X : Type 0} (inside : ZoneSettings → ℕ → List X) (n : Numbers) (global : GlobalZone) (z : Zone)
     (axis : Axis) (m : ℕ)
     → IsSplitAt axis m global z → m < 256
     →
     (let give : Zone → List X =
     λ y.
-    cond (holds n global y) (inside (taken global y) y.target) [] in give z
-    ≡ give (lower_part axis m global z) ++ give (upper_part axis m global z))
+    cond (holds n global y) (inside (zone_settings global y) y.target) [] in give z
+    ≡ give (lower_zone axis m global z) ++ give (upper_zone axis m global z))
 halves-give inside n global z axis m h small =
-    let lower : Zone = lower_part axis m global z in
-    let upper : Zone = upper_part axis m global z in
+    let lower : Zone = lower_zone axis m global z in
+    let upper : Zone = upper_zone axis m global z in
     let w : ℕ = range_of axis global z in
-    chosen (holds n global z) (holds n global lower) (holds n global upper) (inside (taken global z) z.target)
+    chosen (holds n global z) (holds n global lower) (holds n global upper) (inside (zone_settings global z) z.target)
     (halves-hold n global z axis m h small)
     ∙ (λ i. cond (holds n global lower)
-    (inside (taken-with global z axis (range_from (low_end w) (m - 1)) i) z.target) []
-    ++ cond (holds n global upper) (inside (taken-with global z axis (range_from m (high_end w)) i) z.target) [])
+    (inside (zone_settings-with global z axis (range_from (low_end w) (m - 1)) i) z.target) []
+    ++ cond (holds n global upper) (inside (zone_settings-with global z axis (range_from m (high_end w)) i) z.target) [])

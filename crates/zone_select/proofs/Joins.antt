@@ -15,8 +15,8 @@ use Rattle.bank_zone_ranges.specs.Splits.{joint_range, joined}
 use Rattle.bank_zone_ranges.specs.Undone.{own_amount}
 use Rattle.bank_zone_ranges.proofs.SplitLaws.{IsInherited, AreJoined, low_is_small}
 use Rattle.zone_select.specs.Ranges.{within, holds}
-use Rattle.zone_select.specs.Taken.{Taken, taken}
-use Rattle.zone_select.proofs.RangeLaws.{taken-with, taken-without, range-with, range-without, other-with}
+use Rattle.zone_select.specs.ZoneSettings.{ZoneSettings, zone_settings}
+use Rattle.zone_select.proofs.RangeLaws.{zone_settings-with, zone_settings-without, range-with, range-without, other-with}
 use Rattle.zone_select.proofs.RangeLaws.{other-without, within_ends}
 use Rattle.zone_select.proofs.Halves.{Halved, in_lower, in_upper, halved_first, halved_second, chosen}
 
@@ -47,10 +47,10 @@ other_of_joined global y z axis other keeping.Keep n =
 other_of_joined global y z axis other keeping.Bare n = other-without global y axis other n
 
 taken_of_joined : (global : GlobalZone) (y z : Zone) (axis : Axis) (keep : Keep)
-    → taken global y ≡ taken global (joined axis keep y z)
+    → zone_settings global y ≡ zone_settings global (joined axis keep y z)
 taken_of_joined global y z axis keeping.Keep =
-    taken-with global y axis (joint_range (own_amount axis y) (own_amount axis z))
-taken_of_joined global y z axis keeping.Bare = taken-without global y axis
+    zone_settings-with global y axis (joint_range (own_amount axis y) (own_amount axis z))
+taken_of_joined global y z axis keeping.Bare = zone_settings-without global y axis
 
 target_of_joined : (y z : Zone) (axis : Axis) (keep : Keep) → y.target ≡ (joined axis keep y z).target
 target_of_joined y z axis keeping.Keep = refl
@@ -58,17 +58,17 @@ target_of_joined y z axis keeping.Bare = refl
 
 module _ (axis : Axis) (keep : Keep) (global : GlobalZone) (y z : Zone) (h : AreJoinedInOrder axis keep global y z)
   where
-    same_taken : taken global y ≡ taken global z
-    same_taken = taken-without global y axis ∙ ap (taken global) h.both.alike ∙ sym (taken-without global z axis)
+    same_taken : zone_settings global y ≡ zone_settings global z
+    same_taken = zone_settings-without global y axis ∙ ap (zone_settings global) h.both.agreement ∙ sym (zone_settings-without global z axis)
 
     same_other : (other : Axis) → range_operator other ≢ range_operator axis
         → range_of other global y ≡ range_of other global z
     same_other other n =
-        sym (other-without global y axis other n) ∙ ap (range_of other global) h.both.alike
+        sym (other-without global y axis other n) ∙ ap (range_of other global) h.both.agreement
         ∙ other-without global z axis other n
 
     same_target : y.target ≡ z.target
-    same_target = ap (λ (x : Zone). x.target) h.both.alike
+    same_target = ap (λ (x : Zone). x.target) h.both.agreement
 
     -- ---- the notes that the joined zone contains
 
@@ -129,23 +129,23 @@ joined_holds n global y z Vel keep h =
     (within (range_of Vel global z) n.velocity) (within (range_of Key global y) n.key)
     (axis_halved Vel keep global y z h n.velocity))
 
-pub joined_gives : {X : Type 0} (inside : Taken → ℕ → List X) (n : Numbers) (global : GlobalZone) (y z : Zone)
+pub joined_gives : {X : Type 0} (inside : ZoneSettings → ℕ → List X) (n : Numbers) (global : GlobalZone) (y z : Zone)
     (axis : Axis) (keep : Keep)
     → AreJoinedInOrder axis keep global y z
     →
     (let give : Zone → List X =
     λ x.
-    cond (holds n global x) (inside (taken global x) x.target) [] in give (joined axis keep y z)
+    cond (holds n global x) (inside (zone_settings global x) x.target) [] in give (joined axis keep y z)
     ≡ give y ++ give z)
 joined_gives inside n global y z axis keep h =
     let x : Zone = joined axis keep y z in
     (λ i.
     cond (holds n global x)
     (inside (sym (taken_of_joined global y z axis keep) i) (sym (target_of_joined y z axis keep) i)) [])
-    ∙ chosen (holds n global x) (holds n global y) (holds n global z) (inside (taken global y) y.target)
+    ∙ chosen (holds n global x) (holds n global y) (holds n global z) (inside (zone_settings global y) y.target)
     (joined_holds n global y z axis keep h)
     ∙
     (λ i.
-    cond (holds n global y) (inside (taken global y) y.target) []
+    cond (holds n global y) (inside (zone_settings global y) y.target) []
     ++ cond (holds n global z)
     (inside (same_taken axis keep global y z h i) (same_target axis keep global y z h i)) [])

@@ -2,11 +2,11 @@ pub mod NumberLaws
 pub mod Given
 pub mod PairLaws
 pub mod ZoneLaws
-pub mod LeftLaws
+pub mod RemainingLaws
 pub mod ModulatorLaws
-pub mod ChosenLaws
+pub mod SelectedPairLaws
 pub mod LinearLaws
-pub mod SpanLaws
+pub mod SampleRangeLaws
 pub mod SummedLaws
 pub mod Matched
 pub mod Flattened

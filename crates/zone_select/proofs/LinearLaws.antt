@@ -15,8 +15,8 @@ use Rattle.sound_tables.specs.Floor.{floor_div, floor_mod}
 use Rattle.sound_tables.proofs.FloorLaws.{floor_div_is}
 use Rattle.script_notes.specs.Notes.{Numbers}
 use Rattle.bank_parts.specs.declared.parts.Sample.{Sample}
-use Rattle.zone_select.specs.Taken.{Taken}
-use Rattle.zone_select.specs.Amounts.{amount, sum_of, linear_part, linear_sources, key_of, velocity_of, root_of}
+use Rattle.zone_select.specs.ZoneSettings.{ZoneSettings}
+use Rattle.zone_select.specs.Amounts.{amount, total, linear_part, linear_sources, key_of, velocity_of, root_of}
 use Rattle.zone_select.specs.Amounts.{cents_of, moved, moved_amount}
 
 pub euclid_is_floor : (z : ℤ) (n : ℕ) → int_div_euclid z (pos n) ≡ floor_div z n
@@ -75,7 +75,7 @@ added_none : (z : ℤ) → z +ℤ pos 0 ≡ z
 added_none (pos a) = omega (arith, ints)
 added_none (negsuc a) = omega (arith, ints)
 
-pub class_is : (v u : Taken) → amount v u 57 ≡ option_map_or (cast_signed w16) (v.settings 57) (pos 0)
+pub class_is : (v u : ZoneSettings) → amount v u 57 ≡ option_map_or (cast_signed w16) (v.settings 57) (pos 0)
 unfolding amount is_allowed default_of
 class_is v u = added_none (option_map_or (cast_signed w16) (v.settings 57) (pos 0))
 
@@ -87,13 +87,13 @@ pub one_more : (f : ℕ → ℤ) (xs : List ℕ) (i d : ℕ) → i < length xs
 one_more f xs i d h = fold_more (λ s y. s +ℤ f y) (pos 0) xs i d h
 
 pub all_summed : (f : ℕ → ℤ) (xs : List ℕ) (i : ℕ) → length xs ≤ i
-    → fold (λ s y. s +ℤ f y) (pos 0) (take i xs) ≡ sum_of (map f xs)
+    → fold (λ s y. s +ℤ f y) (pos 0) (take i xs) ≡ total (map f xs)
 all_summed f xs i h =
     ap (fold (λ s y. s +ℤ f y) (pos 0)) (take_all i xs h) ∙ sym (fold-map (λ s y. s +ℤ y) f (pos 0) xs)
 
-pub moved_is : (n : Numbers) (v u : Taken) (op key velocity : ℕ) (own added : ℤ) → key ≡ key_of n v u
+pub moved_is : (n : Numbers) (v u : ZoneSettings) (op key velocity : ℕ) (own added : ℤ) → key ≡ key_of n v u
     → velocity ≡ velocity_of n v u → own ≡ amount v u op
-    → added ≡ sum_of (map (linear_part key velocity v u op) linear_sources) → own +ℤ added ≡ moved n v u op
+    → added ≡ total (map (linear_part key velocity v u op) linear_sources) → own +ℤ added ≡ moved n v u op
 unfolding moved_amount
 moved_is n v u op key velocity own added k l e f = rw (e, f, k, l) refl
 
@@ -105,7 +105,7 @@ pub interval_within : (tuning keys : ℤ) → negsuc 65535 ≤ℤ tuning → tun
 interval_within tuning keys tl th kl kh =
     abs_between (tuning *ℤ keys) 8323072 (product_below tuning keys 127 tl th kl kh)
 
-pub cents_is : (n : Numbers) (v u : Taken) (s : Sample) (key root : ℕ) (keys tuning scaled coarse fine : ℤ)
+pub cents_is : (n : Numbers) (v u : ZoneSettings) (s : Sample) (key root : ℕ) (keys tuning scaled coarse fine : ℤ)
     → key ≡ key_of n v u → root ≡ root_of v u s → keys ≡ pos key -ℤ pos root
     → tuning ≡ amount v u 56 → scaled ≡ tuning *ℤ keys → coarse ≡ amount v u 51 → fine ≡ moved n v u 52
     → scaled +ℤ pos 100 *ℤ coarse +ℤ fine +ℤ s.correction ≡ cents_of n v u s

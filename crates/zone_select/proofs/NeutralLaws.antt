@@ -14,7 +14,7 @@ use Rattle.generators.specs.declared.level.Level.{Level}
 use Rattle.generators.specs.declared.level.Level.TheVariants as level
 use Rattle.bank_parts.specs.declared.parts.Head.{Head}
 use Rattle.bank_parts.specs.declared.parts.Zone.{Zone}
-use Rattle.bank_parts.specs.declared.parts.WithZones.{WithZones}
+use Rattle.bank_parts.specs.declared.parts.ZoneOwner.{ZoneOwner}
 use Rattle.bank_parts.specs.declared.parts.Sample.{Sample}
 use Rattle.bank_parts.specs.declared.parts.Parts.{Parts}
 use Rattle.bank_parts.specs.Owners.{with_head}
@@ -23,18 +23,18 @@ use Rattle.bank_parts.specs.Valid.{IsZone, IsOwner, IsPreset, IsInstrument, AreG
 use Rattle.bank_zone_ranges.specs.declared.axes.Axis.{Axis}
 use Rattle.bank_zone_ranges.specs.declared.axes.Keep.{Keep}
 use Rattle.bank_zone_ranges.specs.Ranges.{low_end, high_end, whole_range, own_range}
-use Rattle.bank_zone_ranges.specs.Splits.{zones_split, zones_joined, splits_at, joins_at}
+use Rattle.bank_zone_ranges.specs.Splits.{zones_split, zones_joined, is_splittable_at, is_joinable_at}
 use Rattle.bank_zone_ranges.proofs.SplitLaws.{split_at, joined_at}
 use Rattle.bank_zone_ranges.proofs.PartLaws.{own_holds}
-use Rattle.bank_zone_ranges.proofs.There.{there_split, there_joined}
+use Rattle.bank_zone_ranges.proofs.Existing.{there_split, there_joined}
 use Rattle.bank_changes.specs.declared.members.Owner.TheVariants as owner
 use Rattle.bank_changes.specs.Samples.{named}
-use Rattle.bank_changes.specs.Points.{of_kind}
+use Rattle.bank_changes.specs.Points.{with_kind}
 use Rattle.bank_changes.proofs.Changes.{all_found}
 use Rattle.bank_changes.proofs.OwnerReferences.{owners_always, owners_weaker, untargeted}
 use Rattle.zone_select.specs.Select.{Voice, voice_of}
 use Rattle.zone_select.specs.Amounts.{parameters_of, is_looped}
-use Rattle.zone_select.specs.Pairs.{pairs, chosen_by}
+use Rattle.zone_select.specs.Pairs.{pairs, selected_pair}
 use Rattle.zone_select.specs.Alike.{HaveSamePairs}
 use Rattle.zone_select.specs.Neutral.{SampleAdded, SampleRemoved, SampleMoved, SampleRenamed}
 use Rattle.zone_select.specs.Neutral.{KindSet, InstrumentAdded, InstrumentRemoved}
@@ -43,21 +43,21 @@ use Rattle.zone_select.specs.Neutral.{ZoneJoined, InfoSet}
 use Rattle.zone_select.proofs.Given.{GivenAlike}
 use Rattle.zone_select.proofs.Matched.{MatchedOption, matched-option_map, matched-changed}
 use Rattle.zone_select.proofs.ZoneVoices.{CanSplit, CanJoin, voices_of-moved, voices_of-split, voices_of-joined}
-use Rattle.zone_select.proofs.AlikeLaws.{SoundSame, sound_same, owner_changed-alike}
+use Rattle.zone_select.proofs.AlikeLaws.{HaveSameVoices, sound_same, owner_changed-alike}
 use Rattle.zone_select.proofs.SameLaws.{samples-same, head-same, samples_renumbered-same, instruments_renumbered-same}
 
 -- a sample found under a new number; its own link is renumbered too
-sent_found : (xs ys : List Sample) (f : Sample → Sample) (t q : ℕ) → ((s : Sample) → SoundSame s (f s))
-    → slice_get ys q ≡ slice_get xs t → MatchedOption SoundSame (slice_get xs t) (slice_get (map f ys) q)
+sent_found : (xs ys : List Sample) (f : Sample → Sample) (t q : ℕ) → ((s : Sample) → HaveSameVoices s (f s))
+    → slice_get ys q ≡ slice_get xs t → MatchedOption HaveSameVoices (slice_get xs t) (slice_get (map f ys) q)
 sent_found xs ys f t q h e =
-    subst (MatchedOption SoundSame (slice_get xs t)) (sym (slice_get-map f ys q ∙ ap (option_map f) e))
-    (matched-option_map SoundSame f h (slice_get xs t))
+    subst (MatchedOption HaveSameVoices (slice_get xs t)) (sym (slice_get-map f ys q ∙ ap (option_map f) e))
+    (matched-option_map HaveSameVoices f h (slice_get xs t))
 
 differs : (t i : ℕ) → (t == i) ≡ false → t ≢ i
 differs t i h = grind (arith, nat_tests)
 
-can_split_there : {H : Type 0} (owners : List (WithZones H)) (i k : ℕ) (axis : Axis) (m : ℕ) (x : WithZones H)
-    → splits_at axis m owners i k ≡ true → slice_get owners i ≡ Some x → CanSplit axis m x.global x.zones k
+can_split_there : {H : Type 0} (owners : List (ZoneOwner H)) (i k : ℕ) (axis : Axis) (m : ℕ) (x : ZoneOwner H)
+    → is_splittable_at axis m owners i k ≡ true → slice_get owners i ≡ Some x → CanSplit axis m x.global x.zones k
 can_split_there owners i k axis m x h e z f =
     split_at axis m x.global z
     (sym (there_split axis m owners i k (record { member = x; there = e; zone = z; zone_there = f })) ∙ h)
@@ -68,9 +68,9 @@ rises : (at : Level) (axis : Axis) (z : Zone) (w : ℕ) → AreGenerators at z.g
 rises at axis z w v e =
     subst (λ w. low_end w ≤ high_end w) (ap (λ o. unwrap_or o whole_range) e) (own_holds at axis z v).0
 
-can_join_there : {H : Type 0} (name_of : H → List ℕ) (at : Level) (targets : ℕ) (owners : List (WithZones H))
-    (i k : ℕ) (axis : Axis) (keep : Keep) (x : WithZones H)
-    → IsOwner name_of at targets x → joins_at axis keep owners i k ≡ true → slice_get owners i ≡ Some x
+can_join_there : {H : Type 0} (name_of : H → List ℕ) (at : Level) (targets : ℕ) (owners : List (ZoneOwner H))
+    (i k : ℕ) (axis : Axis) (keep : Keep) (x : ZoneOwner H)
+    → IsOwner name_of at targets x → is_joinable_at axis keep owners i k ≡ true → slice_get owners i ≡ Some x
     → CanJoin axis keep x.global x.zones k
 can_join_there name_of at targets owners i k axis keep x v h e y z f g =
     let both =
@@ -95,12 +95,12 @@ module _ (R : Parts → Parts → Type 0) (same : (b c : Parts) → HaveSamePair
   pub sample_renamed_alike : SampleRenamed R
   unfolding voice_of parameters_of is_looped
   sample_renamed_alike b i name =
-      same b _ (samples-same b _ (matched-changed SoundSame sound_same (named name) b.samples i (λ s e n v u. refl)))
+      same b _ (samples-same b _ (matched-changed HaveSameVoices sound_same (named name) b.samples i (λ s e n v u. refl)))
 
   pub kind_set_alike : KindSet R
   unfolding voice_of parameters_of is_looped
   kind_set_alike b i kind =
-      same b _ (samples-same b _ (matched-changed SoundSame sound_same (of_kind kind) b.samples i (λ s e n v u. refl)))
+      same b _ (samples-same b _ (matched-changed HaveSameVoices sound_same (with_kind kind) b.samples i (λ s e n v u. refl)))
 
   pub sample_added_alike : SampleAdded R
   unfolding voice_of parameters_of is_looped
@@ -108,10 +108,10 @@ module _ (R : Parts → Parts → Type 0) (same : (b c : Parts) → HaveSamePair
       let sent : List Sample = map (sample_renumbered (Insertion i)) b.samples in
       let long : i ≤ length sent = simp length-map inside in
       same b _ (samples_renumbered-same b (Insertion i) (insert sent i s)
-      (owners_always (λ t. MatchedOption SoundSame (slice_get b.samples t)
+      (owners_always (λ t. MatchedOption HaveSameVoices (slice_get b.samples t)
       (slice_get (insert sent i s) (renumbered (Insertion i) t)))
       (λ t.
-      subst (MatchedOption SoundSame (slice_get b.samples t)) (sym (insertion_followed sent i s t long))
+      subst (MatchedOption HaveSameVoices (slice_get b.samples t)) (sym (insertion_followed sent i s t long))
       (sent_found b.samples b.samples (sample_renumbered (Insertion i)) t t (λ x n v u. refl) refl))
       b.instruments))
 
@@ -120,7 +120,7 @@ module _ (R : Parts → Parts → Type 0) (same : (b c : Parts) → HaveSamePair
   sample_moved_alike b i j there place =
       let sent : List Sample = map (sample_renumbered (Move i j)) (moved b.samples i j) in
       same b _ (samples_renumbered-same b (Move i j) sent
-      (owners_always (λ t. MatchedOption SoundSame (slice_get b.samples t) (slice_get sent (renumbered (Move i j) t)))
+      (owners_always (λ t. MatchedOption HaveSameVoices (slice_get b.samples t) (slice_get sent (renumbered (Move i j) t)))
       (λ t.
       sent_found b.samples (moved b.samples i j) (sample_renumbered (Move i j)) t (renumbered (Move i j) t)
       (λ s n v u. refl) (move_followed b.samples i j t there place))
@@ -132,7 +132,7 @@ module _ (R : Parts → Parts → Type 0) (same : (b c : Parts) → HaveSamePair
       let sent : List Sample = map (sample_renumbered (Removal i)) (remove b.samples i) in
       same b _ (samples_renumbered-same b (Removal i) sent
       (owners_weaker (λ t. (t == i) ≡ false)
-      (λ t. MatchedOption SoundSame (slice_get b.samples t) (slice_get sent (renumbered (Removal i) t)))
+      (λ t. MatchedOption HaveSameVoices (slice_get b.samples t) (slice_get sent (renumbered (Removal i) t)))
       (λ t e.
       sent_found b.samples (remove b.samples i) (sample_renumbered (Removal i)) t (renumbered (Removal i) t)
       (λ s n v u. refl) (removal_followed b.samples i t (differs t i e)))
@@ -166,7 +166,7 @@ module _ (R : Parts → Parts → Type 0) (same : (b c : Parts) → HaveSamePair
   -- ---- texts
 
   pub info_set_alike : InfoSet R
-  unfolding pairs chosen_by
+  unfolding pairs selected_pair
   info_set_alike b id text = same b _ (λ n. (refl, λ q. refl))
 
 -- ---- zones get other numbers: R holds for two banks whose zones have the same voices for each note

@@ -8,15 +8,15 @@ use Rattle.script_notes.specs.Notes.{Numbers}
 use Rattle.bank_parts.specs.declared.parts.Head.{Head}
 use Rattle.bank_parts.specs.declared.parts.GlobalZone.{GlobalZone}
 use Rattle.bank_parts.specs.declared.parts.Zone.{Zone}
-use Rattle.bank_parts.specs.declared.parts.WithZones.{WithZones}
+use Rattle.bank_parts.specs.declared.parts.ZoneOwner.{ZoneOwner}
 use Rattle.bank_parts.specs.declared.parts.Sample.{Sample}
 use Rattle.bank_parts.specs.declared.parts.Parts.{Parts}
 use Rattle.zone_select.specs.Ranges.{holds}
-use Rattle.zone_select.specs.Taken.{Taken, taken}
+use Rattle.zone_select.specs.ZoneSettings.{ZoneSettings, zone_settings}
 use Rattle.zone_select.specs.Select.{Voice, voice_of, voices_of, sample_voices, instrument_voices, number_voices}
-use Rattle.zone_select.specs.Select.{preset_voices, is_called, selected}
-use Rattle.zone_select.specs.Pairs.{holds_at, held, held_inside, pairs_at, pairs, Chosen, zone_held}
-use Rattle.zone_select.specs.Pairs.{instrument_zone_chosen, zone_chosen, preset_chosen, chosen_by, chosen_voice}
+use Rattle.zone_select.specs.Select.{preset_voices, has_preset_numbers, selected}
+use Rattle.zone_select.specs.Pairs.{holds_at, held, held_inside, pairs_at, pairs, SelectedPair, zone_held}
+use Rattle.zone_select.specs.Pairs.{pair_of_instrument, pair_of_zone, pair_of_preset, selected_pair, selected_pair_voice}
 use Rattle.zone_select.specs.Pairs.{voice_by, listed}
 use Rattle.zone_select.proofs.NumberLaws.{by_number, flat_map-flat_map}
 use Rattle.zone_select.proofs.Given.{sample_given, instrument_given, number_given, preset_given, given}
@@ -41,50 +41,50 @@ is_held n global zones k z e p = rw (e, p) refl
 
 module _ {X : Type 0} (g : Option Voice → List X) where
   -- the images of a pair
-  abbrev of_chosen : Parts → Numbers → Option Chosen → List X
-  of_chosen b n o = g (option_and_then (chosen_voice b n) o)
+  abbrev of_chosen : Parts → Numbers → Option SelectedPair → List X
+  of_chosen b n o = g (option_and_then (selected_pair_voice b n) o)
 
-  instrument_is : (b : Parts) (n : Numbers) (u : Taken) (i : WithZones (List ℕ))
-      → flat_map (λ l. of_chosen b n (instrument_zone_chosen n u l i)) (held n i.global i.zones 0)
+  instrument_is : (b : Parts) (n : Numbers) (u : ZoneSettings) (i : ZoneOwner (List ℕ))
+      → flat_map (λ l. of_chosen b n (pair_of_instrument n u l i)) (held n i.global i.zones 0)
       ≡ instrument_given g b n u i
   unfolding instrument_given sample_given voices_of
   instrument_is b n u i =
-      held_by_number (λ l. of_chosen b n (instrument_zone_chosen n u l i))
-      (λ (y : Zone). sample_given g b n u (taken i.global y) y.target) n i.global i.zones
+      held_by_number (λ l. of_chosen b n (pair_of_instrument n u l i))
+      (λ (y : Zone). sample_given g b n u (zone_settings i.global y) y.target) n i.global i.zones
       (λ l y e p. ap
       (λ (o : Option Zone).
       of_chosen b n
       (option_map
-      (λ (y : Zone). let r : Chosen =
-      record { instrument_zone = taken i.global y; preset_zone = u; sample = y.target } in r)
+      (λ (y : Zone). let r : SelectedPair =
+      record { instrument_zone = zone_settings i.global y; preset_zone = u; sample = y.target } in r)
       o))
       (is_held n i.global i.zones l y e p))
 
   zone_is : (b : Parts) (n : Numbers) (global : GlobalZone) (z : Zone)
-      → flat_map (λ l. of_chosen b n (zone_chosen b n global l z)) (held_inside b n z.target 0)
-      ≡ number_given g b n (taken global z) z.target
+      → flat_map (λ l. of_chosen b n (pair_of_zone b n global l z)) (held_inside b n z.target 0)
+      ≡ number_given g b n (zone_settings global z) z.target
   unfolding number_given
   zone_is b n global z =
-      let u : Taken = taken global z in
+      let u : ZoneSettings = zone_settings global z in
       elim (slice_get b.instruments z.target) as
-      (λ (o : Option (WithZones (List ℕ))).
-      flat_map (λ l. of_chosen b n (option_and_then (instrument_zone_chosen n u l) o))
-      (option_map_or (λ (i : WithZones (List ℕ)). held n i.global i.zones 0) o [])
+      (λ (o : Option (ZoneOwner (List ℕ))).
+      flat_map (λ l. of_chosen b n (option_and_then (pair_of_instrument n u l) o))
+      (option_map_or (λ (i : ZoneOwner (List ℕ)). held n i.global i.zones 0) o [])
       ≡ option_map_or (instrument_given g b n u) o []) [
         | None ↦ refl
         | Some i ↦ instrument_is b n u i
       ]
 
-  preset_is : (b : Parts) (n : Numbers) (p : WithZones Head)
-      → flat_map (λ q. of_chosen b n (preset_chosen b n q p))
+  preset_is : (b : Parts) (n : Numbers) (p : ZoneOwner Head)
+      → flat_map (λ q. of_chosen b n (pair_of_preset b n q p))
       (flat_map (pairs_at b n p.zones) (held n p.global p.zones 0))
       ≡ preset_given g b n p
   unfolding preset_given voices_of
   preset_is b n p =
-      let f : ℕ × ℕ → List X = λ q. of_chosen b n (preset_chosen b n q p) in
+      let f : ℕ × ℕ → List X = λ q. of_chosen b n (pair_of_preset b n q p) in
       flat_map-flat_map f (pairs_at b n p.zones) (held n p.global p.zones 0)
       ∙ held_by_number (λ k. flat_map f (pairs_at b n p.zones k))
-      (λ (z : Zone). number_given g b n (taken p.global z) z.target) n p.global p.zones
+      (λ (z : Zone). number_given g b n (zone_settings p.global z) z.target) n p.global p.zones
       (λ k z e h. ap
       (λ (o : Option Zone).
       flat_map f
@@ -94,17 +94,17 @@ module _ {X : Type 0} (g : Option Voice → List X) where
       ∙ flat_map-map f (λ (l : ℕ). let q : ℕ × ℕ = (k, l) in q) (held_inside b n z.target 0)
       ∙ ap
       (λ (o : Option Zone).
-      flat_map (λ l. of_chosen b n (option_and_then (zone_chosen b n p.global l) o)) (held_inside b n z.target 0))
+      flat_map (λ l. of_chosen b n (option_and_then (pair_of_zone b n p.global l) o)) (held_inside b n z.target 0))
       (is_held n p.global p.zones k z e h)
       ∙ zone_is b n p.global z)
 
   pub given_by_pairs : (b : Parts) (n : Numbers) → flat_map (λ q. g (voice_by b n q)) (pairs b n) ≡ given g b n
-  unfolding pairs chosen_by given
+  unfolding pairs selected_pair given
   given_by_pairs b n =
-      elim (find (is_called n) b.presets) as
-      (λ (o : Option (WithZones Head)).
-      flat_map (λ q. of_chosen b n (option_and_then (preset_chosen b n q) o))
-      (option_map_or (λ (p : WithZones Head). flat_map (pairs_at b n p.zones) (held n p.global p.zones 0))
+      elim (find (has_preset_numbers n) b.presets) as
+      (λ (o : Option (ZoneOwner Head)).
+      flat_map (λ q. of_chosen b n (option_and_then (pair_of_preset b n q) o))
+      (option_map_or (λ (p : ZoneOwner Head). flat_map (pairs_at b n p.zones) (held n p.global p.zones 0))
       o [])
       ≡ option_map_or (preset_given g b n) o []) [
         | None ↦ refl
@@ -113,7 +113,7 @@ module _ {X : Type 0} (g : Option Voice → List X) where
 
 -- ---- their voices
 
-sample_is : (b : Parts) (n : Numbers) (u v : Taken) (number : ℕ)
+sample_is : (b : Parts) (n : Numbers) (u v : ZoneSettings) (number : ℕ)
     → sample_given listed b n u v number ≡ sample_voices b n u v number
 unfolding sample_given sample_voices
 sample_is b n u v number =
@@ -126,15 +126,15 @@ pub selected_is : (b : Parts) (n : Numbers) → given listed b n ≡ selected b 
 unfolding given preset_given number_given instrument_given selected preset_voices number_voices instrument_voices
 selected_is b n = λ j.
     option_map_or
-    (λ (p : WithZones Head).
+    (λ (p : ZoneOwner Head).
     voices_of
-    (λ (u : Taken) (t : ℕ).
+    (λ (u : ZoneSettings) (t : ℕ).
     option_map_or
-    (λ (i : WithZones (List ℕ)).
-    voices_of (λ (v : Taken) (k : ℕ). sample_is b n u v k j) n i.global i.zones)
+    (λ (i : ZoneOwner (List ℕ)).
+    voices_of (λ (v : ZoneSettings) (k : ℕ). sample_is b n u v k j) n i.global i.zones)
     (slice_get b.instruments t) [])
     n p.global p.zones)
-    (find (is_called n) b.presets) []
+    (find (has_preset_numbers n) b.presets) []
 
 pub selected_by_pairs : (b : Parts) (n : Numbers) → flat_map (λ q. listed (voice_by b n q)) (pairs b n) ≡ selected b n
 selected_by_pairs b n = given_by_pairs listed b n ∙ selected_is b n

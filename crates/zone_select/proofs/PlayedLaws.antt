@@ -9,16 +9,16 @@ use Rattle.script_notes.specs.Notes.{Numbers}
 use Rattle.bank_parts.specs.declared.parts.Head.{Head}
 use Rattle.bank_parts.specs.declared.parts.GlobalZone.{GlobalZone}
 use Rattle.bank_parts.specs.declared.parts.Zone.{Zone}
-use Rattle.bank_parts.specs.declared.parts.WithZones.{WithZones}
+use Rattle.bank_parts.specs.declared.parts.ZoneOwner.{ZoneOwner}
 use Rattle.bank_parts.specs.declared.parts.Parts.{Parts}
 use Rattle.bank_parts.specs.Valid.{IsValid, IsZone, IsInstrument}
 use Rattle.generators.specs.declared.level.Level.TheVariants as level
 use Rattle.bank_changes.proofs.Changes.{all_found}
 use Rattle.zone_select.specs.Ranges.{holds}
-use Rattle.zone_select.specs.Taken.{Taken, taken}
-use Rattle.zone_select.specs.Select.{is_called}
-use Rattle.zone_select.specs.Pairs.{holds_at, held, held_inside, pairs_at, pairs, Chosen, zone_held}
-use Rattle.zone_select.specs.Pairs.{instrument_zone_chosen, zone_chosen, preset_chosen, chosen_by, chosen_voice}
+use Rattle.zone_select.specs.ZoneSettings.{ZoneSettings, zone_settings}
+use Rattle.zone_select.specs.Select.{has_preset_numbers}
+use Rattle.zone_select.specs.Pairs.{holds_at, held, held_inside, pairs_at, pairs, SelectedPair, zone_held}
+use Rattle.zone_select.specs.Pairs.{pair_of_instrument, pair_of_zone, pair_of_preset, selected_pair, selected_pair_voice}
 use Rattle.zone_select.specs.Played.{PairsAreChosen, PairsHaveVoices}
 use Rattle.zone_select.proofs.Listed.{IsIn, in_of_contains, contains_of_in, in_filter, filter_in, in_row}
 use Rattle.zone_select.proofs.Listed.{in_flat_map, flat_map_in, in_map, map_in}
@@ -79,18 +79,18 @@ module _ (n : Numbers) (global : GlobalZone) (zones : List Zone) (k : ℕ) where
 
 -- ---- zones of an instrument
 
-module _ (n : Numbers) (u : Taken) (l : ℕ) (i : WithZones (List ℕ)) where
-  some_inside : IsIn l (held n i.global i.zones 0) → IsSome (instrument_zone_chosen n u l i)
+module _ (n : Numbers) (u : ZoneSettings) (l : ℕ) (i : ZoneOwner (List ℕ)) where
+  some_inside : IsIn l (held n i.global i.zones 0) → IsSome (pair_of_instrument n u l i)
   some_inside h = let z = in_held n i.global i.zones l h in let e = is_held n i.global i.zones l z in rw e refl
 
-  found_inside : IsSome (instrument_zone_chosen n u l i) → IsIn l (held n i.global i.zones 0)
+  found_inside : IsSome (pair_of_instrument n u l i) → IsIn l (held n i.global i.zones 0)
   found_inside = from (zone_held n i.global i.zones l) refl
     where
       from : (o : Option Zone) → zone_held n i.global i.zones l ≡ o
           → IsSome
           (option_map
-          (λ (y : Zone). let c : Chosen =
-          record { instrument_zone = taken i.global y; preset_zone = u; sample = y.target } in c)
+          (λ (y : Zone). let c : SelectedPair =
+          record { instrument_zone = zone_settings i.global y; preset_zone = u; sample = y.target } in c)
           o)
           → IsIn l (held n i.global i.zones 0)
       from None e h = absurd (true≢false (sym h))
@@ -98,24 +98,24 @@ module _ (n : Numbers) (u : Taken) (l : ℕ) (i : WithZones (List ℕ)) where
 
 -- the zones of the instrument of a preset's zone
 module _ (b : Parts) (n : Numbers) (global : GlobalZone) (l : ℕ) (z : Zone) where
-  zone_some : IsIn l (held_inside b n z.target 0) → IsSome (zone_chosen b n global l z)
+  zone_some : IsIn l (held_inside b n z.target 0) → IsSome (pair_of_zone b n global l z)
   zone_some =
       elim (slice_get b.instruments z.target) as
-      (λ (o : Option (WithZones (List ℕ))).
-      IsIn l (option_map_or (λ (i : WithZones (List ℕ)). held n i.global i.zones 0) o [])
-      → IsSome (option_and_then (instrument_zone_chosen n (taken global z) l) o)) [
+      (λ (o : Option (ZoneOwner (List ℕ))).
+      IsIn l (option_map_or (λ (i : ZoneOwner (List ℕ)). held n i.global i.zones 0) o [])
+      → IsSome (option_and_then (pair_of_instrument n (zone_settings global z) l) o)) [
         | None ↦ λ h. absurd h
-        | Some i ↦ some_inside n (taken global z) l i
+        | Some i ↦ some_inside n (zone_settings global z) l i
       ]
 
-  zone_in : IsSome (zone_chosen b n global l z) → IsIn l (held_inside b n z.target 0)
+  zone_in : IsSome (pair_of_zone b n global l z) → IsIn l (held_inside b n z.target 0)
   zone_in =
       elim (slice_get b.instruments z.target) as
-      (λ (o : Option (WithZones (List ℕ))).
-      IsSome (option_and_then (instrument_zone_chosen n (taken global z) l) o)
-      → IsIn l (option_map_or (λ (i : WithZones (List ℕ)). held n i.global i.zones 0) o [])) [
+      (λ (o : Option (ZoneOwner (List ℕ))).
+      IsSome (option_and_then (pair_of_instrument n (zone_settings global z) l) o)
+      → IsIn l (option_map_or (λ (i : ZoneOwner (List ℕ)). held n i.global i.zones 0) o [])) [
         | None ↦ λ h. absurd (true≢false (sym h))
-        | Some i ↦ found_inside n (taken global z) l i
+        | Some i ↦ found_inside n (zone_settings global z) l i
       ]
 
 -- ---- the pairs of a preset
@@ -123,8 +123,8 @@ module _ (b : Parts) (n : Numbers) (global : GlobalZone) (l : ℕ) (z : Zone) wh
 abbrev paired : ℕ → ℕ → ℕ × ℕ
 paired k l = let q : ℕ × ℕ = (k, l) in q
 
-module _ (b : Parts) (n : Numbers) (q : ℕ × ℕ) (p : WithZones Head) where
-  preset_some : IsIn q (flat_map (pairs_at b n p.zones) (held n p.global p.zones 0)) → IsSome (preset_chosen b n q p)
+module _ (b : Parts) (n : Numbers) (q : ℕ × ℕ) (p : ZoneOwner Head) where
+  preset_some : IsIn q (flat_map (pairs_at b n p.zones) (held n p.global p.zones 0)) → IsSome (pair_of_preset b n q p)
   preset_some h =
       let g = in_flat_map (pairs_at b n p.zones) q (held n p.global p.zones 0) h in
       let z = in_held n p.global p.zones g.member g.there in
@@ -137,16 +137,16 @@ module _ (b : Parts) (n : Numbers) (q : ℕ × ℕ) (p : WithZones Head) where
       let first : g.member ≡ q.0 = ap (λ (q : ℕ × ℕ). q.0) s.sent in
       let second : s.member ≡ q.1 = ap (λ (q : ℕ × ℕ). q.1) s.sent in
       let e = is_held n p.global p.zones g.member z in
-      subst (λ (k : ℕ). IsSome (option_and_then (zone_chosen b n p.global q.1) (zone_held n p.global p.zones k))) first
-      (subst (λ (o : Option Zone). IsSome (option_and_then (zone_chosen b n p.global q.1) o)) (sym e)
-      (subst (λ (l : ℕ). IsSome (zone_chosen b n p.global l z.zone)) second
+      subst (λ (k : ℕ). IsSome (option_and_then (pair_of_zone b n p.global q.1) (zone_held n p.global p.zones k))) first
+      (subst (λ (o : Option Zone). IsSome (option_and_then (pair_of_zone b n p.global q.1) o)) (sym e)
+      (subst (λ (l : ℕ). IsSome (pair_of_zone b n p.global l z.zone)) second
       (zone_some b n p.global s.member z.zone s.there)))
 
-  preset_in : IsSome (preset_chosen b n q p) → IsIn q (flat_map (pairs_at b n p.zones) (held n p.global p.zones 0))
+  preset_in : IsSome (pair_of_preset b n q p) → IsIn q (flat_map (pairs_at b n p.zones) (held n p.global p.zones 0))
   preset_in = from (zone_held n p.global p.zones q.0) refl
     where
       from : (o : Option Zone) → zone_held n p.global p.zones q.0 ≡ o
-          → IsSome (option_and_then (zone_chosen b n p.global q.1) o)
+          → IsSome (option_and_then (pair_of_zone b n p.global q.1) o)
           → IsIn q (flat_map (pairs_at b n p.zones) (held n p.global p.zones 0))
       from None e h = absurd (true≢false (sym h))
       from (Some z) e h =
@@ -160,28 +160,28 @@ module _ (b : Parts) (n : Numbers) (q : ℕ × ℕ) (p : WithZones Head) where
 -- ---- the pairs of a note
 
 module _ (b : Parts) (n : Numbers) (q : ℕ × ℕ) where
-  pairs_some : IsIn q (pairs b n) → IsSome (chosen_by b n q)
-  unfolding pairs chosen_by
+  pairs_some : IsIn q (pairs b n) → IsSome (selected_pair b n q)
+  unfolding pairs selected_pair
   pairs_some =
-      elim (find (is_called n) b.presets) as
-      (λ (o : Option (WithZones Head)).
+      elim (find (has_preset_numbers n) b.presets) as
+      (λ (o : Option (ZoneOwner Head)).
       IsIn q
       (option_map_or
-      (λ (p : WithZones Head). flat_map (pairs_at b n p.zones) (held n p.global p.zones 0)) o [])
-      → IsSome (option_and_then (preset_chosen b n q) o)) [
+      (λ (p : ZoneOwner Head). flat_map (pairs_at b n p.zones) (held n p.global p.zones 0)) o [])
+      → IsSome (option_and_then (pair_of_preset b n q) o)) [
         | None ↦ λ h. absurd h
         | Some p ↦ preset_some b n q p
       ]
 
-  pairs_in : IsSome (chosen_by b n q) → IsIn q (pairs b n)
-  unfolding pairs chosen_by
+  pairs_in : IsSome (selected_pair b n q) → IsIn q (pairs b n)
+  unfolding pairs selected_pair
   pairs_in =
-      elim (find (is_called n) b.presets) as
-      (λ (o : Option (WithZones Head)).
-      IsSome (option_and_then (preset_chosen b n q) o)
+      elim (find (has_preset_numbers n) b.presets) as
+      (λ (o : Option (ZoneOwner Head)).
+      IsSome (option_and_then (pair_of_preset b n q) o)
       → IsIn q
       (option_map_or
-      (λ (p : WithZones Head). flat_map (pairs_at b n p.zones) (held n p.global p.zones 0)) o [])) [
+      (λ (p : ZoneOwner Head). flat_map (pairs_at b n p.zones) (held n p.global p.zones 0)) o [])) [
         | None ↦ λ h. absurd (true≢false (sym h))
         | Some p ↦ preset_in b n q p
       ]
@@ -193,18 +193,18 @@ pairs_are_chosen b n q =
 -- ---- in a valid bank the sample exists
 
 module _ (b : Parts) (n : Numbers) (v : IsValid b) where
-  abbrev Named : Option Chosen → Type 0
-  Named o = (c : Chosen) → o ≡ Some c → c.sample < length b.samples
+  abbrev Named : Option SelectedPair → Type 0
+  Named o = (c : SelectedPair) → o ≡ Some c → c.sample < length b.samples
 
-  named_inside : (u : Taken) (l j : ℕ) (i : WithZones (List ℕ)) → slice_get b.instruments j ≡ Some i
-      → Named (instrument_zone_chosen n u l i)
+  named_inside : (u : ZoneSettings) (l j : ℕ) (i : ZoneOwner (List ℕ)) → slice_get b.instruments j ≡ Some i
+      → Named (pair_of_instrument n u l i)
   named_inside u l j i e = from (zone_held n i.global i.zones l) refl
     where
       from : (o : Option Zone) → zone_held n i.global i.zones l ≡ o
           → Named
           (option_map
-          (λ (y : Zone). let c : Chosen =
-          record { instrument_zone = taken i.global y; preset_zone = u; sample = y.target } in c)
+          (λ (y : Zone). let c : SelectedPair =
+          record { instrument_zone = zone_settings i.global y; preset_zone = u; sample = y.target } in c)
           o)
       from None f c h = cc
       from (Some y) f c h =
@@ -214,32 +214,32 @@ module _ (b : Parts) (n : Numbers) (v : IsValid b) where
           let same : y.target ≡ c.sample = cc in
           subst (λ (t : ℕ). t < length b.samples) same lt
 
-  zone_named : (global : GlobalZone) (l : ℕ) (z : Zone) → Named (zone_chosen b n global l z)
+  zone_named : (global : GlobalZone) (l : ℕ) (z : Zone) → Named (pair_of_zone b n global l z)
   zone_named global l z = from (slice_get b.instruments z.target) refl
     where
-      from : (o : Option (WithZones (List ℕ))) → slice_get b.instruments z.target ≡ o
-          → Named (option_and_then (instrument_zone_chosen n (taken global z) l) o)
+      from : (o : Option (ZoneOwner (List ℕ))) → slice_get b.instruments z.target ≡ o
+          → Named (option_and_then (pair_of_instrument n (zone_settings global z) l) o)
       from None e c h = cc
-      from (Some i) e c h = named_inside (taken global z) l z.target i e c h
+      from (Some i) e c h = named_inside (zone_settings global z) l z.target i e c h
 
-  preset_named : (q : ℕ × ℕ) (p : WithZones Head) → Named (preset_chosen b n q p)
+  preset_named : (q : ℕ × ℕ) (p : ZoneOwner Head) → Named (pair_of_preset b n q p)
   preset_named q p =
       elim (zone_held n p.global p.zones q.0) as
-      (λ (o : Option Zone). Named (option_and_then (zone_chosen b n p.global q.1) o)) [
+      (λ (o : Option Zone). Named (option_and_then (pair_of_zone b n p.global q.1) o)) [
         | None ↦ λ c h. cc
         | Some z ↦ zone_named p.global q.1 z
       ]
 
-  chosen_named : (q : ℕ × ℕ) → Named (chosen_by b n q)
-  unfolding chosen_by
+  chosen_named : (q : ℕ × ℕ) → Named (selected_pair b n q)
+  unfolding selected_pair
   chosen_named q =
-      elim (find (is_called n) b.presets) as
-      (λ (o : Option (WithZones Head)). Named (option_and_then (preset_chosen b n q) o)) [
+      elim (find (has_preset_numbers n) b.presets) as
+      (λ (o : Option (ZoneOwner Head)). Named (option_and_then (pair_of_preset b n q) o)) [
         | None ↦ λ c h. cc
         | Some p ↦ preset_named q p
       ]
 
-  voiced : (o : Option Chosen) → Named o → IsSome o ↔ IsSome (option_and_then (chosen_voice b n) o)
+  voiced : (o : Option SelectedPair) → Named o → IsSome o ↔ IsSome (option_and_then (selected_pair_voice b n) o)
   voiced None h = (λ s. s, λ s. s)
   voiced (Some c) h =
       let s = slice_get-found b.samples c.sample (h c refl) in let e = s.1 in (λ _. rw e refl, λ _. refl)
@@ -247,18 +247,18 @@ module _ (b : Parts) (n : Numbers) (v : IsValid b) where
 pub pairs_have_voices : PairsHaveVoices
 pairs_have_voices b n q v =
     let chosen = pairs_are_chosen b n q in
-    let voice = voiced b n v (chosen_by b n q) (chosen_named b n v q) in
+    let voice = voiced b n v (selected_pair b n q) (chosen_named b n v q) in
     (λ c. voice.0 (chosen.0 c), λ h. chosen.1 (voice.1 h))
 
 -- ---- the result of the code
 
 module _ {V : Type 0} (b : Parts) (n : Numbers) (q : ℕ × ℕ) where
   -- it is `None` or `Some` as the pair's zones are
-  pub there_by : (r : Option V) → is_some r ≡ is_some (chosen_by b n q) → IsSome r ↔ Contains (pairs b n) q
+  pub there_by : (r : Option V) → is_some r ≡ is_some (selected_pair b n q) → IsSome r ↔ Contains (pairs b n) q
   there_by r e = let chosen = pairs_are_chosen b n q in (λ s. chosen.1 (sym e ∙ s), λ c. e ∙ chosen.0 c)
 
 -- the sample of a pair exists
-pub never_lost : (b : Parts) (n : Numbers) (q : ℕ × ℕ) (c : Chosen) → IsValid b → chosen_by b n q ≡ Some c
+pub never_lost : (b : Parts) (n : Numbers) (q : ℕ × ℕ) (c : SelectedPair) → IsValid b → selected_pair b n q ≡ Some c
     → slice_get b.samples c.sample ≡ None → ⊥
 never_lost b n q c v e f =
     let s = slice_get-found b.samples c.sample (chosen_named b n v q c e) in

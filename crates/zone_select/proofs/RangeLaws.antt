@@ -15,7 +15,7 @@ use Rattle.bank_zone_ranges.specs.declared.axes.Axis.TheVariants.{Key, Vel}
 use Rattle.bank_zone_ranges.specs.Ranges.{range_operator, range_from, inherited_range, range_of, with_range, without_range}
 use Rattle.bank_zone_ranges.proofs.SplitLaws.{low_of_range, high_of_range, own_with, own_without}
 use Rattle.zone_select.specs.Ranges.{within}
-use Rattle.zone_select.specs.Taken.{setting, Taken, taken}
+use Rattle.zone_select.specs.ZoneSettings.{setting, ZoneSettings, zone_settings}
 
 -- ---- the map
 
@@ -46,23 +46,23 @@ setting_at global z gens axis h op =
       | false ↦ λ e. ap (λ o. option_or o (get global.gens op)) (sym (h op (no_range axis op e)))
     ] refl
 
-pub taken-with : (global : GlobalZone) (z : Zone) (axis : Axis) (w : ℕ)
-    → taken global z ≡ taken global (with_range axis w z)
-unfolding taken
-taken-with global z axis w =
+pub zone_settings-with : (global : GlobalZone) (z : Zone) (axis : Axis) (w : ℕ)
+    → zone_settings global z ≡ zone_settings global (with_range axis w z)
+unfolding zone_settings
+zone_settings-with global z axis w =
     let same =
     setting_at global z (insert z.gens (range_operator axis) w) axis
     (λ op n. get-insert_other z.gens (range_operator axis) w op n) in
-    λ i. let r : Taken = record { settings = λ op. same op i; mods = z.mods; inherited = global.mods } in r
+    λ i. let r : ZoneSettings = record { settings = λ op. same op i; mods = z.mods; inherited = global.mods } in r
 
-pub taken-without : (global : GlobalZone) (z : Zone) (axis : Axis)
-    → taken global z ≡ taken global (without_range axis z)
-unfolding taken
-taken-without global z axis =
+pub zone_settings-without : (global : GlobalZone) (z : Zone) (axis : Axis)
+    → zone_settings global z ≡ zone_settings global (without_range axis z)
+unfolding zone_settings
+zone_settings-without global z axis =
     let same =
     setting_at global z (remove z.gens (range_operator axis)) axis
     (λ op n. get-remove_other z.gens (range_operator axis) op n) in
-    λ i. let r : Taken = record { settings = λ op. same op i; mods = z.mods; inherited = global.mods } in r
+    λ i. let r : ZoneSettings = record { settings = λ op. same op i; mods = z.mods; inherited = global.mods } in r
 
 -- ---- ranges
 

@@ -11,27 +11,27 @@ use Rattle.script_notes.specs.Notes.{Numbers}
 use Rattle.bank_parts.specs.declared.parts.Head.{Head}
 use Rattle.bank_parts.specs.declared.parts.GlobalZone.{GlobalZone}
 use Rattle.bank_parts.specs.declared.parts.Zone.{Zone}
-use Rattle.bank_parts.specs.declared.parts.WithZones.{WithZones}
+use Rattle.bank_parts.specs.declared.parts.ZoneOwner.{ZoneOwner}
 use Rattle.bank_parts.specs.declared.parts.Sample.{Sample}
 use Rattle.bank_parts.specs.declared.parts.Parts.{Parts}
 use Rattle.bank_parts.specs.Renumbered.{zone_renumbered, owner_renumbered}
 use Rattle.bank_changes.proofs.Everywhere.{all_weaker}
 use Rattle.bank_changes.proofs.OwnerReferences.{OfTargets, OfOwners}
 use Rattle.zone_select.specs.Ranges.{holds}
-use Rattle.zone_select.specs.Taken.{Taken, taken, setting}
-use Rattle.zone_select.specs.Select.{Voice, voice_of, is_called}
-use Rattle.zone_select.specs.Pairs.{holds_at, held, held_inside, pairs_at, pairs, Chosen, instrument_zone_chosen}
-use Rattle.zone_select.specs.Pairs.{zone_chosen, preset_chosen, chosen_by, chosen_voice}
+use Rattle.zone_select.specs.ZoneSettings.{ZoneSettings, zone_settings, setting}
+use Rattle.zone_select.specs.Select.{Voice, voice_of, has_preset_numbers}
+use Rattle.zone_select.specs.Pairs.{holds_at, held, held_inside, pairs_at, pairs, SelectedPair, pair_of_instrument}
+use Rattle.zone_select.specs.Pairs.{pair_of_zone, pair_of_preset, selected_pair, selected_pair_voice}
 use Rattle.zone_select.specs.Alike.{HaveSamePairs}
 use Rattle.zone_select.proofs.Matched.{Matched, MatchedOption, matched-get, matched-find, matched-map, matched-same}
 use Rattle.zone_select.proofs.Matched.{matched-changed, matched-option_same, matched-long, matched-same_or}
-use Rattle.zone_select.proofs.AlikeLaws.{SoundSame, sound_same, same_voices}
+use Rattle.zone_select.proofs.AlikeLaws.{HaveSameVoices, sound_same, same_voices}
 
 abbrev Instrument : Type 0
-Instrument = WithZones (List ℕ)
+Instrument = ZoneOwner (List ℕ)
 
 abbrev Preset : Type 0
-Preset = WithZones Head
+Preset = ZoneOwner Head
 
 -- two zones that are the same except for their targets, which T relates
 record ZonesSame (T : ℕ → ℕ → Type 0) (z w : Zone) : Type 0 where
@@ -40,12 +40,12 @@ record ZonesSame (T : ℕ → ℕ → Type 0) (z w : Zone) : Type 0 where
   target : T z.target w.target
 
 -- two presets or instruments with the same zones except for their targets
-record OwnersSame {H : Type 0} (T : ℕ → ℕ → Type 0) (x y : WithZones H) : Type 0 where
+record OwnersSame {H : Type 0} (T : ℕ → ℕ → Type 0) (x y : ZoneOwner H) : Type 0 where
   global : x.global ≡ y.global
   zones : Matched (ZonesSame T) x.zones y.zones
 
 abbrev SamplesAt : Parts → Parts → ℕ → ℕ → Type 0
-SamplesAt b c t s = MatchedOption SoundSame (slice_get b.samples t) (slice_get c.samples s)
+SamplesAt b c t s = MatchedOption HaveSameVoices (slice_get b.samples t) (slice_get c.samples s)
 
 abbrev InstrumentsSame : Parts → Parts → Instrument → Instrument → Type 0
 InstrumentsSame b c = OwnersSame (SamplesAt b c)
@@ -65,10 +65,10 @@ module _ (T : ℕ → ℕ → Type 0) (n : Numbers) (a d : GlobalZone) (e : a �
   same_holds z w s = λ i.
       (let x : Zone = record { target = z.target; gens = s.gens i; mods = s.mods i } in holds n (e i) x)
 
-  same_taken : (z w : Zone) → ZonesSame T z w → taken a z ≡ taken d w
-  unfolding taken setting
+  same_taken : (z w : Zone) → ZonesSame T z w → zone_settings a z ≡ zone_settings d w
+  unfolding zone_settings setting
   same_taken z w s = λ i.
-      (let x : Zone = record { target = z.target; gens = s.gens i; mods = s.mods i } in taken (e i) x)
+      (let x : Zone = record { target = z.target; gens = s.gens i; mods = s.mods i } in zone_settings (e i) x)
 
   same_held : (xs ys : List Zone) (k : ℕ) → Matched (ZonesSame T) xs ys → held n a xs k ≡ held n d ys k
   same_held xs ys k m =
@@ -81,18 +81,18 @@ module _ (T : ℕ → ℕ → Type 0) (n : Numbers) (a d : GlobalZone) (e : a �
 -- ---- the voice of a pair
 
 -- the voice of an instrument's zone, with the settings of a preset's
-abbrev voice_inside : Parts → Numbers → Taken → ℕ → Instrument → Option Voice
-voice_inside b n u l i = option_and_then (chosen_voice b n) (instrument_zone_chosen n u l i)
+abbrev voice_inside : Parts → Numbers → ZoneSettings → ℕ → Instrument → Option Voice
+voice_inside b n u l i = option_and_then (selected_pair_voice b n) (pair_of_instrument n u l i)
 
-abbrev inside_held : Parts → Numbers → Taken → GlobalZone → Option Zone → Option Voice
+abbrev inside_held : Parts → Numbers → ZoneSettings → GlobalZone → Option Zone → Option Voice
 inside_held b n u a o =
-    option_and_then (chosen_voice b n)
+    option_and_then (selected_pair_voice b n)
     (option_map
-    (λ (y : Zone). let r : Chosen =
-    record { instrument_zone = taken a y; preset_zone = u; sample = y.target } in r)
+    (λ (y : Zone). let r : SelectedPair =
+    record { instrument_zone = zone_settings a y; preset_zone = u; sample = y.target } in r)
     o)
 
-same_inside : (b c : Parts) (n : Numbers) (u v : Taken) (l : ℕ) (i j : Instrument) → u ≡ v → InstrumentsSame b c i j
+same_inside : (b c : Parts) (n : Numbers) (u v : ZoneSettings) (l : ℕ) (i j : Instrument) → u ≡ v → InstrumentsSame b c i j
     → voice_inside b n u l i ≡ voice_inside c n v l j
 same_inside b c n u v l i j e s =
     from (slice_get i.zones l) (slice_get j.zones l)
@@ -104,7 +104,7 @@ same_inside b c n u v l i j e s =
         (λ k.
         option_map (voice_of n (same_taken (SamplesAt b c) n i.global j.global s.global z w m k) (e k))
         (slice_get b.samples z.target))
-        ∙ same_voices n v (taken j.global w) (slice_get b.samples z.target) (slice_get c.samples w.target) m.target
+        ∙ same_voices n v (zone_settings j.global w) (slice_get b.samples z.target) (slice_get c.samples w.target) m.target
     tested false z w m = refl
 
     from : (o p : Option Zone) → MatchedOption (ZonesSame (SamplesAt b c)) o p
@@ -121,19 +121,19 @@ same_inside b c n u v l i j e s =
 
 -- the voice of a preset's pair
 abbrev voice_outside : Parts → Numbers → ℕ × ℕ → Preset → Option Voice
-voice_outside b n q p = option_and_then (chosen_voice b n) (preset_chosen b n q p)
+voice_outside b n q p = option_and_then (selected_pair_voice b n) (pair_of_preset b n q p)
 
-same_target : (b c : Parts) (n : Numbers) (u v : Taken) (l : ℕ) → u ≡ v → (o p : Option Instrument)
+same_target : (b c : Parts) (n : Numbers) (u v : ZoneSettings) (l : ℕ) → u ≡ v → (o p : Option Instrument)
     → MatchedOption (InstrumentsSame b c) o p
-    → option_and_then (chosen_voice b n) (option_and_then (instrument_zone_chosen n u l) o)
-    ≡ option_and_then (chosen_voice c n) (option_and_then (instrument_zone_chosen n v l) p)
+    → option_and_then (selected_pair_voice b n) (option_and_then (pair_of_instrument n u l) o)
+    ≡ option_and_then (selected_pair_voice c n) (option_and_then (pair_of_instrument n v l) p)
 same_target b c n u v l e None None m = refl
 same_target b c n u v l e None (Some j) m = absurd m
 same_target b c n u v l e (Some i) None m = absurd m
 same_target b c n u v l e (Some i) (Some j) m = same_inside b c n u v l i j e m
 
 abbrev outside_held : Parts → Numbers → GlobalZone → ℕ → Option Zone → Option Voice
-outside_held b n a l o = option_and_then (chosen_voice b n) (option_and_then (zone_chosen b n a l) o)
+outside_held b n a l o = option_and_then (selected_pair_voice b n) (option_and_then (pair_of_zone b n a l) o)
 
 same_outside : (b c : Parts) (n : Numbers) (q : ℕ × ℕ) (p r : Preset) → OwnersSame (InstrumentsAt b c) p r
     → voice_outside b n q p ≡ voice_outside c n q r
@@ -144,7 +144,7 @@ same_outside b c n q p r s =
     tested : (t : Bool) (z w : Zone) → ZonesSame (InstrumentsAt b c) z w
         → outside_held b n p.global q.1 (cond t (Some z) None) ≡ outside_held c n r.global q.1 (cond t (Some w) None)
     tested true z w m =
-        same_target b c n (taken p.global z) (taken r.global w) q.1
+        same_target b c n (zone_settings p.global z) (zone_settings r.global w) q.1
         (same_taken (InstrumentsAt b c) n p.global r.global s.global z w m) (slice_get b.instruments z.target)
         (slice_get c.instruments w.target) m.target
     tested false z w m = refl
@@ -185,18 +185,18 @@ same_pairs b c n p r s =
     λ i. flat_map (λ k. row k i) (zones i)
 
 have_same : (b c : Parts) → Matched (PresetsSame b c) b.presets c.presets → HaveSamePairs b c
-unfolding pairs chosen_by is_called
+unfolding pairs selected_pair has_preset_numbers
 have_same b c m n =
-    let found = matched-find (PresetsSame b c) (is_called n) (is_called n)
+    let found = matched-find (PresetsSame b c) (has_preset_numbers n) (has_preset_numbers n)
     (λ p q e. λ i. e.0 i == n.bank && e.1 i == n.number) b.presets c.presets m in (
       matched-same_or (PresetsSame b c) (pairs_of b n) (pairs_of c n) [] (λ p r e. same_pairs b c n p r e.2)
-          (find (is_called n) b.presets) (find (is_called n) c.presets) found,
-      λ q. voices q (find (is_called n) b.presets) (find (is_called n) c.presets) found,
+          (find (has_preset_numbers n) b.presets) (find (has_preset_numbers n) c.presets) found,
+      λ q. voices q (find (has_preset_numbers n) b.presets) (find (has_preset_numbers n) c.presets) found,
     )
   where
     voices : (q : ℕ × ℕ) (o y : Option Preset) → MatchedOption (PresetsSame b c) o y
-        → option_and_then (chosen_voice b n) (option_and_then (preset_chosen b n q) o)
-        ≡ option_and_then (chosen_voice c n) (option_and_then (preset_chosen c n q) y)
+        → option_and_then (selected_pair_voice b n) (option_and_then (pair_of_preset b n q) o)
+        ≡ option_and_then (selected_pair_voice c n) (option_and_then (pair_of_preset c n q) y)
     voices q None None h = refl
     voices q None (Some r) h = absurd h
     voices q (Some p) None h = absurd h
@@ -204,7 +204,7 @@ have_same b c m n =
 
 -- ---- reflexivity
 
-owner_same : {H : Type 0} (T : ℕ → ℕ → Type 0) → ((t : ℕ) → T t t) → (x : WithZones H) → OwnersSame T x x
+owner_same : {H : Type 0} (T : ℕ → ℕ → Type 0) → ((t : ℕ) → T t t) → (x : ZoneOwner H) → OwnersSame T x x
 owner_same T h x = record {
   global = refl;
   zones =
@@ -212,7 +212,7 @@ owner_same T h x = record {
 }
 
 -- each target gets a new number
-owner_renumbered-same : {H : Type 0} (T : ℕ → ℕ → Type 0) (by : Renumbering) (x : WithZones H)
+owner_renumbered-same : {H : Type 0} (T : ℕ → ℕ → Type 0) (by : Renumbering) (x : ZoneOwner H)
     → OfTargets (λ t. T t (renumbered by t)) x.zones → OwnersSame T x (owner_renumbered by x)
 owner_renumbered-same T by x h = record {
   global = refl;
@@ -234,7 +234,7 @@ same_presets b c h p = (refl, refl, owner_same (InstrumentsAt b c) h p)
 -- ---- one member replaced
 
 -- samples with the same voices
-pub samples-same : (b : Parts) (samples : List Sample) → Matched SoundSame b.samples samples
+pub samples-same : (b : Parts) (samples : List Sample) → Matched HaveSameVoices b.samples samples
     → HaveSamePairs b (record b { samples = samples })
 samples-same b samples h =
     let c : Parts = record b { samples = samples } in
@@ -242,7 +242,7 @@ samples-same b samples h =
     (same_presets b c
     (λ t.
     matched-option_same (InstrumentsSame b c)
-    (instrument_same b c (λ k. matched-get SoundSame b.samples samples k h)) (slice_get b.instruments t)))
+    (instrument_same b c (λ k. matched-get HaveSameVoices b.samples samples k h)) (slice_get b.instruments t)))
     b.presets)
 
 -- an instrument with another name
@@ -252,7 +252,7 @@ pub head-same : (b : Parts) (k : ℕ) (f : Instrument → Instrument)
 head-same b k f h =
     let c : Parts = record b { instruments = changed b.instruments k f } in
     let same : (i : Instrument) → InstrumentsSame b c i i =
-    instrument_same b c (λ t. matched-option_same SoundSame sound_same (slice_get b.samples t)) in
+    instrument_same b c (λ t. matched-option_same HaveSameVoices sound_same (slice_get b.samples t)) in
     have_same b c (matched-same (PresetsSame b c)
     (same_presets b c
     (λ t.
@@ -268,7 +268,7 @@ head-same b k f h =
 
 -- samples with other numbers, which zones follow
 pub samples_renumbered-same : (b : Parts) (by : Renumbering) (samples : List Sample)
-    → OfOwners (λ t. MatchedOption SoundSame (slice_get b.samples t) (slice_get samples (renumbered by t)))
+    → OfOwners (λ t. MatchedOption HaveSameVoices (slice_get b.samples t) (slice_get samples (renumbered by t)))
     b.instruments
     → HaveSamePairs b (record b { samples = samples; instruments = map (owner_renumbered by) b.instruments })
 samples_renumbered-same b by samples h =
@@ -290,7 +290,7 @@ instruments_renumbered-same b by instruments h =
     let c : Parts = record b { instruments = instruments; presets = map (owner_renumbered by) b.presets } in
     let P : ℕ → Type 0 = λ t. slice_get instruments (renumbered by t) ≡ slice_get b.instruments t in
     let same : (i : Instrument) → InstrumentsSame b c i i =
-    instrument_same b c (λ t. matched-option_same SoundSame sound_same (slice_get b.samples t)) in
+    instrument_same b c (λ t. matched-option_same HaveSameVoices sound_same (slice_get b.samples t)) in
     let found : (t : ℕ) → P t → InstrumentsAt b c t (renumbered by t) = λ t e.
     subst (MatchedOption (InstrumentsSame b c) (slice_get b.instruments t)) (sym e)
     (matched-option_same (InstrumentsSame b c) same (slice_get b.instruments t)) in

@@ -7,7 +7,7 @@ use Rattle.std.proofs.lemmas.Map.Views.{Contains-from_any}
 use Rattle.std.proofs.lemmas.Nat.{div-add-mod'}
 use Rattle.modulators.specs.declared.modulator.Modulator.{Modulator}
 use Rattle.modulators.specs.Modulators.{SameIdentity, flag_of, index_of}
-use Rattle.modulators.specs.Linear.{IsLinear, curve_of, velocity_index, key_index, moved_generators}
+use Rattle.modulators.specs.Linear.{IsLinear, curve_of, velocity_index, key_index, linear_destinations}
 use Rattle.zone_select.specs.Amounts.{linear_sources, linear_from}
 
 listed : (n : ℕ) (ns : List ℕ) → list_any (λ m. n == m) ns ≡ true → Contains ns n
@@ -66,7 +66,7 @@ is_source source (suc (suc (suc (suc (suc (suc zero))))), l, e) = by_velocity so
 is_source source (suc (suc (suc (suc (suc (suc (suc zero)))))), l, e) = by_key source 771 e refl refl refl
 is_source source (suc (suc (suc (suc (suc (suc (suc (suc k))))))), l, e) = absurd (omega (arith, l))
 
-pub summed_linear : (source op : ℕ) → Contains linear_sources source → Contains moved_generators op
+pub summed_linear : (source op : ℕ) → Contains linear_sources source → Contains linear_destinations op
     → IsLinear (linear_from source op)
 summed_linear source op s o =
     let i = is_source source s in

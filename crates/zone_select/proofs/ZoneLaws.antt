@@ -8,36 +8,36 @@ use Rattle.std.proofs.lemmas.Option.{get_or_from_slice_get, slice_get_within, sl
 use Rattle.std.proofs.lemmas.List.Sums.{get_or-le-sum_by}
 use Rattle.script_notes.specs.Notes.{Numbers}
 use Rattle.bank_parts.specs.declared.parts.Zone.{Zone}
-use Rattle.bank_parts.specs.declared.parts.WithZones.{WithZones}
+use Rattle.bank_parts.specs.declared.parts.ZoneOwner.{ZoneOwner}
 use Rattle.bank_parts.specs.declared.parts.Parts.{Parts}
 use Rattle.bank_parts.specs.Valid.{IsWithin, zone_count, owner_total}
 use Rattle.bank_parts.specs.Sound.{IsSound}
 use Rattle.bank_changes.specs.declared.members.Owner.{Owner}
 use Rattle.bank_changes.specs.declared.members.Owner.TheVariants as owner
 use Rattle.bank_parts.specs.Owners.{zone_count_at}
-use Rattle.bank_changes.specs.Members.{own_zone_count}
+use Rattle.bank_changes.specs.Members.{owner_zone_count}
 use Rattle.bank_changes.specs.Zones.{range_of_zone}
 use Rattle.bank_zone_ranges.specs.declared.axes.Axis.TheVariants.{Key, Vel}
 use Rattle.bank_zone_ranges.specs.Ranges.{low_end, high_end, range_of, range_at}
 use Rattle.zone_select.specs.Ranges.{holds, within}
 use Rattle.zone_select.specs.Pairs.{holds_at, held}
-use Rattle.zone_select.specs.Left.{zones_in, owner_holds, owner_held}
+use Rattle.zone_select.specs.Remaining.{zones_in, owner_holds, owner_held}
 use Rattle.zone_select.proofs.NumberLaws.{numbers, numbers_end, numbers_hit, numbers_miss}
 
 -- ---- an owner has no more zones than its whole level
 
-few_in : {H : Type 0} (owners : List (WithZones H)) (i : ℕ) (o : Option (WithZones H)) → slice_get owners i ≡ o
-    → option_map_or (λ (x : WithZones H). length x.zones) o 0 ≤ owner_total zone_count owners
+few_in : {H : Type 0} (owners : List (ZoneOwner H)) (i : ℕ) (o : Option (ZoneOwner H)) → slice_get owners i ≡ o
+    → option_map_or (λ (x : ZoneOwner H). length x.zones) o 0 ≤ owner_total zone_count owners
 few_in owners i None e = omega arith
 few_in {H} owners i (Some x) e =
     let h =
-    get_or-le-sum_by (λ (y : WithZones H). zone_count y.global y.zones) owners i x
+    get_or-le-sum_by (λ (y : ZoneOwner H). zone_count y.global y.zones) owners i x
     (slice_get_within owners i x e) in
-    let same = ap (λ (y : WithZones H). zone_count y.global y.zones) (get_or_from_slice_get owners i x x e) in
+    let same = ap (λ (y : ZoneOwner H). zone_count y.global y.zones) (get_or_from_slice_get owners i x x e) in
     omega (arith, h, same)
 
-count_in : {H : Type 0} (owners : List (WithZones H)) (i : ℕ) (o : Option (WithZones H)) → slice_get owners i ≡ o
-    → unwrap_or (zone_count_at owners i) 0 ≡ option_map_or (λ (x : WithZones H). length x.zones) o 0
+count_in : {H : Type 0} (owners : List (ZoneOwner H)) (i : ℕ) (o : Option (ZoneOwner H)) → slice_get owners i ≡ o
+    → unwrap_or (zone_count_at owners i) 0 ≡ option_map_or (λ (x : ZoneOwner H). length x.zones) o 0
 count_in owners i None e = rw e refl
 count_in owners i (Some x) e = rw e refl
 
@@ -49,7 +49,7 @@ zones_few b (owner.Inst i) w =
     let h = few_in b.instruments i _ refl in
     let s = count_in b.instruments i _ refl in let most = w.instrument_zones in omega (arith, h, s, most)
 
-pub zone_count_few : (b : Parts) (o : Owner) (n : ℕ) → IsSound b → own_zone_count b o ≡ Some n → n ≤ 65535
+pub zone_count_few : (b : Parts) (o : Owner) (n : ℕ) → IsSound b → owner_zone_count b o ≡ Some n → n ≤ 65535
 zone_count_few b o n s e =
     let h = zones_few b o s.valid.limits in let same : zones_in b o ≡ n = rw e refl in omega (arith, h, same)
 
@@ -59,15 +59,15 @@ fits_field n h = omega (arith, h)
 -- ---- whether a zone contains the note
 
 -- an existing zone, by its two ranges from the queries of a bank
-pub record Told (n : Numbers) (keys velocities : Option ℕ) (holding : Bool) : Type 0 where
+pub record QueriedZone (n : Numbers) (keys velocities : Option ℕ) (holding : Bool) : Type 0 where
   pub key : ℕ
   pub velocity : ℕ
   pub key_range : keys ≡ Some key
   pub velocity_range : velocities ≡ Some velocity
   pub holds : holding ≡ (within key n.key && within velocity n.velocity)
 
-abbrev pub ZoneTold : Parts → Numbers → Owner → ℕ → Type 0
-ZoneTold b n o k = Told n (range_of_zone b o k Key) (range_of_zone b o k Vel) (owner_holds b n o k)
+abbrev pub ZoneQueried : Parts → Numbers → Owner → ℕ → Type 0
+ZoneQueried b n o k = QueriedZone n (range_of_zone b o k Key) (range_of_zone b o k Vel) (owner_holds b n o k)
 
 there : (zones : List Zone) (k : ℕ) → k < length zones → (z : Zone) × (slice_get zones k ≡ Some z)
 there zones k h = from (slice_get_cases zones k).1
@@ -78,13 +78,13 @@ there zones k h = from (slice_get_cases zones k).1
     from (inl r) = (r.0, r.2)
     from (inr r) = absurd (let past = r.0 in omega (arith, h, past))
 
-told_in : {H : Type 0} (owners : List (WithZones H)) (n : Numbers) (i k : ℕ) (o : Option (WithZones H))
-    → slice_get owners i ≡ o → k < option_map_or (λ (x : WithZones H). length x.zones) o 0
-    → Told n (range_at Key owners i k) (range_at Vel owners i k)
-    (option_map_or (λ (x : WithZones H). holds_at n x.global x.zones k) (slice_get owners i) false)
+queried_in : {H : Type 0} (owners : List (ZoneOwner H)) (n : Numbers) (i k : ℕ) (o : Option (ZoneOwner H))
+    → slice_get owners i ≡ o → k < option_map_or (λ (x : ZoneOwner H). length x.zones) o 0
+    → QueriedZone n (range_at Key owners i k) (range_at Vel owners i k)
+    (option_map_or (λ (x : ZoneOwner H). holds_at n x.global x.zones k) (slice_get owners i) false)
 unfolding holds
-told_in owners n i k None e h = absurd (omega (arith, h))
-told_in owners n i k (Some x) e h =
+queried_in owners n i k None e h = absurd (omega (arith, h))
+queried_in owners n i k (Some x) e h =
     let z = there x.zones k h in
     record {
       key =
@@ -97,11 +97,11 @@ told_in owners n i k (Some x) e h =
       holds = rw (e, z.1) refl;
     }
 
-pub zone_told : (b : Parts) (n : Numbers) (o : Owner) (k : ℕ) → k < zones_in b o → ZoneTold b n o k
-zone_told b n (owner.Preset p) k h =
-    let s = count_in b.presets p _ refl in told_in b.presets n p k _ refl (omega (arith, h, s))
-zone_told b n (owner.Inst i) k h =
-    let s = count_in b.instruments i _ refl in told_in b.instruments n i k _ refl (omega (arith, h, s))
+pub zone_queried : (b : Parts) (n : Numbers) (o : Owner) (k : ℕ) → k < zones_in b o → ZoneQueried b n o k
+zone_queried b n (owner.Preset p) k h =
+    let s = count_in b.presets p _ refl in queried_in b.presets n p k _ refl (omega (arith, h, s))
+zone_queried b n (owner.Inst i) k h =
+    let s = count_in b.instruments i _ refl in queried_in b.instruments n i k _ refl (omega (arith, h, s))
 
 -- a range by its ends
 both_ends : (r : Bool) (low high range x : ℕ) → low_end range ≡ low → high_end range ≡ high
@@ -126,11 +126,11 @@ contains_is r low high range x o is l h e =
     both_ends r low high range x (same_some (sym (ap (option_map low_end) is) ∙ l))
     (same_some (sym (ap (option_map high_end) is) ∙ h)) e
 
-pub both_hold : (b : Parts) (n : Numbers) (o : Owner) (k : ℕ) (q r : Bool) (t : ZoneTold b n o k)
+pub both_hold : (b : Parts) (n : Numbers) (o : Owner) (k : ℕ) (q r : Bool) (t : ZoneQueried b n o k)
     → q ≡ within t.key n.key → q ≡ true → r ≡ within t.velocity n.velocity → r ≡ owner_holds b n o k
 both_hold b n o k q r t e f g = g ∙ ap (λ (x : Bool). x && within t.velocity n.velocity) (sym f ∙ e) ∙ sym t.holds
 
-pub first_fails : (b : Parts) (n : Numbers) (o : Owner) (k : ℕ) (q : Bool) (t : ZoneTold b n o k)
+pub first_fails : (b : Parts) (n : Numbers) (o : Owner) (k : ℕ) (q : Bool) (t : ZoneQueried b n o k)
     → q ≡ within t.key n.key → q ≡ false → q ≡ owner_holds b n o k
 first_fails b n o k q t e f = f ∙ ap (λ (x : Bool). x && within t.velocity n.velocity) (sym f ∙ e) ∙ sym t.holds
 
@@ -140,17 +140,17 @@ counted (Some n) k h = h
 
 -- ---- the numbers of the zones that contain the note
 
-held_in : {H : Type 0} (owners : List (WithZones H)) (n : Numbers) (i k : ℕ)
-    → option_map_or (λ (x : WithZones H). held n x.global x.zones k) (slice_get owners i) []
+held_in : {H : Type 0} (owners : List (ZoneOwner H)) (n : Numbers) (i k : ℕ)
+    → option_map_or (λ (x : ZoneOwner H). held n x.global x.zones k) (slice_get owners i) []
     ≡ numbers
-    (λ j. option_map_or (λ (x : WithZones H). holds_at n x.global x.zones j) (slice_get owners i) false) k
+    (λ j. option_map_or (λ (x : ZoneOwner H). holds_at n x.global x.zones j) (slice_get owners i) false) k
     (unwrap_or (zone_count_at owners i) 0)
 held_in {H} owners n i k =
     elim (slice_get owners i) as
-    (λ (o : Option (WithZones H)).
-    option_map_or (λ (x : WithZones H). held n x.global x.zones k) o []
-    ≡ numbers (λ j. option_map_or (λ (x : WithZones H). holds_at n x.global x.zones j) o false) k
-    (unwrap_or (option_map (λ (x : WithZones H). length x.zones) o) 0)) [
+    (λ (o : Option (ZoneOwner H)).
+    option_map_or (λ (x : ZoneOwner H). held n x.global x.zones k) o []
+    ≡ numbers (λ j. option_map_or (λ (x : ZoneOwner H). holds_at n x.global x.zones j) o false) k
+    (unwrap_or (option_map (λ (x : ZoneOwner H). length x.zones) o) 0)) [
       | None ↦ sym (numbers_end (λ _. false) k 0 (omega arith))
       | Some x ↦ refl
     ]

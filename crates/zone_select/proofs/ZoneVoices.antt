@@ -12,18 +12,18 @@ use Rattle.bank_parts.specs.declared.parts.GlobalZone.{GlobalZone}
 use Rattle.bank_parts.specs.declared.parts.Zone.{Zone}
 use Rattle.bank_zone_ranges.specs.declared.axes.Axis.{Axis}
 use Rattle.bank_zone_ranges.specs.declared.axes.Keep.{Keep}
-use Rattle.bank_zone_ranges.specs.Splits.{lower_part, upper_part, parted, zones_split, joined, merged, zones_joined}
+use Rattle.bank_zone_ranges.specs.Splits.{lower_zone, upper_zone, split_in_two, zones_split, joined, merged, zones_joined}
 use Rattle.bank_zone_ranges.proofs.SplitLaws.{IsSplitAt}
 use Rattle.zone_select.specs.Ranges.{holds}
-use Rattle.zone_select.specs.Taken.{Taken, taken}
+use Rattle.zone_select.specs.ZoneSettings.{ZoneSettings, zone_settings}
 use Rattle.zone_select.specs.Select.{voices_of}
-use Rattle.zone_select.proofs.Flattened.{flat_map-moved, flat_map-parted, flat_map-merged}
+use Rattle.zone_select.proofs.Flattened.{flat_map-moved, flat_map-split_in_two, flat_map-merged}
 use Rattle.zone_select.proofs.Halves.{halves-give}
 use Rattle.zone_select.proofs.Joins.{AreJoinedInOrder, joined_gives}
 
 -- the voices, or their images, of a target
 abbrev pub Inside : Type 0 → Type 0
-Inside X = Taken → ℕ → List X
+Inside X = ZoneSettings → ℕ → List X
 
 given_same : {X : Type 0} (t : Bool) (xs ys : List X) → IsPermutation xs ys
     → IsPermutation (cond t xs []) (cond t ys [])
@@ -32,13 +32,13 @@ given_same false xs ys h = IsPermutation-refl []
 
 -- each target has the same voices
 pub voices_of-same : {X : Type 0} (inside other : Inside X)
-    → ((v : Taken) (t : ℕ) → IsPermutation (inside v t) (other v t))
+    → ((v : ZoneSettings) (t : ℕ) → IsPermutation (inside v t) (other v t))
     → (n : Numbers) (global : GlobalZone) (zones : List Zone)
     → IsPermutation (voices_of inside n global zones) (voices_of other n global zones)
 unfolding voices_of
 voices_of-same inside other h n global [] = IsPermutation-refl []
 voices_of-same inside other h n global (z ∷ zones) =
-    IsPermutation-append _ _ _ _ (given_same (holds n global z) _ _ (h (taken global z) z.target))
+    IsPermutation-append _ _ _ _ (given_same (holds n global z) _ _ (h (zone_settings global z) z.target))
     (voices_of-same inside other h n global zones)
 
 -- ---- zones moved, split and joined
@@ -47,7 +47,7 @@ pub voices_of-moved : {X : Type 0} (inside : Inside X) (n : Numbers) (global : G
     → IsPermutation (voices_of inside n global zones) (voices_of inside n global (moved zones i j))
 unfolding voices_of
 voices_of-moved inside n global zones i j =
-    flat_map-moved (λ (z : Zone). cond (holds n global z) (inside (taken global z) z.target) []) zones i j
+    flat_map-moved (λ (z : Zone). cond (holds n global z) (inside (zone_settings global z) z.target) []) zones i j
 
 -- zone k can be split, if it exists
 abbrev pub CanSplit : Axis → ℕ → GlobalZone → List Zone → ℕ → Type 0
@@ -59,17 +59,17 @@ pub voices_of-split : {X : Type 0} (inside : Inside X) (n : Numbers) (axis : Axi
     → IsPermutation (voices_of inside n global zones) (voices_of inside n global (zones_split axis m global zones k))
 unfolding voices_of
 voices_of-split {X} inside n axis m global zones k small h =
-    let give : Zone → List X = λ z. cond (holds n global z) (inside (taken global z) z.target) [] in
+    let give : Zone → List X = λ z. cond (holds n global z) (inside (zone_settings global z) z.target) [] in
     let at : (o : Option Zone) → slice_get zones k ≡ o
     → flat_map give zones
     ≡ flat_map give
-    (option_map_or (λ (z : Zone). parted zones k (lower_part axis m global z) (upper_part axis m global z)) o
+    (option_map_or (λ (z : Zone). split_in_two zones k (lower_zone axis m global z) (upper_zone axis m global z)) o
     zones)
     =
     elim [
       | None ↦ λ e. refl
       | Some z ↦ λ e.
-          flat_map-parted give zones k (lower_part axis m global z) (upper_part axis m global z) z e
+          flat_map-split_in_two give zones k (lower_zone axis m global z) (upper_zone axis m global z) z e
           (halves-give inside n global z axis m (h z e) small)
     ] in
     subst (IsPermutation (flat_map give zones)) (at (slice_get zones k) refl) (IsPermutation-refl (flat_map give zones))
@@ -86,7 +86,7 @@ pub voices_of-joined : {X : Type 0} (inside : Inside X) (n : Numbers) (axis : Ax
     → IsPermutation (voices_of inside n global zones) (voices_of inside n global (zones_joined axis keep zones k))
 unfolding voices_of
 voices_of-joined {X} inside n axis keep global zones k h =
-    let give : Zone → List X = λ x. cond (holds n global x) (inside (taken global x) x.target) [] in
+    let give : Zone → List X = λ x. cond (holds n global x) (inside (zone_settings global x) x.target) [] in
     let at : (o p : Option Zone) → slice_get zones k ≡ o → slice_get zones (k + 1) ≡ p
     → flat_map give zones
     ≡ flat_map give

@@ -11,18 +11,18 @@ use Rattle.bank_changes.specs.Members.{amount_of, mods_of, target_of}
 use Rattle.bank_parts.specs.declared.parts.Parts.{Parts}
 use Rattle.script_notes.specs.Notes.{Numbers}
 use Rattle.zone_select.specs.declared.amounts.PairAt.{PairAt}
-use Rattle.zone_select.specs.declared.chosen.ChosenAt.{ChosenAt}
-use Rattle.zone_select.specs.Taken.{Taken}
-use Rattle.zone_select.specs.Pairs.{Chosen}
-use Rattle.zone_select.specs.Left.{owner_holds}
+use Rattle.zone_select.specs.declared.selected_pair.SelectedPairAt.{SelectedPairAt}
+use Rattle.zone_select.specs.ZoneSettings.{ZoneSettings}
+use Rattle.zone_select.specs.Pairs.{SelectedPair}
+use Rattle.zone_select.specs.Remaining.{owner_holds}
 
 -- the modulators of a zone or global zone; none if it doesn't exist
 abbrev pub mods_at : Parts → Owner → Place → List Modulator
 mods_at b o at = unwrap_or (mods_of b o at) []
 
 -- the settings of zone k of an owner
-abbrev pub taken_at : Parts → Owner → ℕ → Taken
-taken_at b o k = record {
+abbrev pub zone_settings_at : Parts → Owner → ℕ → ZoneSettings
+zone_settings_at b o k = record {
   settings =
       λ op.
       cond (is_range_operator op) None
@@ -31,11 +31,11 @@ taken_at b o k = record {
   inherited = mods_at b o place.Global;
 }
 
-abbrev pub instrument_zone_at : Parts → PairAt → Taken
-instrument_zone_at b at = taken_at b (owner.Inst at.instrument) at.instrument_zone
+abbrev pub instrument_zone_at : Parts → PairAt → ZoneSettings
+instrument_zone_at b at = zone_settings_at b (owner.Inst at.instrument) at.instrument_zone
 
-abbrev pub preset_zone_at : Parts → PairAt → Taken
-preset_zone_at b at = taken_at b (owner.Preset at.preset) at.preset_zone
+abbrev pub preset_zone_at : Parts → PairAt → ZoneSettings
+preset_zone_at b at = zone_settings_at b (owner.Preset at.preset) at.preset_zone
 
 -- ---- a pair
 
@@ -44,7 +44,7 @@ abbrev pub target_held : Parts → Numbers → Owner → ℕ → Option ℕ
 target_held b n o k = cond (owner_holds b n o k) (target_of b o k) None
 
 -- the settings of both zones, and the number of the sample
-abbrev pub chosen_at : Parts → ChosenAt → Chosen
-chosen_at b c =
+abbrev pub selected_pair_at : Parts → SelectedPairAt → SelectedPair
+selected_pair_at b c =
     record
     { instrument_zone = instrument_zone_at b c.zones; preset_zone = preset_zone_at b c.zones; sample = c.sample }

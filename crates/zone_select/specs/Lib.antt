@@ -1,10 +1,10 @@
 pub mod Ranges
 pub mod Playable
-pub mod Taken
+pub mod ZoneSettings
 pub mod Amounts
 pub mod Select
 pub mod Pairs
-pub mod Left
+pub mod Remaining
 pub mod At
 pub mod Summed
 pub mod Alike

@@ -5,7 +5,7 @@ use Rattle.std.specs.List.{list_any}
 use Rattle.bank_parts.specs.declared.texts.InfoId.{InfoId}
 use Rattle.bank_parts.specs.declared.parts.Kind.{Kind}
 use Rattle.bank_parts.specs.declared.parts.Sample.{Sample}
-use Rattle.bank_parts.specs.declared.parts.WithZones.{WithZones}
+use Rattle.bank_parts.specs.declared.parts.ZoneOwner.{ZoneOwner}
 use Rattle.bank_parts.specs.declared.parts.Parts.{Parts}
 use Rattle.bank_parts.specs.Owners.{targets}
 use Rattle.bank_parts.specs.Valid.{IsValid}
@@ -19,7 +19,7 @@ use Rattle.bank_changes.specs.Zones.{zone_moved, zone_split, zone_joined, can_sp
 use Rattle.bank_changes.specs.Texts.{info_set}
 
 -- no zone of these presets or instruments targets the number
-abbrev pub IsUntargeted : {H : Type 0} → List (WithZones H) → ℕ → Type 0
+abbrev pub IsUntargeted : {H : Type 0} → List (ZoneOwner H) → ℕ → Type 0
 IsUntargeted owners number = list_any (targets number) owners ≡ false
 
 -- ---- samples
@@ -45,7 +45,7 @@ KindSet R = (b : Parts) (i : ℕ) (kind : Kind) → R b (kind_set b i kind)
 
 -- the instrument may be any
 abbrev pub InstrumentAdded : (Parts → Parts → Type 0) → Type 0
-InstrumentAdded R = (b : Parts) (i : ℕ) (x : WithZones (List ℕ)) → i ≤ length b.instruments
+InstrumentAdded R = (b : Parts) (i : ℕ) (x : ZoneOwner (List ℕ)) → i ≤ length b.instruments
     → R b (instrument_added b i x)
 
 abbrev pub InstrumentRemoved : (Parts → Parts → Type 0) → Type 0

@@ -6,11 +6,11 @@ use Rattle.script_notes.specs.Notes.{Numbers}
 use Rattle.bank_parts.specs.declared.parts.Head.{Head}
 use Rattle.bank_parts.specs.declared.parts.GlobalZone.{GlobalZone}
 use Rattle.bank_parts.specs.declared.parts.Zone.{Zone}
-use Rattle.bank_parts.specs.declared.parts.WithZones.{WithZones}
+use Rattle.bank_parts.specs.declared.parts.ZoneOwner.{ZoneOwner}
 use Rattle.bank_parts.specs.declared.parts.Parts.{Parts}
 use Rattle.zone_select.specs.Ranges.{holds}
-use Rattle.zone_select.specs.Taken.{Taken, taken}
-use Rattle.zone_select.specs.Select.{Voice, voice_of, is_called, selected}
+use Rattle.zone_select.specs.ZoneSettings.{ZoneSettings, zone_settings}
+use Rattle.zone_select.specs.Select.{Voice, voice_of, has_preset_numbers, selected}
 
 -- ---- the pairs
 
@@ -25,7 +25,7 @@ held n global zones k = filter (holds_at n global zones) (range_with_len k (leng
 -- those numbers for the zones of an instrument
 abbrev pub held_inside : Parts → Numbers → ℕ → ℕ → List ℕ
 held_inside b n number k =
-    option_map_or (λ (i : WithZones (List ℕ)). held n i.global i.zones k) (slice_get b.instruments number) []
+    option_map_or (λ (i : ZoneOwner (List ℕ)). held n i.global i.zones k) (slice_get b.instruments number) []
 
 -- the pairs of zone k of the preset
 abbrev pub pairs_at : Parts → Numbers → List Zone → ℕ → List (ℕ × ℕ)
@@ -36,43 +36,43 @@ pairs_at b n zones k =
 -- the pairs (a zone of the preset, a zone of its instrument) of zones that contain the note, in ascending order
 unfoldable pub pairs : Parts → Numbers → List (ℕ × ℕ)
 pairs b n =
-    option_map_or (λ (p : WithZones Head). flat_map (pairs_at b n p.zones) (held n p.global p.zones 0))
-    (find (is_called n) b.presets) []
+    option_map_or (λ (p : ZoneOwner Head). flat_map (pairs_at b n p.zones) (held n p.global p.zones 0))
+    (find (has_preset_numbers n) b.presets) []
 
 -- ---- the zones of a pair
 
 -- the settings of its two zones, and the number of its sample
-pub record Chosen : Type 0 where
-  pub instrument_zone : Taken
-  pub preset_zone : Taken
+pub record SelectedPair : Type 0 where
+  pub instrument_zone : ZoneSettings
+  pub preset_zone : ZoneSettings
   pub sample : ℕ
 
 -- zone k, if it contains the note
 abbrev pub zone_held : Numbers → GlobalZone → List Zone → ℕ → Option Zone
 zone_held n global zones k = option_and_then (λ (z : Zone). cond (holds n global z) (Some z) None) (slice_get zones k)
 
-abbrev pub instrument_zone_chosen : Numbers → Taken → ℕ → WithZones (List ℕ) → Option Chosen
-instrument_zone_chosen n u l i =
-    option_map (λ (y : Zone). record { instrument_zone = taken i.global y; preset_zone = u; sample = y.target })
+abbrev pub pair_of_instrument : Numbers → ZoneSettings → ℕ → ZoneOwner (List ℕ) → Option SelectedPair
+pair_of_instrument n u l i =
+    option_map (λ (y : Zone). record { instrument_zone = zone_settings i.global y; preset_zone = u; sample = y.target })
     (zone_held n i.global i.zones l)
 
-abbrev pub zone_chosen : Parts → Numbers → GlobalZone → ℕ → Zone → Option Chosen
-zone_chosen b n global l z =
-    option_and_then (instrument_zone_chosen n (taken global z) l) (slice_get b.instruments z.target)
+abbrev pub pair_of_zone : Parts → Numbers → GlobalZone → ℕ → Zone → Option SelectedPair
+pair_of_zone b n global l z =
+    option_and_then (pair_of_instrument n (zone_settings global z) l) (slice_get b.instruments z.target)
 
-abbrev pub preset_chosen : Parts → Numbers → ℕ × ℕ → WithZones Head → Option Chosen
-preset_chosen b n q p = option_and_then (zone_chosen b n p.global q.1) (zone_held n p.global p.zones q.0)
+abbrev pub pair_of_preset : Parts → Numbers → ℕ × ℕ → ZoneOwner Head → Option SelectedPair
+pair_of_preset b n q p = option_and_then (pair_of_zone b n p.global q.1) (zone_held n p.global p.zones q.0)
 
 -- the zones of a pair, if both contain the note
-unfoldable pub chosen_by : Parts → Numbers → ℕ × ℕ → Option Chosen
-chosen_by b n q = option_and_then (preset_chosen b n q) (find (is_called n) b.presets)
+unfoldable pub selected_pair : Parts → Numbers → ℕ × ℕ → Option SelectedPair
+selected_pair b n q = option_and_then (pair_of_preset b n q) (find (has_preset_numbers n) b.presets)
 
 -- the voice of a pair: its sample's points, and its parameters
-abbrev pub chosen_voice : Parts → Numbers → Chosen → Option Voice
-chosen_voice b n c = option_map (voice_of n c.instrument_zone c.preset_zone) (slice_get b.samples c.sample)
+abbrev pub selected_pair_voice : Parts → Numbers → SelectedPair → Option Voice
+selected_pair_voice b n c = option_map (voice_of n c.instrument_zone c.preset_zone) (slice_get b.samples c.sample)
 
 abbrev pub voice_by : Parts → Numbers → ℕ × ℕ → Option Voice
-voice_by b n q = option_and_then (chosen_voice b n) (chosen_by b n q)
+voice_by b n q = option_and_then (selected_pair_voice b n) (selected_pair b n q)
 
 abbrev pub listed : Option Voice → List Voice
 listed o = option_map_or (λ v. v ∷ []) o []

@@ -8,6 +8,6 @@ pub record IsPlayable (count : ℕ) (v : VoiceParameters) : Type 0 where
   pub inside : v.end ≤ count
   pub ordered : v.looped ≡ true → v.loop_start < v.loop_end
   pub loop_inside : v.looped ≡ true → v.loop_end ≤ v.end
-  pub step : v.step ≤ MOST_PHASE_INCREMENT
+  pub phase_increment : v.phase_increment ≤ MOST_PHASE_INCREMENT
   pub left : negsuc 499 ≤ℤ v.pan
   pub right : v.pan ≤ℤ pos 500

@@ -4,11 +4,11 @@ use Rattle.std.specs.List.{Contains}
 use Rattle.script_notes.specs.Notes.{Numbers}
 use Rattle.bank_parts.specs.declared.parts.Parts.{Parts}
 use Rattle.bank_parts.specs.Valid.{IsValid}
-use Rattle.zone_select.specs.Pairs.{pairs, chosen_by, voice_by}
+use Rattle.zone_select.specs.Pairs.{pairs, selected_pair, voice_by}
 
 -- both its zones exist and contain the note
 abbrev pub PairsAreChosen : Type 0
-PairsAreChosen = (b : Parts) (n : Numbers) (q : ℕ × ℕ) → Contains (pairs b n) q ↔ IsSome (chosen_by b n q)
+PairsAreChosen = (b : Parts) (n : Numbers) (q : ℕ × ℕ) → Contains (pairs b n) q ↔ IsSome (selected_pair b n q)
 
 -- in a valid bank the sample exists too
 abbrev pub PairsHaveVoices : Type 0

@@ -3,7 +3,7 @@ use Rattle.std.specs.Prelude.{◌==◌, ℕ}
 use Rattle.std.specs.List.{Contains, IsDistinct}
 use Rattle.modulators.specs.declared.modulator.Modulator.{Modulator}
 use Rattle.modulators.specs.Modulators.{SameIdentity}
-use Rattle.modulators.specs.Linear.{IsLinear, moved_generators}
+use Rattle.modulators.specs.Linear.{IsLinear, linear_destinations}
 use Rattle.zone_select.specs.Amounts.{linear_sources, linear_from}
 
 -- a linear modulator has one of the sources, and the identity that is summed for this source
@@ -14,7 +14,7 @@ LinearAreSummed =
 -- there is a linear modulator from each source to each generator that may be modulated
 abbrev pub SummedAreLinear : Type 0
 SummedAreLinear =
-    (source op : ℕ) → Contains linear_sources source → Contains moved_generators op
+    (source op : ℕ) → Contains linear_sources source → Contains linear_destinations op
     → IsLinear (linear_from source op)
 
 -- no source is summed twice

@@ -4,8 +4,8 @@ ghost use Rattle.std.specs.Option.{option_or, option_map};
 ghost use Rattle.generators.specs.Ranges.{is_range_operator};
 ghost use Rattle.bank_changes.specs.declared.members.Place.TheVariants as place;
 ghost use Rattle.bank_changes.specs.Members.{amount_of};
-ghost use Rattle.zone_select.specs.Amounts.{amount, last_like, modulator_like, modulator_amount};
-ghost use Rattle.zone_select.specs.At.{mods_at, taken_at, instrument_zone_at, preset_zone_at};
+ghost use Rattle.zone_select.specs.Amounts.{amount, last_of_identity, modulator_of_identity, modulator_amount};
+ghost use Rattle.zone_select.specs.At.{mods_at, zone_settings_at, instrument_zone_at, preset_zone_at};
 
 use bank_core::{Bank, Owner, Place};
 use generators::operators::EXCLUSIVE_CLASS;
@@ -74,8 +74,13 @@ pub(crate) fn exclusive_class(bank: &Bank<'_>, at: &PairAt) -> i16
 }
 
 // The last modulator of a zone or global zone with this identity.
-fn last_like(bank: &Bank<'_>, owner: Owner, place: Place, like: &Modulator) -> Option<Modulator>
-    ensures { result ≡ last_like like.now (mods_at bank.now owner place) }
+fn last_of_identity(
+    bank: &Bank<'_>,
+    owner: Owner,
+    place: Place,
+    like: &Modulator,
+) -> Option<Modulator>
+    ensures { result ≡ last_of_identity like.now (mods_at bank.now owner place) }
 {
     bank.soundness();
     let mut found = None;
@@ -90,12 +95,12 @@ fn last_like(bank: &Bank<'_>, owner: Owner, place: Place, like: &Modulator) -> O
 }
 
 // The amount of a zone's last modulator with this identity, else of its global zone's.
-fn amount_like(bank: &Bank<'_>, owner: Owner, zone: u32, like: &Modulator) -> Option<i16>
-    ensures { result ≡ option_map (λ m. m.amount) (modulator_like like.now (taken_at bank.now owner zone)) }
+fn amount_of_identity(bank: &Bank<'_>, owner: Owner, zone: u32, like: &Modulator) -> Option<i16>
+    ensures { result ≡ option_map (λ m. m.amount) (modulator_of_identity like.now (zone_settings_at bank.now owner zone)) }
 {
-    match last_like(bank, owner, Place::Zone(zone), like) {
+    match last_of_identity(bank, owner, Place::Zone(zone), like) {
         Some(modulator) => Some(modulator.amount),
-        None => Some(last_like(bank, owner, Place::Global, like)?.amount),
+        None => Some(last_of_identity(bank, owner, Place::Global, like)?.amount),
     }
 }
 
@@ -105,12 +110,17 @@ pub(crate) fn modulator_amount(bank: &Bank<'_>, at: &PairAt, like: &Modulator, d
     ensures value { result ≡ modulator_amount like.now (instrument_zone_at bank.now at.now) (preset_zone_at bank.now at.now) default }
     ensures within { (negsuc 65535 ≤ℤ result) × (result ≤ℤ pos 65534) }
 {
-    let of_instrument = amount_like(
+    let of_instrument = amount_of_identity(
         bank,
         Owner::Inst(at.instrument),
         at.instrument_zone,
         like,
     ).unwrap_or(default);
-    let of_preset = amount_like(bank, Owner::Preset(at.preset), at.preset_zone, like).unwrap_or(0);
+    let of_preset = amount_of_identity(
+        bank,
+        Owner::Preset(at.preset),
+        at.preset_zone,
+        like,
+    ).unwrap_or(0);
     i32::from(of_instrument) + i32::from(of_preset)
 }

@@ -2,15 +2,15 @@
 #![tactic(auto)]
 
 mod amounts;
-mod chosen;
+mod amplitude;
 mod laws;
-mod levels;
 mod linear;
 mod neutral;
 mod pairs;
 mod parameters;
 mod pitches;
-mod spans;
+mod sample_range;
+mod selected_pair;
 mod zones;
 
 pub use laws::{linear_modulators_are_summed, pairs_have_voices, selected_by_pairs};

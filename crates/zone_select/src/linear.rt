@@ -2,7 +2,7 @@
 ghost use Rattle.std.specs.Prelude.{◌≡◌, ◌<◌, ◌≤◌, ◌≤ℤ◌, ◌+ℤ◌, ◌*ℤ◌, pos, negsuc, false, map};
 ghost use Rattle.generators.specs.Ranges.{is_range_operator};
 ghost use Rattle.sound_tables.specs.Floor.{floor_div};
-ghost use Rattle.zone_select.specs.Amounts.{linear_part, linear_sources, sum_of, moved};
+ghost use Rattle.zone_select.specs.Amounts.{linear_part, linear_sources, total, moved};
 ghost use Rattle.zone_select.specs.At.{instrument_zone_at, preset_zone_at};
 
 use crate::amounts::{PairAt, amount, modulator_amount};
@@ -59,7 +59,7 @@ fn linear_part(
 fn linear_parts(bank: &Bank<'_>, at: &PairAt, key: u8, velocity: u8, operator: u16) -> i32
     requires key { key ≤ 127 }
     requires velocity { velocity ≤ 127 }
-    ensures value { result ≡ sum_of (map (linear_part key velocity (instrument_zone_at bank.now at.now) (preset_zone_at bank.now at.now) operator) linear_sources) }
+    ensures value { result ≡ total (map (linear_part key velocity (instrument_zone_at bank.now at.now) (preset_zone_at bank.now at.now) operator) linear_sources) }
     ensures within { (negsuc 524287 ≤ℤ result) × (result ≤ℤ pos 524288) }
 {
     let mut sum = 0;

@@ -3,9 +3,9 @@ ghost use Rattle.std.specs.Prelude.{◌≡◌, ◌<◌, ◌≤◌, false, length
 ghost use Rattle.std.specs.Iterator.{YieldsFirstBy, item_count};
 ghost use Rattle.std.specs.List.{find};
 ghost use Rattle.std.specs.Option.{option_map_or};
-ghost use Rattle.zone_select.specs.Select.{is_called};
+ghost use Rattle.zone_select.specs.Select.{has_preset_numbers};
 ghost use Rattle.zone_select.specs.Pairs.{pairs};
-ghost use Rattle.zone_select.specs.Left.{inside_held, pairs_left};
+ghost use Rattle.zone_select.specs.Remaining.{inside_held, remaining_pairs};
 
 use crate::zones::next_held;
 use bank_core::{Bank, List, Owner};
@@ -28,11 +28,11 @@ pub struct ZonePairs<'b, 'a> {
 
 impl<'b, 'a> Model for ZonePairs<'b, 'a> {
     ghost use Rattle.std.specs.Prelude.{◌<◌, ℕ, List, IfSome};
-    ghost use Rattle.zone_select.specs.Left.{pairs_left};
+    ghost use Rattle.zone_select.specs.Remaining.{remaining_pairs};
 
     ghost Value = { List (ℕ × ℕ) };
 
-    ghost view = { λ m. pairs_left m.bank.now m.note m.preset m.zone m.instrument_zone };
+    ghost view = { λ m. remaining_pairs m.bank.now m.note m.preset m.zone m.instrument_zone };
 
     ghost invariant = { λ m. IfSome m.zone (λ k. k < 65535) };
 }
@@ -66,7 +66,7 @@ impl<'b, 'a> Iterator for ZonePairs<'b, 'a> {
 pub fn matches<'b, 'a>(bank: &'b Bank<'a>, note: &Note) -> ZonePairs<'b, 'a>
     ensures { result ≡ pairs bank.now note.now }
 {
-    let Some(preset) = first_called(bank, note) else {
+    let Some(preset) = first_preset(bank, note) else {
         return ZonePairs {
             bank,
             note: *note,
@@ -94,9 +94,9 @@ fn preset_count(bank: &Bank<'_>) -> u32
 }
 
 // Whether the preset of this number exists and has the note's bank and preset number.
-#[tactic(auto, using(crate::proofs::LeftLaws::called_then, crate::proofs::LeftLaws::called_else, crate::proofs::LeftLaws::not_there))]
-fn is_called(bank: &Bank<'_>, note: &Note, preset: u32) -> bool
-    ensures { result ≡ option_map_or (is_called note.now) (slice_get bank.now.presets preset) false }
+#[tactic(auto, using(crate::proofs::RemainingLaws::called_then, crate::proofs::RemainingLaws::called_else, crate::proofs::RemainingLaws::not_there))]
+fn has_preset_numbers(bank: &Bank<'_>, note: &Note, preset: u32) -> bool
+    ensures { result ≡ option_map_or (has_preset_numbers note.now) (slice_get bank.now.presets preset) false }
 {
     match bank.head(preset) {
         Some(head) => head.bank == note.bank() && head.number == note.number(),
@@ -105,13 +105,13 @@ fn is_called(bank: &Bank<'_>, note: &Note, preset: u32) -> bool
 }
 
 // The first preset with the note's bank and preset number.
-pub(crate) fn first_called(bank: &Bank<'_>, note: &Note) -> Option<u32>
-    ensures { MatchOption result (find (is_called note.now) bank.now.presets ≡ None) (λ p. find (is_called note.now) bank.now.presets ≡ slice_get bank.now.presets p) }
+pub(crate) fn first_preset(bank: &Bank<'_>, note: &Note) -> Option<u32>
+    ensures { MatchOption result (find (has_preset_numbers note.now) bank.now.presets ≡ None) (λ p. find (has_preset_numbers note.now) bank.now.presets ≡ slice_get bank.now.presets p) }
 {
     let count = preset_count(bank);
     let mut preset = 0;
     while preset < count {
-        if is_called(bank, note, preset) {
+        if has_preset_numbers(bank, note, preset) {
             return Some(preset);
         }
         preset += 1;
@@ -128,7 +128,7 @@ fn next_pair(
     from: u32,
 ) -> Option<(u32, u32)>
     requires { IfSome first (λ k. k < 65535) }
-    ensures left { MatchOption result (pairs_left bank.now note.now preset first from ≡ []) (λ q. pairs_left bank.now note.now preset first from ≡ q ∷ pairs_left bank.now note.now preset (Some q.0) (q.1 + 1)) }
+    ensures left { MatchOption result (remaining_pairs bank.now note.now preset first from ≡ []) (λ q. remaining_pairs bank.now note.now preset first from ≡ q ∷ remaining_pairs bank.now note.now preset (Some q.0) (q.1 + 1)) }
     ensures within { IfSome result (λ q. (q.0 < 65535) × (q.1 < 65535)) }
 {
     let mut next = first;

@@ -4,14 +4,14 @@ ghost use Rattle.std.specs.List.{Contains};
 ghost use Rattle.std.specs.Option.{option_map};
 ghost use Rattle.zone_select.specs.Amounts.{parameters_of, mode_of};
 ghost use Rattle.zone_select.specs.At.{instrument_zone_at, preset_zone_at};
-ghost use Rattle.zone_select.specs.Pairs.{pairs, chosen_by, voice_by};
+ghost use Rattle.zone_select.specs.Pairs.{pairs, selected_pair, voice_by};
 ghost use Rattle.zone_select.specs.Playable.{IsPlayable};
 
 use crate::amounts::{PairAt, exclusive_class};
-use crate::chosen::chosen;
-use crate::levels::{attenuation, moved_time, pan, sustain, time};
-use crate::pitches::step_through;
-use crate::spans::{UNTIL_RELEASE, loop_within, mode, span_of};
+use crate::amplitude::{attenuation, moved_time, pan, sustain, time};
+use crate::pitches::phase_increment_of;
+use crate::sample_range::{UNTIL_RELEASE, loop_within, mode, sample_range};
+use crate::selected_pair::chosen;
 use bank_core::Bank;
 use bank_parts::Sample;
 use generators::operators::{
@@ -36,7 +36,7 @@ pub struct VoiceParameters {
     /// Whether the loop ends when the note ends, so that the rest of the sample is played.
     pub until_release: bool,
     /// The phase increment: how far the position advances in a frame, in 65536ths of a point; at most 73,043,661.
-    pub step: u32,
+    pub phase_increment: u32,
     /// Frames of silence before the attack.
     pub delay: u32,
     /// Frames in which the gain rises from 0 to the full gain.
@@ -76,9 +76,9 @@ pub struct PairParameters {
 /// Returns `None` if a zone doesn't exist or doesn't contain the note; so it returns `Some` exactly for the pairs of
 /// [`matches`](crate::matches). It allocates nothing.
 pub fn params(bank: &Bank<'_>, note: &Note, pair: (u32, u32)) -> Option<PairParameters>
-    ensures sample { option_map (λ p. p.sample) result ≡ option_map (λ c. c.sample) (chosen_by bank.now note.now pair) }
+    ensures sample { option_map (λ p. p.sample) result ≡ option_map (λ c. c.sample) (selected_pair bank.now note.now pair) }
     ensures mode { option_map (λ p. p.mode) result
-        ≡ option_map (λ c. mode_of c.instrument_zone c.preset_zone) (chosen_by bank.now note.now pair) }
+        ≡ option_map (λ c. mode_of c.instrument_zone c.preset_zone) (selected_pair bank.now note.now pair) }
     ensures voice { option_map (λ p. p.voice) result
         ≡ option_map (λ v. v.parameters) (voice_by bank.now note.now pair) }
     ensures there { IsSome result ↔ Contains (pairs bank.now note.now) pair }
@@ -95,22 +95,22 @@ pub fn params(bank: &Bank<'_>, note: &Note, pair: (u32, u32)) -> Option<PairPara
 }
 
 // The parameters of two zones and their sample.
-#[tactic(auto, using(crate::proofs::SpanLaws::loop_there, crate::proofs::SpanLaws::loop_start_is, crate::proofs::SpanLaws::loop_end_is), unfolding(crate::specs::Amounts::parameters_of))]
+#[tactic(auto, using(crate::proofs::SampleRangeLaws::loop_there, crate::proofs::SampleRangeLaws::loop_start_is, crate::proofs::SampleRangeLaws::loop_end_is), unfolding(crate::specs::Amounts::parameters_of))]
 fn parameters_of(bank: &Bank<'_>, note: &Note, at: &PairAt, sample: &Sample<'_>) -> VoiceParameters
     requires { length sample.now.points < 2 ^ 32 }
     ensures { result ≡ parameters_of note.now (instrument_zone_at bank.now at.now) (preset_zone_at bank.now at.now) sample.now }
 {
-    let span = span_of(bank, at, sample);
-    let looped = loop_within(bank, at, sample, &span);
+    let played = sample_range(bank, at, sample);
+    let looped = loop_within(bank, at, sample, &played);
     let (loop_start, loop_end) = looped.unwrap_or((0, 0));
     VoiceParameters {
-        start: span.start,
-        end: span.end,
+        start: played.start,
+        end: played.end,
         loop_start,
         loop_end,
         looped: looped.is_some(),
         until_release: mode(bank, at) == UNTIL_RELEASE,
-        step: step_through(bank, note, at, sample),
+        phase_increment: phase_increment_of(bank, note, at, sample),
         delay: time(bank, at, DELAY_VOL_ENV),
         attack: moved_time(bank, note, at, ATTACK_VOL_ENV),
         hold: time(bank, at, HOLD_VOL_ENV),

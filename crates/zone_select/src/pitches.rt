@@ -1,6 +1,6 @@
 //! The key, velocity, pitch and phase increment of a voice.
 ghost use Rattle.std.specs.Prelude.{◌≡◌, ◌≤◌, ◌≤ℤ◌, ◌+ℤ◌, ◌-ℤ◌, ◌*ℤ◌, pos, negsuc};
-ghost use Rattle.sound_tables.specs.Tables.{step_of};
+ghost use Rattle.sound_tables.specs.Tables.{phase_increment_of};
 ghost use Rattle.zone_select.specs.Amounts.{chosen, key_of, velocity_of, root_of, cents_of};
 ghost use Rattle.zone_select.specs.At.{instrument_zone_at, preset_zone_at};
 
@@ -59,8 +59,13 @@ fn root(bank: &Bank<'_>, at: &PairAt, sample: &Sample<'_>) -> u8
 }
 
 // The phase increment: how far the position advances in a frame, in 65536ths of a point.
-pub(crate) fn step_through(bank: &Bank<'_>, note: &Note, at: &PairAt, sample: &Sample<'_>) -> u32
-    ensures { result ≡ step_of (cents_of note.now (instrument_zone_at bank.now at.now) (preset_zone_at bank.now at.now) sample.now) sample.now.rate }
+pub(crate) fn phase_increment_of(
+    bank: &Bank<'_>,
+    note: &Note,
+    at: &PairAt,
+    sample: &Sample<'_>,
+) -> u32
+    ensures { result ≡ phase_increment_of (cents_of note.now (instrument_zone_at bank.now at.now) (preset_zone_at bank.now at.now) sample.now) sample.now.rate }
 {
     step(i64::from(cents(bank, note, at, sample)), sample.rate)
 }

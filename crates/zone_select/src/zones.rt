@@ -1,7 +1,7 @@
 //! The zones of an owner that contain a note.
 ghost use Rattle.std.specs.Prelude.{◌≡◌, ◌<◌, ◌≤◌, ◌∷◌, ◌+◌, [], MatchOption, IfSome};
 ghost use Rattle.script_notes.specs.Notes.{Numbers};
-ghost use Rattle.zone_select.specs.Left.{zones_in, owner_holds, owner_held};
+ghost use Rattle.zone_select.specs.Remaining.{zones_in, owner_holds, owner_held};
 
 use bank_core::{Bank, Owner};
 use bank_zone_ranges::Axis;

@@ -1,5 +1,5 @@
 //! The command `apply`.
-use super::checks::{apart, no_bank};
+use super::checks::{reject_bank, reject_same_file};
 use super::endings::end_both_at;
 use crate::edit::run_script;
 use base_progress::Progress;
@@ -13,9 +13,9 @@ pub(crate) fn apply<'a, R: Files + AllocGlobal, P: Progress>(
     paths: ApplyPaths<'a>,
     progress: &mut P,
 ) -> Result<(), Fault<'a>> {
-    apart(rt, paths.out, &[paths.script])?;
-    apart(rt, paths.undo, &[paths.input, paths.script, paths.out])?;
-    no_bank(rt, paths.undo, paths.force)?;
+    reject_same_file(rt, paths.out, &[paths.script])?;
+    reject_same_file(rt, paths.undo, &[paths.input, paths.script, paths.out])?;
+    reject_bank(rt, paths.undo, paths.force)?;
     let file = read_file(rt, paths.input)?;
     let script = read_file(rt, paths.script)?;
     let mut out = OutputFile::new(rt, paths.out)?;

@@ -4,7 +4,7 @@ use program_files::{Fault, check_apart, check_no_bank};
 use std::rt::Files;
 
 /// Rejects an output that is the same file as one of the others.
-pub(super) fn apart<'a, R: Files + AllocGlobal>(
+pub(super) fn reject_same_file<'a, R: Files + AllocGlobal>(
     rt: &R,
     output: &'a str,
     others: &[&str],
@@ -16,7 +16,7 @@ pub(super) fn apart<'a, R: Files + AllocGlobal>(
 }
 
 /// Rejects an output that would replace a bank, except with `force`.
-pub(super) fn no_bank<'a, R: Files + AllocGlobal>(
+pub(super) fn reject_bank<'a, R: Files + AllocGlobal>(
     rt: &R,
     output: &'a str,
     force: bool,

@@ -1,5 +1,5 @@
 //! The command `diff`.
-use super::checks::no_bank;
+use super::checks::reject_bank;
 use super::endings::end_at;
 use crate::diff::diff_run;
 use program_commands::DiffPaths;
@@ -14,7 +14,7 @@ pub(crate) fn diff<'a, R: Files + AllocGlobal, O: Write>(
     paths: DiffPaths<'a>,
     output: &mut O,
 ) -> Result<(), Fault<'a>> {
-    no_bank(rt, paths.out, paths.force)?;
+    reject_bank(rt, paths.out, paths.force)?;
     let first = read_file(rt, paths.first)?;
     let second = read_file(rt, paths.second)?;
     let mut out = Sink::new(rt, paths.out, output)?;

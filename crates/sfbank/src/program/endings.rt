@@ -18,10 +18,10 @@ pub(super) fn end_at<'a, R: Files, O: Write>(
     out: Sink<'a, '_, R, O>,
     run: Result<(), RunFault>,
 ) -> Result<(), Fault<'a>> {
-    let is_unread = out.is_unread();
+    let is_pipe_closed = out.is_pipe_closed();
     match at(path, out.end(run)) {
         Ok(()) => Ok(()),
-        Err(fault) => Err(fault.unread_if(is_unread)),
+        Err(fault) => Err(fault.pipe_closed_if(is_pipe_closed)),
     }
 }
 
@@ -33,10 +33,10 @@ pub(super) fn end_both_at<'a, R: Files>(
     undo: OutputFile<'a, R>,
     run: Result<(), RunFault>,
 ) -> Result<(), Fault<'a>> {
-    let is_unread = out.is_unread() || undo.is_unread();
+    let is_pipe_closed = out.is_pipe_closed() || undo.is_pipe_closed();
     match at_either(out_path, undo_path, end_both(out, undo, run)) {
         Ok(()) => Ok(()),
-        Err(fault) => Err(fault.unread_if(is_unread)),
+        Err(fault) => Err(fault.pipe_closed_if(is_pipe_closed)),
     }
 }
 

@@ -1,5 +1,5 @@
 //! The command `import`.
-use super::checks::{apart, no_bank};
+use super::checks::{reject_bank, reject_same_file};
 use super::endings::end_both_at;
 use crate::import::import_run;
 use program_commands::{ImportPaths, recording_name};
@@ -12,9 +12,9 @@ pub(crate) fn import<'a, R: Files + AllocGlobal>(
     rt: &'a R,
     paths: ImportPaths<'a>,
 ) -> Result<(), Fault<'a>> {
-    apart(rt, paths.out, &[paths.wave])?;
-    apart(rt, paths.undo, &[paths.input, paths.wave, paths.out])?;
-    no_bank(rt, paths.undo, paths.force)?;
+    reject_same_file(rt, paths.out, &[paths.wave])?;
+    reject_same_file(rt, paths.undo, &[paths.input, paths.wave, paths.out])?;
+    reject_bank(rt, paths.undo, paths.force)?;
     let file = read_file(rt, paths.input)?;
     let wave = read_file(rt, paths.wave)?;
     let mut out = OutputFile::new(rt, paths.out)?;

@@ -4,7 +4,7 @@ ghost use Rattle.bank_format.specs.Canon.{canon};
 ghost use Rattle.live_sessions.specs.Saved.{undo_text};
 ghost use Rattle.sfbank.specs.Written.{Delivers};
 
-use super::checks::{apart, no_bank};
+use super::checks::{reject_bank, reject_same_file};
 use super::endings::at;
 use crate::deliver::{deliver_bank, deliver_undo};
 use bank_core::Bank;
@@ -30,8 +30,8 @@ pub(crate) fn live<'a, R: Files + AllocGlobal, I: Read, O: Write>(
     input: &mut I,
     answers: &mut O,
 ) -> Result<(), Fault<'a>> {
-    apart(rt, paths.pcm, &[paths.input])?;
-    no_bank(rt, paths.pcm, paths.force)?;
+    reject_same_file(rt, paths.pcm, &[paths.input])?;
+    reject_bank(rt, paths.pcm, paths.force)?;
     let file = read_file(rt, paths.input)?;
     let Ok(reader) = BufReader::new(rt.alloc(), input) else {
         return at(STANDARD_OUTPUT, Err(RunFault::Memory));

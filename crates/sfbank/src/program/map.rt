@@ -1,5 +1,5 @@
 //! The command `map`.
-use super::checks::no_bank;
+use super::checks::reject_bank;
 use super::endings::end_at;
 use crate::map::map_run;
 use program_commands::MapPaths;
@@ -14,7 +14,7 @@ pub(crate) fn map<'a, R: Files + AllocGlobal, O: Write>(
     paths: MapPaths<'a>,
     output: &mut O,
 ) -> Result<(), Fault<'a>> {
-    no_bank(rt, paths.out, paths.force)?;
+    reject_bank(rt, paths.out, paths.force)?;
     let file = read_file(rt, paths.input)?;
     let mut out = Sink::new(rt, paths.out, output)?;
     let run = map_run(rt.alloc(), file.as_slice(), paths.owner, &mut out);

@@ -1,5 +1,5 @@
 //! The command `new`.
-use super::checks::no_bank;
+use super::checks::reject_bank;
 use super::endings::end_at;
 use crate::new::new_run;
 use program_commands::NewBank;
@@ -13,7 +13,7 @@ pub(crate) fn new<'a, R: Files + AllocGlobal, O: Write>(
     bank: NewBank<'a>,
     output: &mut O,
 ) -> Result<(), Fault<'a>> {
-    no_bank(rt, bank.out, bank.force)?;
+    reject_bank(rt, bank.out, bank.force)?;
     let mut out = Sink::new(rt, bank.out, output)?;
     let run = new_run(rt.alloc(), bank.minor, &mut out);
     end_at(bank.out, out, run)

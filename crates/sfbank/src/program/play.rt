@@ -1,5 +1,5 @@
 //! The command `play`.
-use super::checks::{apart, no_bank};
+use super::checks::{reject_bank, reject_same_file};
 use super::endings::end_at;
 use crate::play::play_run_with_progress;
 use base_progress::Progress;
@@ -15,9 +15,9 @@ pub(crate) fn play<'a, R: Files + AllocGlobal, O: Write, P: Progress>(
     output: &mut O,
     progress: &mut P,
 ) -> Result<(), Fault<'a>> {
-    apart(rt, paths.out, &[paths.notes])?;
-    let is_input = apart(rt, paths.out, &[paths.input]).is_err();
-    no_bank(rt, paths.out, paths.force || is_input)?;
+    reject_same_file(rt, paths.out, &[paths.notes])?;
+    let is_input = reject_same_file(rt, paths.out, &[paths.input]).is_err();
+    reject_bank(rt, paths.out, paths.force || is_input)?;
     let file = read_file(rt, paths.input)?;
     let notes = read_file(rt, paths.notes)?;
     let mut out = Sink::new(rt, paths.out, output)?;

@@ -2,7 +2,7 @@
 ghost use Rattle.std.specs.Prelude.{◌≡◌, if◌then◌else◌};
 ghost use Rattle.script_of_bank.specs.declared.samples.SamplePoints.TheVariants.{Kept, LeftOut};
 
-use super::checks::no_bank;
+use super::checks::reject_bank;
 use super::endings::end_at;
 use crate::script::script_run;
 use program_commands::ScriptPaths;
@@ -17,7 +17,7 @@ pub(crate) fn script<'a, R: Files + AllocGlobal, O: Write>(
     paths: ScriptPaths<'a>,
     output: &mut O,
 ) -> Result<(), Fault<'a>> {
-    no_bank(rt, paths.out, paths.force)?;
+    reject_bank(rt, paths.out, paths.force)?;
     let file = read_file(rt, paths.input)?;
     let mut out = Sink::new(rt, paths.out, output)?;
     let run = script_run(

@@ -1,5 +1,5 @@
 //! The command `wave`.
-use super::checks::no_bank;
+use super::checks::reject_bank;
 use super::endings::end_at;
 use crate::wave::wave_run;
 use program_commands::WavePaths;
@@ -14,7 +14,7 @@ pub(crate) fn wave<'a, R: Files + AllocGlobal, O: Write>(
     paths: WavePaths<'a>,
     output: &mut O,
 ) -> Result<(), Fault<'a>> {
-    no_bank(rt, paths.out, paths.force)?;
+    reject_bank(rt, paths.out, paths.force)?;
     let file = read_file(rt, paths.input)?;
     let mut out = Sink::new(rt, paths.out, output)?;
     let run = wave_run(rt.alloc(), file.as_slice(), paths.sample, &mut out);

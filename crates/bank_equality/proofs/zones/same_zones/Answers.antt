@@ -1,5 +1,5 @@
 use Rattle.std.proofs.Common.{◌≡◌, ◌≤◌, slice_get, refl, arith, rules}
-use Rattle.bank_equality.proofs.Lists.{same_lent_zones}
+use Rattle.bank_equality.proofs.Lists.{same_borrowed_zones}
 use Rattle.bank_equality.proofs.zones.same_zones.Goals as goal
 
 pub returns : goal.returns
@@ -8,7 +8,7 @@ returns g c =
     let as_many : count ≡ c.zone_count.result = search rules in
     let all : count ≤ c.loop-k.k = search rules in
     let zones =
-    same_lent_zones (slice_get c.args.a.now c.args.i) (slice_get c.args.b.now c.args.j) count c.zone_count.result
+    same_borrowed_zones (slice_get c.args.a.now c.args.i) (slice_get c.args.b.now c.args.j) count c.zone_count.result
     as_many
     c.zone_count-count.ensures c.zone_count.ensures (λ m lt. c.loop-k.invariant m (omega arith)) in
     (λ t. zones, λ e. refl)

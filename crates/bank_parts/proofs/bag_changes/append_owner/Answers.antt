@@ -11,14 +11,14 @@ pub append_global-requires : goal.append_global-requires
 append_global-requires g c =
     let x = c.args.owner.now in
     let opened =
-    owner_opens c.args.bags.now c.open_owner.new.self (records_of_owner x) c.owner_count-i.result
-    c.owner_count-i.ensures c.open_owner.ensures.owners c.open_owner.ensures.spare c.requires.room in
+    owner_opens c.args.bags.now c.insert_empty_owner.new.self (records_of_owner x) c.owner_count-i.result
+    c.owner_count-i.ensures c.insert_empty_owner.ensures.owners c.insert_empty_owner.ensures.spare c.requires.room in
     record {
       place =
-          opened_within c.args.bags.now.owners c.open_owner.new.self.owners c.owner_count-i.result
-          c.owner_count-i.ensures c.open_owner.ensures.owners;
+          opened_within c.args.bags.now.owners c.insert_empty_owner.new.self.owners c.owner_count-i.result
+          c.owner_count-i.ensures c.insert_empty_owner.ensures.owners;
       room =
-          room_at_most c.open_owner.new.self (records_of_owner x) (records_of_global x.global) (omega arith)
+          room_at_most c.insert_empty_owner.new.self (records_of_owner x) (records_of_global x.global) (omega arith)
           (omega arith) (omega arith) opened;
     }
 
@@ -26,14 +26,14 @@ pub append_zones-requires : goal.append_zones-requires
 append_zones-requires g c =
     let x = c.args.owner.now in
     let opened =
-    owner_opens c.args.bags.now c.open_owner.new.self (records_of_owner x) c.owner_count-i.result
-    c.owner_count-i.ensures c.open_owner.ensures.owners c.open_owner.ensures.spare c.requires.room in
+    owner_opens c.args.bags.now c.insert_empty_owner.new.self (records_of_owner x) c.owner_count-i.result
+    c.owner_count-i.ensures c.insert_empty_owner.ensures.owners c.insert_empty_owner.ensures.spare c.requires.room in
     let within =
-    opened_within c.args.bags.now.owners c.open_owner.new.self.owners c.owner_count-i.result
-    c.owner_count-i.ensures c.open_owner.ensures.owners in
+    opened_within c.args.bags.now.owners c.insert_empty_owner.new.self.owners c.owner_count-i.result
+    c.owner_count-i.ensures c.insert_empty_owner.ensures.owners in
     record {
       place =
-          changed_within c.open_owner.new.self.owners c.append_global.new.bags.owners c.owner_count-i.result
+          changed_within c.insert_empty_owner.new.self.owners c.append_global.new.bags.owners c.owner_count-i.result
           (λ own. own ++ global_bags x.global) within c.append_global.ensures.owners;
       room =
           subst (λ zones. HasRoom c.append_global.new.bags (records_of_zones zones)) (sym c.as_slice.ensures)
@@ -43,9 +43,9 @@ append_zones-requires g c =
 pub returns : goal.returns
 returns g c =
     let x = c.args.owner.now in
-    owner_appended c.args.operator x c.args.bags.now.owners c.open_owner.new.self.owners
+    owner_appended c.args.operator x c.args.bags.now.owners c.insert_empty_owner.new.self.owners
     c.append_global.new.bags.owners c.append_zones.new.bags.owners c.owner_count-i.result
-    c.owner_count-i.ensures c.open_owner.ensures.owners c.append_global.ensures.owners
+    c.owner_count-i.ensures c.insert_empty_owner.ensures.owners c.append_global.ensures.owners
     (subst
     (λ zones.
     c.append_zones.new.bags.owners

@@ -13,8 +13,8 @@ bag_count-count-requires c =
     appended_within c.args.bags.now.owners c.loop-zone.bags c.args.i c.args.operator c.loop-zone.zone-index
     c.args.zones.now c.requires.place c.loop-zone.invariant
 
-pub put_zone-requires : goal.put_zone-requires
-put_zone-requires c =
+pub insert_zone_bag-requires : goal.insert_zone_bag-requires
+insert_zone_bag-requires c =
     let k = c.loop-zone.zone-index in
     let zones = c.args.zones.now in
     let h = c.loop-zone.invariant in
@@ -36,13 +36,13 @@ loop-zone-preserved c =
     let h = c.loop-zone.invariant in
     let there = found_item zones k c.zone-item.result c.zone-item.is c.loop-zone-test.true in
     let left =
-    c.put_zone.ensures.room (records_of_zones (drop (suc k) zones))
+    c.insert_zone_bag.ensures.room (records_of_zones (drop (suc k) zones))
     (zone_needs c.loop-zone.bags k zones c.zone-item.result there h.room) in
-    subst (λ n. AreAppended c.args.bags.now.owners c.put_zone.new.bags c.args.i c.args.operator n zones)
+    subst (λ n. AreAppended c.args.bags.now.owners c.insert_zone_bag.new.bags c.args.i c.args.operator n zones)
     (sym (add-one k))
-    (one_more_appended c.args.bags.now.owners c.loop-zone.bags c.put_zone.new.bags c.args.i c.args.operator k
+    (one_more_appended c.args.bags.now.owners c.loop-zone.bags c.insert_zone_bag.new.bags c.args.i c.args.operator k
     c.bag_count-count.result zones c.zone-item.result c.requires.place h there
-    c.bag_count-count.ensures c.put_zone.ensures.owners left)
+    c.bag_count-count.ensures c.insert_zone_bag.ensures.owners left)
 
 pub returns : goal.returns
 returns c =

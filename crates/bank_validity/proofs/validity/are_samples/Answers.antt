@@ -2,7 +2,7 @@ use Rattle.std.proofs.Common.{rules, tests}
 use Rattle.std.proofs.lemmas.Iterator.{cases_from_all, YieldsList-from_slice}
 use Rattle.std.specs.Bool.{⊤}
 use Rattle.bank_parts.specs.Fits.{FitsSample}
-use Rattle.bank_parts.proofs.Fitting.{all_where_true}
+use Rattle.bank_parts.proofs.AllTests.{all_where_true}
 use Rattle.bank_validity.proofs.validity.are_samples.Goals as goal
 
 pub returns-clause-fits : goal.returns-clause-fits

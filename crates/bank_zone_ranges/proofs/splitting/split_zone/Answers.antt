@@ -1,12 +1,12 @@
 use Rattle.std.proofs.Common.{◌≡◌, Some}
 use Rattle.bank_zone_ranges.specs.Ranges.{low_end, high_end, range_of}
-use Rattle.bank_zone_ranges.proofs.There.{split_there, split_put}
+use Rattle.bank_zone_ranges.proofs.Existing.{split_there, split_put}
 use Rattle.bank_zone_ranges.proofs.splitting.split_zone.Goals as goal
 
-pub put_parts-requires-clause-storable : goal.put_parts-requires-clause-storable
-put_parts-requires-clause-storable g c =
+pub set_both_zones-requires-clause-storable : goal.set_both_zones-requires-clause-storable
+set_both_zones-requires-clause-storable g c =
     let owners = c.args.owners.now in
-    let t = (split_there c.args.axis c.args.at owners c.args.i c.args.k c.requires.splits).at in
+    let t = (split_there c.args.axis c.args.at owners c.args.i c.args.k c.requires.is_splittable).at in
     let w = range_of c.args.axis t.member.global t.zone in
     let lows : Some (low_end w) ≡ Some c.zone_range-range.result.low =
     rw (t.there, t.zone_there) at c.zone_range-range.ensures.low in
@@ -31,7 +31,7 @@ put_parts-requires-clause-storable g c =
 pub returns-clause-ok : goal.returns-clause-ok
 returns-clause-ok g c =
     let owners = c.args.owners.now in
-    let t = (split_there c.args.axis c.args.at owners c.args.i c.args.k c.requires.splits).at in
+    let t = (split_there c.args.axis c.args.at owners c.args.i c.args.k c.requires.is_splittable).at in
     let w = range_of c.args.axis t.member.global t.zone in
     let lows : Some (low_end w) ≡ Some c.zone_range-range.result.low =
     rw (t.there, t.zone_there) at c.zone_range-range.ensures.low in
@@ -42,7 +42,7 @@ returns-clause-ok g c =
     let high : c.zone_range-range.result.high ≡ high_end w = cc in
     let zone : c.in_ok-upper.upper ≡ t.zone = cc in
     rw (
-      c.in_ok-put_parts.ensures.ok,
+      c.in_ok-set_both_zones.ensures.ok,
       c.in_ok-set.ensures.ok,
       c.to_amount-2.ensures.amount,
       c.to_amount.ensures.amount,

@@ -17,7 +17,7 @@ returns c =
     let b = c.args.bank.now in
     let x = c.args.instrument.now in
     let target = rw c.count.ensures at c.in_ok-no_such_target.ensures in
-    let place = rw c.count-2.ensures at c.in_ok-bad_place.ensures in
+    let place = rw c.count-2.ensures at c.in_ok-bad_insert_index.ensures in
     by_records b (steps.Instrument (AddInstrument c.args.at x)) level.Inst x c.totals.result c.records.result
     c.broken_with_owner.result c.full.result
     (target, (place, (c.in_ok-bad_generator.ensures, (c.in_ok-bad_range.ensures, tt))))

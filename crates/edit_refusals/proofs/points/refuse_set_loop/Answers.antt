@@ -1,6 +1,6 @@
 use Rattle.std.proofs.Common.{[], ◌∷◌, refl}
 use Rattle.bank_validity.specs.Limits.{broken_limit}
-use Rattle.bank_changes.specs.Points.{looped_as}
+use Rattle.bank_changes.specs.Points.{with_loop}
 use Rattle.edit_forms.specs.declared.points.PointStep.TheVariants.{SetLoop}
 use Rattle.edit_forms.specs.declared.step.Step.TheVariants as steps
 use Rattle.edit_forms.specs.Causes.{no_such_sample, bad_loop_of}
@@ -18,4 +18,4 @@ returns c =
     by_last (no_such_sample b i ∷ []) (bad_loop_of b i looped)
     (broken_limit (raw b (steps.Points i (SetLoop looped)))) c.bad_loop_of.result (there, tt)
     c.bad_loop_of.ensures
-    (λ h. within_change b i (looped_as looped) c.requires.sound (below _ i there) (λ s. refl))
+    (λ h. within_change b i (with_loop looped) c.requires.sound (below _ i there) (λ s. refl))

@@ -16,7 +16,7 @@ returns c =
     let b = c.args.bank.now in
     let at = c.args.at in
     let s = c.args.sample.now in
-    let place = rw c.samples.ensures.value at c.in_ok-bad_place.ensures in
+    let place = rw c.samples.ensures.value at c.in_ok-bad_insert_index.ensures in
     let sums =
     ap (λ (t : Totals). broken (with_sample t c.len.result)) c.totals.ensures.value
     ∙ ap (λ (n : ℕ). broken (with_sample (totals_of b) n)) c.len.ensures.value in

@@ -11,7 +11,7 @@ broken_with_mod-requires c = there_found c.args.bank.now c.args.owner c.args.pla
 pub returns : goal.returns
 returns c =
     let b = c.args.bank.now in
-    let place = rw c.mods_there.ensures at c.in_ok-bad_place.ensures in
+    let place = rw c.mods_there.ensures at c.in_ok-bad_insert_index.ensures in
     by_limit b (steps.Setting c.args.owner c.args.place (AddMod c.args.index c.args.modulator))
     c.broken_with_mod.result c.full.result
     (c.requires.owner, (c.requires.zone, (place, (c.in_ok-linked_modulator.ensures, tt))))

@@ -1,4 +1,4 @@
-use Rattle.edit_script.proofs.SpellLaws.{one_reading}
+use Rattle.edit_script.proofs.CompletenessLaws.{one_reading}
 use Rattle.edit_script.proofs.laws.one_reading.Goals as goal
 
 pub returns : goal.returns

@@ -1,4 +1,4 @@
-use Rattle.edit_script.proofs.SpellLaws.{spelled_read}
+use Rattle.edit_script.proofs.CompletenessLaws.{spelled_read}
 use Rattle.edit_script.proofs.ReadLaws.{read_spelled}
 use Rattle.edit_script.proofs.laws.spelled_is_read.Goals as goal
 

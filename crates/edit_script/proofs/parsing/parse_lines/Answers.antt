@@ -1,6 +1,6 @@
 use Rattle.std.proofs.Common.{◌∙◌, ◌+◌, length, ap, refl, arith}
 use Rattle.std.proofs.lemmas.Result.{err_from_is_err_and}
-use Rattle.script_tokens.specs.Said.{all_said_over, lines_said_over}
+use Rattle.script_tokens.specs.TokenValue.{values_over, line_values_over}
 use Rattle.script_tokens.specs.Tokens.{tokens_of}
 use Rattle.edit_script.specs.Script.{edit_of, edits_in}
 use Rattle.script_tokens.proofs.PoolLaws.{lines_said_on, lines_said_end}
@@ -29,10 +29,10 @@ loop-line-preserved c = record {
   left =
       lines_on edit_of (c.loop-line.number + 1) (c.loop-line.number + 1 + 1) c.loop-line.edits.items
       c.add_edit.new.edits.items
-      (all_said_over c.loop-line.rest.now (tokens_of c.in-Some.line.now))
-      (lines_said_over c.in_ok-rest.rest.now c.next.new.self)
-      (lines_said_over c.loop-line.rest.now c.loop-line.line-iterator) _
-      (omega arith) (lines_said_on _ _ _ _ _ c.in_ok-rest.ensures.behind c.in-Some.ensures.steps)
+      (values_over c.loop-line.rest.now (tokens_of c.in-Some.line.now))
+      (line_values_over c.in_ok-rest.rest.now c.next.new.self)
+      (line_values_over c.loop-line.rest.now c.loop-line.line-iterator) _
+      (omega arith) (lines_said_on _ _ _ _ _ c.in_ok-rest.ensures.following c.in-Some.ensures.steps)
       c.loop-line.invariant.left c.in_ok-rest.ensures.added;
   counted = (let h = ap length c.in-Some.ensures.steps in let k = c.loop-line.invariant.counted in omega (arith, h, k));
 }
@@ -42,12 +42,12 @@ returns-in_err-rest c =
     let p = err_from_is_err_and c.from_residual.result c.from_residual.ensures.1 in
     rw (p.1, p.2) (step_fails _ _ _ c.in_err-rest.ensures.added
     (λ _ e. lines_stop edit_of (c.loop-line.number + 1) c.loop-line.edits.items
-    (all_said_over c.loop-line.rest.now (tokens_of c.in-Some.line.now)) _
-    (lines_said_over c.loop-line.rest.now c.loop-line.line-iterator) _ _
+    (values_over c.loop-line.rest.now (tokens_of c.in-Some.line.now)) _
+    (line_values_over c.loop-line.rest.now c.loop-line.line-iterator) _ _
     (lines_said_on _ _ _ c.next.new.self _ refl c.in-Some.ensures.steps) c.loop-line.invariant.left e))
 
 pub returns : goal.returns
 returns c =
     lines_over edit_of (c.loop-line.number + 1) c.loop-line.edits.items
-    (lines_said_over c.loop-line.rest.now c.loop-line.line-iterator) _
+    (line_values_over c.loop-line.rest.now c.loop-line.line-iterator) _
     (lines_said_end _ _ c.in-None.ensures.steps.0) c.loop-line.invariant.left

@@ -1,6 +1,6 @@
 use Rattle.std.proofs.Common.{ℕ, ◌+◌, ◌<◌}
 use Rattle.generators.specs.Gens.{rank}
-use Rattle.generators.specs.Places.{operator_at}
+use Rattle.generators.specs.Indexes.{operator_at}
 use Rattle.generators.proofs.gen_map.ranks_rise.Given as goal
 
 abbrev pub invariant-loop-k : goal.invariant-loop-k

@@ -1,5 +1,5 @@
 use Rattle.std.proofs.Common.{◌∙◌, sym, ap}
-use Rattle.script_tokens.specs.Said.{Left, said_in}
+use Rattle.script_tokens.specs.TokenValue.{Left, values_in}
 use Rattle.script_tokens.proofs.GatherLaws.{step_fails}
 use Rattle.live_lines.specs.Requests.{some_request}
 use Rattle.live_lines.proofs.LineLaws.{says_same}
@@ -8,7 +8,7 @@ use Rattle.live_lines.proofs.reading.read_line.Goals as goal
 
 pub returns-then-is_empty : goal.returns-then-is_empty
 returns-then-is_empty c =
-    asks_nothing (said_in c.args.line.now)
+    asks_nothing (values_in c.args.line.now)
     (sym (says_same c.args.line.now c.args.pool.now c.requires.line c.requires.pool)
     ∙ sym (ap (λ (l : Left). l.said) c.of-cursor.ensures) ∙ c.is_empty.ensures.0 c.if-is_empty.true)
 

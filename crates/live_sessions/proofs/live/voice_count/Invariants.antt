@@ -1,5 +1,5 @@
 use Rattle.std.proofs.Common.{◌≡◌, ◌≤◌, ◌-◌, ◌^◌, length, min}
-use Rattle.mixer.specs.Heard.{fresh}
+use Rattle.mixer.specs.StartFrames.{note_voices}
 use Rattle.live_sessions.proofs.live.voice_count.Given as goal
 
 -- the pairs so far were counted
@@ -7,6 +7,6 @@ abbrev pub invariant-loop-pair : goal.invariant-loop-pair
 invariant-loop-pair l = record {
   can_next : (goal.iterator-loop-pair).can_next l._pair-iterator;
   is_finite : (goal.iterator-loop-pair).is_finite l._pair-iterator;
-  left : length l._pair-iterator ≤ length (fresh l.bank l.note);
-  counted : l.voices ≡ min (length (fresh l.bank l.note) - length l._pair-iterator) (2 ^ 64 - 1);
+  left : length l._pair-iterator ≤ length (note_voices l.bank l.note);
+  counted : l.voices ≡ min (length (note_voices l.bank l.note) - length l._pair-iterator) (2 ^ 64 - 1);
 }

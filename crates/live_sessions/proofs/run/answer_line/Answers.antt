@@ -5,9 +5,9 @@ pub returns-in-Ok : goal.returns-in-Ok
 returns-in-Ok g c =
     request_answered c.args.counts.now c.args.line.now c.args.live.now c.do_request.new.live c.in-Ok-Some.request
     c.in-Ok.answer c.kind_of-kind.result
-    _ _ _ _ _ _ c.send_answer.result
+    _ _ _ _ _ _ c.write_answer.result
     (rw c.in-Ok-Some.field-0-is at c.in-Ok-Some.ensures) c.kind_of-kind.ensures c.in-Ok.ensures.done
-    c.send_answer.ensures.sent c.send_answer.ensures.next
+    c.write_answer.ensures.sent c.write_answer.ensures.next
 
 pub returns-in-Err-do_request : goal.returns-in-Err-do_request
 returns-in-Err-do_request g c =
@@ -22,6 +22,6 @@ returns-in-Ok-None g c =
 
 pub returns-in-Err : goal.returns-in-Err
 returns-in-Err g c =
-    failure_answered c.args.counts.now c.args.line.now c.args.live.now _ _ _ _ c.in-Err.failure c.told.result
-    c.send_answer-in-Err.result
-    c.in-Err.ensures c.told.ensures c.send_answer-in-Err.ensures.sent c.send_answer-in-Err.ensures.next
+    failure_answered c.args.counts.now c.args.line.now c.args.live.now _ _ _ _ c.in-Err.failure c.reported.result
+    c.write_answer-in-Err.result
+    c.in-Err.ensures c.reported.ensures c.write_answer-in-Err.ensures.sent c.write_answer-in-Err.ensures.next

@@ -1,6 +1,6 @@
 use Rattle.std.proofs.Common.{◌≡◌, ◌+◌, ◌/◌, ◌<◌, pos, ◌+ℤ◌, get_or, length, sym, ap, ◌∙◌, set, arith}
 use Rattle.std.proofs.lemmas.List.Edits.{map_over_more}
-use Rattle.mixer.specs.declared.playing.Playing.{Playing}
+use Rattle.mixer.specs.declared.playing.PlayingVoice.{PlayingVoice}
 use Rattle.mixer.specs.Events.{aged}
 use Rattle.mixer.proofs.Silent.{all_wider}
 use Rattle.mixer.proofs.Sums.{add_z-zero}
@@ -28,7 +28,7 @@ add_frames_apart-requires-clause-young c =
     still (aged (length c.args.sides.now / 2)) xs c.loop-p.voices i c.p-item.result lt c.loop-p.invariant.live in
     let young = c.requires.young i c.p-item.result lt in
     let age : (get_or c.loop-p.voices i c.p-item.result).voice.age ≡ (get_or xs i c.p-item.result).voice.age =
-    ap (λ (p : Playing). p.voice.age) e in
+    ap (λ (p : PlayingVoice). p.voice.age) e in
     omega (arith, young, age, c.requires.short, c.requires.sides, c.loop-p.auto.sides)
 
 pub add_frames_apart-requires-clause-room : goal.add_frames_apart-requires-clause-room
@@ -66,9 +66,9 @@ loop-p-preserved c =
           all_wider (j + i + 1) (j + (i + 1)) _ (omega arith)
           (c.add_frames_apart.ensures.middle (j + i) (c.loop-p.invariant.middle j h));
       live =
-          ap (λ (q : Playing). set ys i q)
+          ap (λ (q : PlayingVoice). set ys i q)
           (aged_is n (length c.loop-p.sides) p c.add_frames_apart.new.self c.add_frames_apart.ensures.live
           c.loop-p.auto.sides)
-          ∙ ap (λ (q : Playing). set ys i (aged (n / 2) q)) (sym c.p-item.is)
+          ∙ ap (λ (q : PlayingVoice). set ys i (aged (n / 2) q)) (sym c.p-item.is)
           ∙ map_over_more (aged (n / 2)) xs ys i c.p-item.result lt c.loop-p.invariant.live c.p-item.is;
     }

@@ -1,7 +1,7 @@
 use Rattle.std.proofs.Common.{◌≡◌, ◌≤◌, ◌+◌, ◌-◌, ◌*◌, ◌/◌, ◌%◌, ◌++◌, ◌∙◌, ℕ, List, ap, arith, length, take, drop}
 use Rattle.script_notes.specs.Notes.{Numbers}
-use Rattle.mixer.specs.declared.playing.Playing.{Playing}
-use Rattle.mixer.specs.Heard as heard
+use Rattle.mixer.specs.declared.playing.PlayingVoice.{PlayingVoice}
+use Rattle.mixer.specs.StartFrames as heard
 use Rattle.mixer.specs.Events.{after_start, after_block, block}
 use Rattle.mixer.proofs.Schedule.{play_step, play_last, played_next, played_end, scheduled, part_len, put_len, last_put}
 use Rattle.mixer.proofs.rendering.play.Goals as goal
@@ -31,7 +31,7 @@ loop-note-preserved g c =
           c.block_with_progress.new.out _ _ here (ap (λ (k : ℕ). 2 * k) same)
           (c.block_with_progress.ensures.heard ∙ ap (λ (m : ℕ). block c.loop-note.player (m / 2)) sub) long
           (c.in_ok-start.ensures.done
-          ∙ ap (λ (ps : List Playing). after_start ps (heard.fresh c.args.bank.now n))
+          ∙ ap (λ (ps : List PlayingVoice). after_start ps (heard.note_voices c.args.bank.now n))
           (c.block_with_progress.ensures.live ∙ ap (λ (m : ℕ). after_block c.loop-note.player (m / 2)) sub))
           (λ _. take now out ++ (c.block_with_progress.new.out ++ drop (next - now) (drop now out))) kept;
       long = kept ∙ c.loop-note.invariant.long;

@@ -9,8 +9,8 @@ returns-in-Ok-clause-front g c = take_put _ _ c.args.buffer.now _ (omega (arith,
 pub returns-in-Err-clause-front : goal.returns-in-Err-clause-front
 returns-in-Err-clause-front g c = take_put _ _ c.args.buffer.now _ (omega (arith, c.requires))
 
-pub returns-in-Ok-clause-taken : goal.returns-in-Ok-clause-taken
-returns-in-Ok-clause-taken g c =
+pub returns-in-Ok-clause-consumed : goal.returns-in-Ok-clause-consumed
+returns-in-Ok-clause-consumed g c =
     Consumes-in_place _ _ c.in-Ok.count _ c.read.new.buf _ c.args.at
     (length-take-le _ c.args.buffer.now (omega (arith, c.requires)))
     c.in-Ok.ensures.bound.0 c.in-Ok.ensures.bytes.0

@@ -3,8 +3,8 @@ use Rattle.std.proofs.lemmas.List.{length-take-le, length-drop, places}
 use Rattle.std.proofs.Math.Seq.{take-add}
 use Rattle.program_files.proofs.input.read_piece.Goals as goal
 
-pub returns-clause-taken : goal.returns-clause-taken
-returns-clause-taken g c =
+pub returns-clause-consumed : goal.returns-clause-consumed
+returns-clause-consumed g c =
     let at = c.len-at.result in
     let n = c.in_ok-count.count in
     let xs = c.read_at.new.buffer in
@@ -15,6 +15,6 @@ returns-clause-taken g c =
       take n (drop at xs),
       held ∙ take-add at n xs ∙ ap (λ f. f ++ take n (drop at xs)) front,
       length-take-le n (drop at xs) (omega (arith, within, length-drop at xs)),
-      read.taken,
+      read.consumed,
       read.end,
     )

@@ -7,7 +7,7 @@ use Rattle.program_files.proofs.input.read_whole.Given as goal
 abbrev pub invariant-loop-input : goal.invariant-loop-input
 invariant-loop-input g l = record {
   within : vec_len l.bytes ≤ most_bytes;
-  taken : Consumes (g.R.Read.remaining l.initial.input) (g.R.Read.remaining l.input) l.bytes.items;
+  consumed : Consumes (g.R.Read.remaining l.initial.input) (g.R.Read.remaining l.input) l.bytes.items;
 }
 
 abbrev pub decreases-loop-input : goal.decreases-loop-input

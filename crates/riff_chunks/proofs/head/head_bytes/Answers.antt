@@ -2,7 +2,7 @@ use Rattle.std.proofs.Common.{◌≡◌, ℕ, List, [], ◌∷◌, ◌++◌, len
 use Rattle.std.proofs.lemmas.List.{take_at, drop_at}
 use borrow.Rule.Slice.PartMut.{put_mid}
 use Rattle.byteorder.specs.Endian.{little_bytes}
-use Rattle.riff_chunks.specs.Spelling.{chunk_head}
+use Rattle.riff_chunks.specs.Encoding.{chunk_head}
 use Rattle.riff_chunks.proofs.head.head_bytes.Goals as goal
 
 abbrev zeros : List ℕ

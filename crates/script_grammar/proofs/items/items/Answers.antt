@@ -1,7 +1,7 @@
 use Rattle.std.proofs.Common.{◌∙◌, sym, ap, refl}
 use Rattle.std.proofs.lemmas.Result.{err_from_is_err_and}
 use Rattle.bank_parts.specs.declared.parts.GlobalZone.{GlobalZone}
-use Rattle.script_tokens.specs.Parts.{word, pure}
+use Rattle.script_tokens.specs.Parsers.{word, pure}
 use Rattle.script_grammar.specs.Items.{items, items_on, closed}
 use Rattle.script_grammar.proofs.ItemLaws.{item_shortens, items_end, items_go_on, items_fail}
 use Rattle.script_grammar.proofs.MemoryLaws.{first_fails, first_read}

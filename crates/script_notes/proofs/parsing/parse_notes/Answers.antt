@@ -1,6 +1,6 @@
 use Rattle.std.proofs.Common.{◌∙◌, ◌+◌, length, map, ap, arith}
 use Rattle.std.proofs.lemmas.Result.{err_from_is_err_and}
-use Rattle.script_tokens.specs.Said.{said_in}
+use Rattle.script_tokens.specs.TokenValue.{values_in}
 use Rattle.script_tokens.proofs.GatherLaws.{step_fails, lines_on, lines_stop, lines_over, length-lines_of}
 use Rattle.script_notes.specs.Notes.{with_note}
 use Rattle.script_notes.proofs.NoteLaws.{notes_gathered}
@@ -24,8 +24,8 @@ loop-line-preserved c = record {
   left =
       lines_on with_note (c.loop-line.number + 1) (c.loop-line.number + 1 + 1) c.loop-line.notes.items
       c.add_note.new.notes.items
-      (said_in c.in-Some.line.now) (map said_in c.next.new.self) (map said_in c.loop-line.line-iterator) _
-      (omega arith) (ap (map said_in) c.in-Some.ensures.steps) c.loop-line.invariant.left
+      (values_in c.in-Some.line.now) (map values_in c.next.new.self) (map values_in c.loop-line.line-iterator) _
+      (omega arith) (ap (map values_in) c.in-Some.ensures.steps) c.loop-line.invariant.left
       c.in_ok-add_note.ensures.added;
   counted = (let h = ap length c.in-Some.ensures.steps in let k = c.loop-line.invariant.counted in omega (arith, h, k));
   few = c.in_ok-add_note.ensures.few;
@@ -36,10 +36,10 @@ returns-in_err-add_note-clause-answers c =
     let p = err_from_is_err_and c.from_residual.result c.from_residual.ensures.1 in
     rw (p.1, p.2) (step_fails _ _ _ c.in_err-add_note.ensures.added
     (λ _ e. lines_stop with_note (c.loop-line.number + 1) c.loop-line.notes.items
-    (said_in c.in-Some.line.now) (map said_in c.next.new.self) (map said_in c.loop-line.line-iterator) _ _
-    (ap (map said_in) c.in-Some.ensures.steps) c.loop-line.invariant.left e))
+    (values_in c.in-Some.line.now) (map values_in c.next.new.self) (map values_in c.loop-line.line-iterator) _ _
+    (ap (map values_in) c.in-Some.ensures.steps) c.loop-line.invariant.left e))
 
 pub returns-clause-answers : goal.returns-clause-answers
 returns-clause-answers c =
-    lines_over with_note (c.loop-line.number + 1) c.loop-line.notes.items (map said_in c.loop-line.line-iterator) _
-    (ap (map said_in) c.in-None.ensures.steps.0) c.loop-line.invariant.left
+    lines_over with_note (c.loop-line.number + 1) c.loop-line.notes.items (map values_in c.loop-line.line-iterator) _
+    (ap (map values_in) c.in-None.ensures.steps.0) c.loop-line.invariant.left

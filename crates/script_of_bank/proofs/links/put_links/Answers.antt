@@ -1,6 +1,6 @@
 use Rattle.std.proofs.Common.{sym}
 use Rattle.base_outputs.proofs.OutputLaws.{puts_as, puts_nothing, putting_step, putting_last}
-use Rattle.script_of_bank.specs.Listed.{link_edits}
+use Rattle.script_of_bank.specs.BankEdits.{link_edits}
 use Rattle.script_of_bank.proofs.TextLaws.{turns_at, turns_over}
 use Rattle.script_of_bank.proofs.links.put_links.Goals as goal
 

@@ -1,7 +1,7 @@
 use Rattle.std.proofs.Common.{drop}
 use Rattle.base_outputs.proofs.OutputLaws.{Putting}
 use Rattle.edit_script.specs.Printing.{texts_of}
-use Rattle.script_of_bank.specs.Listed.{in_turn, link_edits}
+use Rattle.script_of_bank.specs.BankEdits.{in_turn, link_edits}
 use Rattle.script_of_bank.proofs.links.put_links.Given as goal
 
 -- the lines of the remaining samples are still to be written

@@ -1,5 +1,5 @@
 use Rattle.base_outputs.proofs.OutputLaws.{putting_member}
-use Rattle.script_of_bank.proofs.DownLaws.{reset_lines, puts_reset_line}
+use Rattle.script_of_bank.proofs.RemovalLines.{reset_lines, puts_reset_line}
 use Rattle.script_of_bank.proofs.replacement.put_each_reset.Goals as goal
 
 pub loop-id-preserved : goal.loop-id-preserved

@@ -1,7 +1,7 @@
 use Rattle.std.proofs.Common.{drop}
 use Rattle.std.specs.List.{flat_map}
 use Rattle.base_outputs.proofs.OutputLaws.{Putting}
-use Rattle.script_of_bank.proofs.DownLaws.{reset_lines}
+use Rattle.script_of_bank.proofs.RemovalLines.{reset_lines}
 use Rattle.script_of_bank.proofs.replacement.put_each_reset.Given as goal
 
 -- the lines of the remaining texts are still to be written

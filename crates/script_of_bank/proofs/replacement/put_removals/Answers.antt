@@ -1,5 +1,5 @@
 use Rattle.base_outputs.proofs.OutputLaws.{putting_step, putting_end}
-use Rattle.script_of_bank.proofs.DownLaws.{removals_at, removals_over}
+use Rattle.script_of_bank.proofs.RemovalLines.{removals_at, removals_over}
 use Rattle.script_of_bank.proofs.replacement.put_removals.Goals as goal
 
 pub loop-done-preserved : goal.loop-done-preserved

@@ -1,6 +1,6 @@
 use Rattle.std.proofs.Common.{◌-◌}
 use Rattle.base_outputs.proofs.OutputLaws.{Putting}
-use Rattle.script_of_bank.specs.TakenDown.{removal_lines}
+use Rattle.script_of_bank.specs.BankRemoval.{removal_lines}
 use Rattle.script_of_bank.proofs.replacement.put_removals.Given as goal
 
 -- the lines of the preceding members are still to be written

@@ -1,5 +1,5 @@
 use Rattle.base_outputs.proofs.OutputLaws.{puts_as}
-use Rattle.script_of_bank.proofs.DownLaws.{resets_lines}
+use Rattle.script_of_bank.proofs.RemovalLines.{resets_lines}
 use Rattle.script_of_bank.proofs.replacement.put_resets.Goals as goal
 
 pub returns : goal.returns

@@ -1,6 +1,6 @@
 use Rattle.base_outputs.proofs.OutputLaws.{putting_from, putting_step, putting_end}
-use Rattle.script_of_bank.specs.TakenDown.{unlink_edits}
-use Rattle.script_of_bank.proofs.DownLaws.{reverse_start, reverse_at, reverse_over}
+use Rattle.script_of_bank.specs.BankRemoval.{unlink_edits}
+use Rattle.script_of_bank.proofs.RemovalLines.{reverse_start, reverse_at, reverse_over}
 use Rattle.script_of_bank.proofs.replacement.put_unlinks.Goals as goal
 
 pub loop-done-init : goal.loop-done-init

@@ -1,7 +1,7 @@
 use Rattle.std.proofs.Common.{◌-◌, length, take}
 use Rattle.base_outputs.proofs.OutputLaws.{Putting}
 use Rattle.edit_script.specs.Printing.{texts_of}
-use Rattle.script_of_bank.specs.TakenDown.{in_reverse, unlink_edits}
+use Rattle.script_of_bank.specs.BankRemoval.{in_reverse, unlink_edits}
 use Rattle.script_of_bank.proofs.replacement.put_unlinks.Given as goal
 
 -- the lines of the preceding samples are still to be written

@@ -1,6 +1,6 @@
 use Rattle.std.proofs.Common.{ap}
 use Rattle.base_outputs.proofs.OutputLaws.{puts_as, puts_then}
-use Rattle.script_of_bank.specs.Printed.{first_line, bank_script}
+use Rattle.script_of_bank.specs.BankScript.{first_line, bank_script}
 use Rattle.script_of_bank.proofs.script.put_bank_text.Goals as goal
 
 pub returns : goal.returns

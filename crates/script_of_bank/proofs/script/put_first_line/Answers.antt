@@ -1,4 +1,4 @@
-use Rattle.script_of_bank.specs.Printed.{first_line}
+use Rattle.script_of_bank.specs.BankScript.{first_line}
 use Rattle.script_of_bank.proofs.script.put_first_line.Goals as goal
 
 pub returns-in-Kept : goal.returns-in-Kept

@@ -4,16 +4,16 @@ use Rattle.base_outputs.proofs.OutputLaws.{puts_as, puts_then}
 use Rattle.script_steps.specs.Instruments.{name_operands}
 use Rattle.script_steps.specs.Presets.{head_operands}
 use Rattle.edit_script.specs.Printing.{texts_of}
-use Rattle.script_of_bank.specs.Listed.{in_turn, link_edits}
+use Rattle.script_of_bank.specs.BankEdits.{in_turn, link_edits}
 use Rattle.script_of_bank.specs.Lines.{owner_lines}
-use Rattle.script_of_bank.specs.Printed.{told_edits}
+use Rattle.script_of_bank.specs.BankScript.{selected_edits}
 use Rattle.script_of_bank.proofs.TextLaws.{bank_lines}
 use Rattle.script_of_bank.proofs.script.put_parts.Goals as goal
 
 pub returns : goal.returns
 returns g c =
     let samples =
-    puts_as _ _ (ap (λ ss. texts_of (in_turn (told_edits c.args.points) 0 ss)) c.samples.ensures.value)
+    puts_as _ _ (ap (λ ss. texts_of (in_turn (selected_edits c.args.points) 0 ss)) c.samples.ensures.value)
     c.put_samples.ensures in
     let links =
     puts_as _ _ (ap (λ ss. texts_of (in_turn link_edits 0 ss)) c.samples-2.ensures.value) c.put_links.ensures in

@@ -1,5 +1,5 @@
 use Rattle.std.proofs.Common.{◌≡◌, ◌<◌, ◌^◌, take}
-use Rattle.script_tokens.specs.Parts.{digits_value}
+use Rattle.script_tokens.specs.Parsers.{digits_value}
 use Rattle.script_tokens.proofs.numbers.digits_value.Given as goal
 
 -- the value of the digits before the index

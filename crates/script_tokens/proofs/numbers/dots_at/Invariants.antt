@@ -1,5 +1,5 @@
 use Rattle.std.proofs.Common.{◌≡◌, ◌≤◌, ◌+◌, ◌-◌, length, drop}
-use Rattle.script_tokens.specs.Parts.{dots_at}
+use Rattle.script_tokens.specs.Parsers.{dots_at}
 use Rattle.script_tokens.proofs.numbers.dots_at.Given as goal
 
 -- no `..` is before the current position

@@ -1,6 +1,6 @@
 use Rattle.std.proofs.Common.{map, ap}
 use Rattle.std.proofs.lemmas.Result.{err_from_is_err_and}
-use Rattle.script_tokens.specs.Said.{said}
+use Rattle.script_tokens.specs.TokenValue.{said}
 use Rattle.script_tokens.proofs.GatherLaws.{step_fails, literals_taken, literals_stop, literals_over}
 use Rattle.script_tokens.proofs.pool.add_literals.Goals as goal
 

@@ -1,6 +1,6 @@
 use Rattle.std.proofs.Common.{◌≡◌, map}
 use Rattle.script_tokens.specs.Tokens.{tokens_of}
-use Rattle.script_tokens.specs.Said.{said}
+use Rattle.script_tokens.specs.TokenValue.{said}
 use Rattle.script_tokens.specs.Pool.{literals_of}
 use Rattle.script_tokens.proofs.pool.add_literals.Given as goal
 

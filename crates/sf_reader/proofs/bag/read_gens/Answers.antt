@@ -59,11 +59,11 @@ returns-clause-all c =
       c.set_gens.new.gens.ok.0,
     )
     in
-    let left : c.len-2.result - (c.len.result - start + c.from.result)
+    let remaining : c.len-2.result - (c.len.result - start + c.from.result)
     ≡ length c.args.records.now - (len (map_from start c.set_gens.new.gens.items) + one_if (is_some target)) =
     omega (arith, count, one ∙ ap one_if c.is_some.ensures, c.len-2.ensures) in
     all_read c.args.level c.args.records.now (map_from start c.set_gens.new.gens.items) target raw
-    c.in_ok-target.ensures.target _ c.mend_ranges-ranges.result left c.mend_ranges-ranges.ensures.count
+    c.in_ok-target.ensures.target _ c.repair_ranges-ranges.result remaining c.repair_ranges-ranges.ensures.count
 
 pub returns-clause-gens : goal.returns-clause-gens
 returns-clause-gens c =
@@ -75,9 +75,9 @@ returns-clause-gens c =
     c.in_ok-target.ensures.set
     ∙ ap (λ (m : Gens). set_in_order m (entries_in c.args.level c.args.records.now))
     (none_from c.args.gens.now.items start from) in
-    entries_behind c.args.gens.now.items c.mend_ranges-ranges.new.gens.items start
+    entries_behind c.args.gens.now.items c.repair_ranges-ranges.new.gens.items start
     (gens_read c.args.level c.args.records.now) from
-    (c.mend_ranges-ranges.ensures.front ∙ c.in_ok-target.ensures.front) c.mend_ranges-ranges.ensures.map
+    (c.repair_ranges-ranges.ensures.front ∙ c.in_ok-target.ensures.front) c.repair_ranges-ranges.ensures.map
     (gens_are c.args.level c.args.records.now (map_from start c.set_gens.new.gens.items) target raw
-    c.in_ok-target.ensures.target (map_from start c.mend_ranges-ranges.new.gens.items)
-    c.mend_ranges-ranges.ensures.mended)
+    c.in_ok-target.ensures.target (map_from start c.repair_ranges-ranges.new.gens.items)
+    c.repair_ranges-ranges.ensures.repaired)

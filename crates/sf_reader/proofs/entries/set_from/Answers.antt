@@ -1,5 +1,5 @@
 use Rattle.std.proofs.Common.{◌∙◌, ℕ, List, drop, ap, subst, arith}
-use Rattle.generators.specs.Places.{IsAt, IsGapFor}
+use Rattle.generators.specs.Indexes.{IsAt, IsInsertionIndex}
 use Rattle.sf_reader.proofs.EntryLaws.{rest_is, set-front, set-map, set-set, insert-front, insert-map, insert-set}
 use Rattle.sf_reader.proofs.entries.set_from.Goals as goal
 
@@ -20,7 +20,7 @@ returns-in_ok-insert-in-Err c =
     let start = c.args.start in
     let es = c.args.entries.now.items in
     let rest = rest_is start c.deref.result.now ∙ ap (drop start) c.deref.ensures.value in
-    let absent = subst (λ (l : List (ℕ × ℕ)). IsGapFor l c.args.operator c.in-Err.at) rest c.in-Err.ensures.absent in
+    let absent = subst (λ (l : List (ℕ × ℕ)). IsInsertionIndex l c.args.operator c.in-Err.at) rest c.in-Err.ensures.absent in
     record {
       front =
           rw c.in_ok-insert-in-Err.ensures.items

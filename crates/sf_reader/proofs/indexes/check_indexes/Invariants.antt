@@ -1,6 +1,6 @@
 use Rattle.std.proofs.Common.{◌≡◌, ◌&&◌, ◌-◌, leb, map}
 use Rattle.std.specs.List.{list_all}
-use Rattle.bank_format.specs.ReadSteps.{is_rising, is_rising_from}
+use Rattle.bank_format.specs.ReadChecks.{is_rising, is_rising_from}
 use Rattle.sf_reader.proofs.indexes.check_indexes.Given as goal
 
 -- the indexes pass their checks if the remaining ones do, starting from `last`

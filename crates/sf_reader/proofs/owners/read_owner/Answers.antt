@@ -1,10 +1,10 @@
 use Rattle.std.proofs.Common.{length, ◌-◌, ◌≡◌, ◌∙◌, None, refl, ap, sym, subst}
-use Rattle.bank_format.specs.Steps.{first_broken, Fails}
+use Rattle.bank_format.specs.FaultChecks.{first_fault, Fails}
 use Rattle.sf_reader.specs.declared.zones.ZoneCounts.{ZoneCounts}
-use Rattle.sf_reader.specs.Bags.{counts_read, own_bags, steps_of_bags}
-use Rattle.sf_reader.specs.Records.{Adds}
+use Rattle.sf_reader.specs.Bags.{counts_read, own_bags, checks_of_bags}
+use Rattle.sf_reader.specs.Records.{Appends}
 use Rattle.sf_reader.specs.Owners.{AreSmall, added, window_of}
-use Rattle.sf_reader.proofs.StepLaws.{given_by}
+use Rattle.sf_reader.proofs.CheckLaws.{given_by}
 use Rattle.sf_reader.proofs.OwnerLaws.{between_as, pushed_as}
 use Rattle.sf_reader.proofs.owners.read_owner.Goals as goal
 
@@ -16,9 +16,9 @@ returns-in_err-counts-clause-passes g c =
     let missing = c.args.targets.missing in
     let e = c.in_err-counts.field-0.0 in
     given_by (λ u. u) tt c.from_residual.result e
-    (steps_of_bags h.level n missing (window_of h.first_bag l c.args.head.now c.args.next.now))
+    (checks_of_bags h.level n missing (window_of h.first_bag l c.args.head.now c.args.next.now))
     c.from_residual.ensures.1
-    (between_as (λ at bags. Fails e (first_broken (steps_of_bags at n missing bags))) h.first_bag l c.args.head.now c.args.next.now h.level c.LEVEL.result c.part-bags.result c.first_bag.result c.first_bag-2.result
+    (between_as (λ at bags. Fails e (first_fault (checks_of_bags at n missing bags))) h.first_bag l c.args.head.now c.args.next.now h.level c.LEVEL.result c.part-bags.result c.first_bag.result c.first_bag-2.result
     (c.LEVEL.ensures ∙ sym g.met.H.RecordedHead.same_level) c.part-bags.ensures c.first_bag.ensures
     c.first_bag-2.ensures c.in_err-counts.ensures.passes)
 
@@ -39,7 +39,7 @@ returns-clause-passes g c =
     let h = g.H.RecordedHead.headers in
     let n = c.args.targets.count in
     let missing = c.args.targets.missing in (
-      between_as (λ at bags. first_broken (steps_of_bags at n missing bags) ≡ None) h.first_bag l c.args.head.now
+      between_as (λ at bags. first_fault (checks_of_bags at n missing bags) ≡ None) h.first_bag l c.args.head.now
           c.args.next.now h.level c.LEVEL.result c.part-bags.result c.first_bag.result c.first_bag-2.result
           (c.LEVEL.ensures ∙ sym g.met.H.RecordedHead.same_level) c.part-bags.ensures c.first_bag.ensures
           c.first_bag-2.ensures c.in_ok-counts.ensures.passes.0,
@@ -63,7 +63,7 @@ returns-clause-read g c =
           pushed_as c.args.read.now.first_bags.items c.push-2.new.self.items c.in_ok-past.past
           (length c.read_bags.new.records.bags.items - 1) c.in_ok-push-2.ensures.items c.in_ok-past.ensures;
       records_grow =
-          between_as (λ at bags. Adds c.args.read.now.records c.read_bags.new.records (own_bags at bags)) h.first_bag
+          between_as (λ at bags. Appends c.args.read.now.records c.read_bags.new.records (own_bags at bags)) h.first_bag
           l c.args.head.now c.args.next.now h.level c.LEVEL.result c.part-bags.result c.first_bag.result
           c.first_bag-2.result
           (c.LEVEL.ensures ∙ sym g.met.H.RecordedHead.same_level) c.part-bags.ensures c.first_bag.ensures

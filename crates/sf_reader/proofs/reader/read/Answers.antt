@@ -4,10 +4,10 @@ use Rattle.bank_parts.specs.Sound.{IsSound}
 use Rattle.bank_format.specs.Ids.{SFBK}
 use Rattle.bank_format.specs.Chunks.{window}
 use Rattle.bank_format.specs.Reading.{content_in}
-use Rattle.bank_format.specs.ReadSteps.{fault_of}
+use Rattle.bank_format.specs.ReadChecks.{fault_of}
 use Rattle.sf_reader.specs.FlatContent.{FlatContent}
 use Rattle.sf_reader.proofs.ByteLaws.{are_bytes}
-use Rattle.sf_reader.proofs.StepLaws.{fails_by}
+use Rattle.sf_reader.proofs.CheckLaws.{fails_by}
 use Rattle.sf_reader.proofs.ReadLaws.{in_frame, in_lists, in_content, file_holds}
 use Rattle.sf_reader.proofs.FlatLaws.{is_there, is_flat, has_lists, bank_is}
 use Rattle.sf_reader.proofs.reader.read.Goals as goal

@@ -6,12 +6,12 @@ use Rattle.bank_core.specs.declared.flat.Flat.{Flat}
 use Rattle.bank_format.specs.declared.fault.Counts.{Counts}
 use Rattle.bank_format.specs.declared.fault.ReadFault.{ReadFault}
 use Rattle.bank_format.specs.Ids.{IFIL}
-use Rattle.bank_format.specs.Steps.{first_broken, Fails, PassesGivenMemory}
-use Rattle.sf_reader.specs.declared.frame.Lists.TheInside.{Inside}
+use Rattle.bank_format.specs.FaultChecks.{first_fault, Fails, PassesOrOutOfMemory}
+use Rattle.sf_reader.specs.declared.lists.Lists.TheInside.{Inside}
 use Rattle.sf_reader.specs.Lists.{ListChunks}
 use Rattle.sf_reader.specs.FlatContent.{content_seen}
-use Rattle.sf_reader.specs.Content.{list_content_steps, list_content, table_steps, table_content}
-use Rattle.sf_reader.proofs.StepLaws.{given_by}
+use Rattle.sf_reader.specs.Content.{list_content_checks, list_content, table_checks, table_content}
+use Rattle.sf_reader.proofs.CheckLaws.{given_by}
 use Rattle.sf_reader.proofs.ReadLaws.{Opened, Cut, in_there, in_nine, in_version, in_whole, tables_pass}
 use Rattle.sf_reader.proofs.reader.read_lists.Goals as goal
 use Rattle.sf_reader.proofs.reader.read_lists.Goals.{In_ok-bodies}
@@ -21,11 +21,11 @@ chunks l = record { info = l.info; sdta = l.sdta; pdta = l.pdta }
 
 -- a fault of the chunks v, which equal those of the lists
 stops : (r : Result (Flat × Counts) (Failure ReadFault)) (e : Failure ReadFault) (v w : ListChunks) → v ≡ w
-    → IsErrAnd r (λ d. d ≡ e) → Fails e (first_broken (list_content_steps v))
-    → PassesGivenMemory content_seen r (list_content_steps w) (list_content w)
+    → IsErrAnd r (λ d. d ≡ e) → Fails e (first_fault (list_content_checks v))
+    → PassesOrOutOfMemory content_seen r (list_content_checks w) (list_content w)
 stops r e v w same is h =
-    given_by content_seen (list_content w) r e (list_content_steps w) is
-    (subst (λ (u : ListChunks). Fails e (first_broken (list_content_steps u))) same h)
+    given_by content_seen (list_content w) r e (list_content_checks w) is
+    (subst (λ (u : ListChunks). Fails e (first_fault (list_content_checks u))) same h)
 
 -- what has been found before the version is read
 opened : (c : In_ok-bodies) → Opened (chunks c.lists.inside) c.in_ok-version.version.now c.in_ok-bodies.bodies
@@ -91,7 +91,7 @@ returns c =
       smpl_is = c.smpl_of-smpl.ensures;
     } in
     let same = c.lists.view_is in
-    subst (λ (u : ListChunks). PassesGivenMemory content_seen r (list_content_steps u) (list_content u)) same
+    subst (λ (u : ListChunks). PassesOrOutOfMemory content_seen r (list_content_checks u) (list_content u)) same
     (tables_pass content_seen r w c.in_ok-version.version.now c.in_ok-bodies.bodies minor t smpl found
-    (subst (λ (u : ListChunks). PassesGivenMemory content_seen r (table_steps t smpl)
+    (subst (λ (u : ListChunks). PassesOrOutOfMemory content_seen r (table_checks t smpl)
     (table_content minor u t smpl)) (sym same) c.read_tables.ensures))

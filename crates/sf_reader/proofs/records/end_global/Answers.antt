@@ -1,6 +1,6 @@
 use Rattle.std.proofs.Common.{◌≡◌, ◌∙◌, ◌-◌, length, ap, sym, arith}
-use Rattle.sf_reader.proofs.StepLaws.{on_ok}
-use Rattle.sf_reader.proofs.Adding.{global_none, global_some}
+use Rattle.sf_reader.proofs.CheckLaws.{on_ok}
+use Rattle.sf_reader.proofs.BagAppends.{global_none, global_some}
 use Rattle.sf_reader.proofs.records.end_global.Goals as goal
 
 pub returns-then-mods-eq0 : goal.returns-then-mods-eq0

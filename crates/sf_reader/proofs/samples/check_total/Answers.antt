@@ -1,5 +1,5 @@
 use Rattle.std.proofs.Common.{◌≡◌, ◌+◌, ◌-◌, arith, rules}
-use Rattle.bank_format.specs.Windows.{rows}
+use Rattle.bank_format.specs.Windows.{without_terminal}
 use Rattle.sf_reader.proofs.RowLaws.{sum_more, total_breaks}
 use Rattle.sf_reader.proofs.samples.check_total.Goals as goal
 
@@ -25,4 +25,4 @@ returns-then-total-gt-POINTS c =
     let so_far =
     sum_more old.n new.n old.iter new.iter c.in-Some.head turn.0 turn.1 (λ h. h.end - h.start + 46)
     c.loop-head.total _ _ here c.loop-head.invariant.2 in
-    total_breaks (rows c.args.heads.now) (omega (arith, so_far))
+    total_breaks (without_terminal c.args.heads.now) (omega (arith, so_far))

@@ -1,15 +1,15 @@
 use Rattle.std.proofs.Common.{◌∙◌, rules, tests}
 use Rattle.std.proofs.lemmas.Iterator.Consumers.{YieldsList-at, YieldsList-from_filter, count_from_yields_List}
 use Rattle.std.proofs.lemmas.List.Sums.{length-filter}
-use Rattle.bank_format.specs.Windows.{rows}
+use Rattle.bank_format.specs.Windows.{without_terminal}
 use Rattle.bank_format.specs.Samples.{is_loop_lost}
 use Rattle.sf_reader.proofs.RowLaws.{rows_yield}
 use Rattle.sf_reader.proofs.samples.count_lost_loops.Goals as goal
 
 pub returns : goal.returns
 returns c =
-    let heads = rows_yield c.rows.result (rows c.args.heads.now) c.rows.ensures in
+    let heads = rows_yield c.without_terminal.result (without_terminal c.args.heads.now) c.without_terminal.ensures in
     count_from_yields_List c.filter.result c.count.result c.count.ensures.ran
     (YieldsList-from_filter _ is_loop_lost (YieldsList-at c.filter.ensures.source heads) c.filter.ensures.closure
     (λ x b q k. search (rules, tests)))
-    ∙ length-filter is_loop_lost (rows c.args.heads.now)
+    ∙ length-filter is_loop_lost (without_terminal c.args.heads.now)

@@ -1,6 +1,6 @@
 use Rattle.std.proofs.Common.{◌≡◌, ◌++◌, map, take}
 use Rattle.sample_view.specs.Words.{words}
-use Rattle.bank_format.specs.Windows.{rows}
+use Rattle.bank_format.specs.Windows.{without_terminal}
 use Rattle.bank_format.specs.Samples.{sample_read}
 use Rattle.sf_reader.proofs.samples.read_samples.Given as goal
 
@@ -11,4 +11,4 @@ invariant-loop-head l =
     × (goal.iterator-loop-head).is_finite l.head-iterator
     ×
     (l.samples.items ++ map (sample_read l.count (words l.smpl)) (take l.head-iterator.n l.head-iterator.iter)
-    ≡ map (sample_read l.count (words l.smpl)) (rows l.heads))
+    ≡ map (sample_read l.count (words l.smpl)) (without_terminal l.heads))

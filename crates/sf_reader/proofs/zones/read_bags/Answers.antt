@@ -1,11 +1,11 @@
 use Rattle.std.proofs.Common.{◌≡◌, ◌∙◌, ◌∷◌, [], List, ap, sym, refl}
 use Rattle.bank_format.specs.Reading.{bagged, bags_in}
 use Rattle.hydra_records.specs.declared.zone.Bag.{Bag}
-use Rattle.sf_reader.specs.Bags.{steps_of_bags}
-use Rattle.sf_reader.proofs.StepLaws.{given_by}
-use Rattle.sf_reader.proofs.Later.{bags_in-none, bags_in-one, next_bag, none_counted, none_put, first_left}
-use Rattle.sf_reader.proofs.Later.{first_fails, later_left, later_fails, few_so_far, few_in_all, all_counted}
-use Rattle.sf_reader.proofs.Later.{all_hold, all_put}
+use Rattle.sf_reader.specs.Bags.{checks_of_bags}
+use Rattle.sf_reader.proofs.CheckLaws.{given_by}
+use Rattle.sf_reader.proofs.BagSequences.{bags_in-none, bags_in-one, next_bag, none_counted, none_put, first_left}
+use Rattle.sf_reader.proofs.BagSequences.{first_fails, later_left, later_fails, few_so_far, few_in_all, all_counted}
+use Rattle.sf_reader.proofs.BagSequences.{all_hold, all_put}
 use Rattle.sf_reader.proofs.zones.read_bags.Goals as goal
 
 pub returns-in_default : goal.returns-in_default
@@ -54,7 +54,7 @@ returns-in_err-counts-clause-passes c =
     c.bag_between-gens.ensures.gens c.bag_between-gens.ensures.mods in
     let e = c.in_err-counts.field-0.0 in
     given_by (λ c. c) _ c.from_residual.result e
-    (steps_of_bags c.args.level c.args.targets.count c.args.targets.missing (bags_in c.args.bags.now gens mods))
+    (checks_of_bags c.args.level c.args.targets.count c.args.targets.missing (bags_in c.args.bags.now gens mods))
     c.from_residual.ensures.1
     (first_fails c.args.level c.args.targets.count c.args.targets.missing e (bagged bag.0 bag.1) _
     (bags_in c.args.bags.now gens mods) all c.in_err-counts.ensures.passes)
@@ -84,9 +84,9 @@ pub read_later-requires-clause-few : goal.read_later-requires-clause-few
 read_later-requires-clause-few c =
     let gens = c.args.generators.now in
     let mods = c.args.modulators.now in
-    let left = c.loop-end.invariant.2 in
+    let remaining = c.loop-end.invariant.2 in
     few_so_far c.args.level c.loop-end.counts (bags_in (c.loop-end.start ∷ c.loop-end.end-iterator) gens mods)
-    (bags_in c.args.bags.now gens mods) left.counts_are
+    (bags_in c.args.bags.now gens mods) remaining.counts_are
     (few_in_all c.args.level c.args.bags.now gens mods c.requires.bags c.requires.generators)
 
 pub returns-in_err-counts-2-clause-passes : goal.returns-in_err-counts-2-clause-passes
@@ -100,7 +100,7 @@ returns-in_err-counts-2-clause-passes c =
     c.bag_between-gens-in-loop-end.ensures.mods in
     let e = c.in_err-counts-2.field-0.0 in
     given_by (λ c. c) _ c.from_residual-in_err-counts-2.result e
-    (steps_of_bags c.args.level c.args.targets.count c.args.targets.missing (bags_in c.args.bags.now gens mods))
+    (checks_of_bags c.args.level c.args.targets.count c.args.targets.missing (bags_in c.args.bags.now gens mods))
     c.from_residual-in_err-counts-2.ensures.1
     (later_fails c.args.level c.args.targets.count c.args.targets.missing c.args.records.now c.loop-end.records
     c.loop-end.counts (bagged bag.0 bag.1) _ _ _ next c.loop-end.invariant.2 e c.in_err-counts-2.ensures.passes)
@@ -126,7 +126,7 @@ pub returns : goal.returns
 returns c =
     let gens = c.args.generators.now in
     let mods = c.args.modulators.now in
-    let left : bags_in (c.loop-end.start ∷ c.loop-end.end-iterator) gens mods ≡ [] =
+    let remaining : bags_in (c.loop-end.start ∷ c.loop-end.end-iterator) gens mods ≡ [] =
     ap (λ (bs : List Bag). bags_in (c.loop-end.start ∷ bs) gens mods) c.in-None.ensures.steps.0
     ∙ bags_in-one gens mods c.loop-end.start in
     let so_far = c.loop-end.invariant.2 in
@@ -135,8 +135,8 @@ returns c =
     let missing = c.args.targets.missing in
     record {
       passes = (
-        all_hold at n missing c.args.records.now c.loop-end.records c.loop-end.counts _ _ left so_far,
-        all_counted at n missing c.args.records.now c.loop-end.records c.loop-end.counts _ _ left so_far,
+        all_hold at n missing c.args.records.now c.loop-end.records c.loop-end.counts _ _ remaining so_far,
+        all_counted at n missing c.args.records.now c.loop-end.records c.loop-end.counts _ _ remaining so_far,
       );
-      records = all_put at n missing c.args.records.now c.loop-end.records c.loop-end.counts _ _ left so_far;
+      records = all_put at n missing c.args.records.now c.loop-end.records c.loop-end.counts _ _ remaining so_far;
     }

@@ -1,19 +1,19 @@
 use Rattle.std.proofs.Common.{◌∙◌, take, ap, sym, refl}
 use Rattle.std.specs.FinMap.{entries}
 use Rattle.sf_base.specs.declared.memory.Failure.TheVariants.{Fault}
-use Rattle.bank_format.specs.Steps.{first_broken}
+use Rattle.bank_format.specs.FaultChecks.{first_fault}
 use Rattle.bank_format.specs.Reading.{bagged}
 use Rattle.bank_format.specs.Zones.{gens_read}
-use Rattle.sf_reader.proofs.Adding.{adds_as, adds_same, adds_held}
+use Rattle.sf_reader.proofs.BagAppends.{adds_as, adds_same, adds_held}
 use Rattle.sf_reader.proofs.EntryLaws.{take-front}
-use Rattle.sf_reader.proofs.Later.{steps_none, steps_one, bags_none, bags_one, ignored_counts, zone_counts}
-use Rattle.sf_reader.proofs.Later.{target_fails}
+use Rattle.sf_reader.proofs.BagSequences.{steps_none, steps_one, bags_none, bags_one, ignored_counts, zone_counts}
+use Rattle.sf_reader.proofs.BagSequences.{target_fails}
 use Rattle.sf_reader.proofs.zones.read_later.Goals as goal
 
 pub returns-in_default-clause-passes : goal.returns-in_default-clause-passes
 returns-in_default-clause-passes c =
     let r = bagged c.args.generators.now c.args.modulators.now in (
-      ap first_broken
+      ap first_fault
           (steps_none c.args.level r _ c.in_ok-target.ensures.all c.args.targets.count c.args.targets.missing
           c.in_default.is),
       ignored_counts c.args.level r _ c.in_ok-target.ensures.all c.args.counts c.in_default.is,
@@ -40,7 +40,7 @@ returns-in_err-check_target-clause-passes c =
 pub returns-clause-passes : goal.returns-clause-passes
 returns-clause-passes c =
     let r = bagged c.args.generators.now c.args.modulators.now in (
-      ap first_broken
+      ap first_fault
           (sym
           (steps_one c.args.level r _ c.in_ok-target.ensures.all c.args.targets.count c.args.targets.missing
           c.in-Some.target c.in-Some.is))

@@ -1,5 +1,5 @@
 use Rattle.std.proofs.Common.{ap}
-use Rattle.riff_chunks.specs.Spelling.{chunk}
+use Rattle.riff_chunks.specs.Encoding.{chunk}
 use Rattle.bank_format.specs.Texts.{text_body}
 use Rattle.base_outputs.proofs.OutputLaws.{puts_as, puts_then}
 use Rattle.sf_writer.specs.Info.{text_id}

@@ -7,7 +7,7 @@ use Rattle.sf_writer.proofs.owner_heads.put_heads.Goals as goal
 pub loop-i-init : goal.loop-i-init
 loop-i-init g c =
     putting_from _ _
-    (heads-start g.H.Record.Spelled.bytes_of g.H.RecordedHead.headers g.H.OwnerHead.LEVEL c.args.owners.now _
+    (heads-start g.H.Record.Encoded.bytes_of g.H.RecordedHead.headers g.H.OwnerHead.LEVEL c.args.owners.now _
     g.met.H.RecordedHead.same_level c.first_bags-first_bags.ensures)
 
 pub first_bag-requires : goal.first_bag-requires
@@ -21,7 +21,7 @@ loop-i-preserved g c =
     let size : length c.first_bags-first_bags.result.now ≡ length c.args.owners.now + 1 =
     ap length c.first_bags-first_bags.ensures ∙ first_bags_size g.H.OwnerHead.LEVEL c.args.owners.now in
     putting_step c.put.result _ c.loop-i.invariant
-    (heads-next g.H.Record.Spelled.bytes_of g.H.RecordedHead.headers c.args.owners.now _ c.loop-i.i _
+    (heads-next g.H.Record.Encoded.bytes_of g.H.RecordedHead.headers c.args.owners.now _ c.loop-i.i _
     c.head.result.now _ _ (omega arith) (omega (arith, size)) c.head.ensures c.first_bag.ensures c.record.ensures
     c.put.ensures)
     c.put-in-loop-i.ensures
@@ -40,6 +40,6 @@ returns g c =
     putting_last (rw end at c.loop-i.invariant)
     (puts_as _ _
     (sym
-    (heads-last g.H.Record.Spelled.bytes_of g.H.RecordedHead.headers c.args.owners.now _ c.len.result _ _ _
+    (heads-last g.H.Record.Encoded.bytes_of g.H.RecordedHead.headers c.args.owners.now _ c.len.result _ _ _
     c.len.ensures (omega (arith, size)) c.first_bag-2.ensures c.last.ensures c.put-2.ensures))
     c.put-3.ensures)

@@ -8,5 +8,5 @@ use Rattle.sf_writer.proofs.owner_heads.put_heads.Given as goal
 abbrev pub invariant-loop-i : goal.invariant-loop-i
 invariant-loop-i g l = let h = g.H.RecordedHead in
     Putting g.W.Write.contents l.initial.output l.output
-    (flat_map g.H.Record.Spelled.bytes_of (heads_from h.headers 0 l.owners))
-    (flat_map g.H.Record.Spelled.bytes_of (headers_of h.headers (drop l.i l.owners) (drop l.i l.first_bags)))
+    (flat_map g.H.Record.Encoded.bytes_of (heads_from h.headers 0 l.owners))
+    (flat_map g.H.Record.Encoded.bytes_of (headers_of h.headers (drop l.i l.owners) (drop l.i l.first_bags)))

@@ -1,6 +1,6 @@
 use Rattle.std.proofs.Common.{drop, map}
 use Rattle.std.specs.List.{flat_map}
-use Rattle.hydra_records.specs.Spelling.{bag_bytes}
+use Rattle.hydra_records.specs.Encoding.{bag_bytes}
 use Rattle.bank_format.specs.FlatTables.{bag_of}
 use Rattle.base_outputs.proofs.OutputLaws.{Putting}
 use Rattle.sf_writer.proofs.zone_lists.put_bag_records.Given as goal

@@ -1,4 +1,4 @@
-use Rattle.hydra_records.specs.Spelling.{generator_bytes}
+use Rattle.hydra_records.specs.Encoding.{generator_bytes}
 use Rattle.bank_format.specs.FlatTables.{generator_of}
 use Rattle.base_outputs.proofs.OutputLaws.{putting_step}
 use Rattle.sf_writer.proofs.FlatLaws.{records_at}

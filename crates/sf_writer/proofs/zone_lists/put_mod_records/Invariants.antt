@@ -1,6 +1,6 @@
 use Rattle.std.proofs.Common.{drop}
 use Rattle.std.specs.List.{flat_map}
-use Rattle.hydra_records.specs.Spelling.{modulator_bytes}
+use Rattle.hydra_records.specs.Encoding.{modulator_bytes}
 use Rattle.base_outputs.proofs.OutputLaws.{Putting}
 use Rattle.sf_writer.proofs.zone_lists.put_mod_records.Given as goal
 

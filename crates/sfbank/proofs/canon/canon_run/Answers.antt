@@ -1,5 +1,5 @@
 use Rattle.std.proofs.lemmas.Result.{err_from_is_err_and}
-use Rattle.sfbank.proofs.Alone.{canon_not_read, canon_runs, empty_edit, fixed}
+use Rattle.sfbank.proofs.OneText.{canon_not_read, canon_runs, empty_edit, fixed}
 use Rattle.sfbank.proofs.Restores.{are_bytes}
 use Rattle.sfbank.proofs.canon.canon_run.Goals as goal
 

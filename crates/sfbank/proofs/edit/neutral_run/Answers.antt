@@ -12,6 +12,6 @@ pub returns-clause-restores : goal.returns-clause-restores
 returns-clause-restores g c =
     neutrally_restores c.args.file.now c.args.script.now (are_bytes c.args.file.now c.type_inv.file)
 
-pub returns-clause-sounds : goal.returns-clause-sounds
-returns-clause-sounds g c =
+pub returns-clause-renders : goal.returns-clause-renders
+returns-clause-renders g c =
     sounds_the_same c.args.file.now c.args.script.now (are_bytes c.args.file.now c.type_inv.file)

@@ -1,7 +1,7 @@
 use Rattle.std.proofs.Common.{◌∙◌}
 use Rattle.std.proofs.lemmas.Result.{err_from_is_err_and}
-use Rattle.sfbank.specs.Planned.{outcome_of}
-use Rattle.sfbank.specs.Plans.{planned}
+use Rattle.sfbank.specs.EditRuns.{outcome_of}
+use Rattle.sfbank.specs.Prepared.{texts_of_bank}
 use Rattle.sfbank.proofs.Endings.{ends_early, ends_with}
 use Rattle.sfbank.proofs.Faults.{at_read, at_bank, at_script, pool_fails}
 use Rattle.sfbank.proofs.edit.run_script.Goals as goal
@@ -31,16 +31,16 @@ returns-in_err-pool g c =
           (pool_fails script failure c.in_err-pool.ensures))));
     }
 
-pub returns-in_err-plan : goal.returns-in_err-plan
-returns-in_err-plan g c =
-    let p = err_from_is_err_and c.from_residual-in_err-plan.result c.from_residual-in_err-plan.ensures.1 in
+pub returns-in_err-edited_bank : goal.returns-in_err-edited_bank
+returns-in_err-edited_bank g c =
+    let p = err_from_is_err_and c.from_residual-in_err-edited_bank.result c.from_residual-in_err-edited_bank.ensures.1 in
     let file = c.args.file.now in
     let script = c.args.script.now in
     let same = at_bank c.args.forms file script c.in_ok-bank.bank c.in_ok-bank._counts c.in_ok-bank.ensures.ok in
     record {
       runs = rw (p.1, p.2) (ends_early (Unit {0}) (g.W.Write.contents c.args.out.now)
           (g.V.Write.contents c.args.undo.now) (outcome_of c.args.forms file script) _
-          (rw same c.in_err-plan.ensures.plans));
+          (rw same c.in_err-edited_bank.ensures.prepared));
     }
 
 pub returns : goal.returns
@@ -50,6 +50,6 @@ returns g c =
     let same = at_bank c.args.forms file script c.in_ok-bank.bank c.in_ok-bank._counts c.in_ok-bank.ensures.ok in
     record {
       runs =
-          ends_with _ (outcome_of c.args.forms file script) (planned c.in_ok-plan.plan) c.deliver.result
-          (same ∙ c.in_ok-plan.ensures.plans) c.deliver.ensures;
+          ends_with _ (outcome_of c.args.forms file script) (texts_of_bank c.in_ok-edited_bank.edited_bank) c.deliver.result
+          (same ∙ c.in_ok-edited_bank.ensures.prepared) c.deliver.ensures;
     }

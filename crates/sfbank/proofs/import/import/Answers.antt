@@ -1,7 +1,7 @@
 use Rattle.std.proofs.Common.{◌∙◌, length, refl}
 use Rattle.std.proofs.lemmas.Result.{err_from_is_err_and}
 use Rattle.wave_file.specs.Imports.{import_edits}
-use Rattle.sfbank.specs.Plans.{planned}
+use Rattle.sfbank.specs.Prepared.{texts_of_bank}
 use Rattle.sfbank.specs.Recordings.{import_outcome}
 use Rattle.program_files.specs.declared.run_fault.RunFault.TheVariants as run
 use Rattle.sfbank.proofs.Endings.{ends_early, ends_with}
@@ -30,9 +30,9 @@ returns-in_err-sides g c =
     (ends_early (Unit {0}) (g.W.Write.contents c.args.out.now) (g.V.Write.contents c.args.undo.now)
     (import_outcome c.args.file.now c.args.wave.now c.args.name.now) run.Memory tt)
 
-pub returns-in_err-plan : goal.returns-in_err-plan
-returns-in_err-plan g c =
-    let p = err_from_is_err_and c.from_residual-in_err-plan.result c.from_residual-in_err-plan.ensures.1 in
+pub returns-in_err-edited_bank : goal.returns-in_err-edited_bank
+returns-in_err-edited_bank g c =
+    let p = err_from_is_err_and c.from_residual-in_err-edited_bank.result c.from_residual-in_err-edited_bank.ensures.1 in
     let n = length c.in_ok-bank.bank.samples in
     let same =
     import_edited c.args.file.now c.args.wave.now c.args.name.now c.in_ok-bank.bank c.in_ok-bank._counts
@@ -40,7 +40,7 @@ returns-in_err-plan g c =
     c.in_ok-bank.ensures.ok c.in_ok-recording.ensures refl refl in
     rw (p.1, p.2) (ends_early (Unit {0}) (g.W.Write.contents c.args.out.now) (g.V.Write.contents c.args.undo.now)
     (import_outcome c.args.file.now c.args.wave.now c.args.name.now) _
-    (rw same c.in_err-plan.ensures))
+    (rw same c.in_err-edited_bank.ensures))
 
 pub returns : goal.returns
 returns g c =
@@ -49,5 +49,5 @@ returns g c =
     import_edited c.args.file.now c.args.wave.now c.args.name.now c.in_ok-bank.bank c.in_ok-bank._counts
     c.in_ok-recording.recording n (import_edits n c.args.name.now c.in_ok-recording.recording)
     c.in_ok-bank.ensures.ok c.in_ok-recording.ensures refl refl in
-    ends_with _ (import_outcome c.args.file.now c.args.wave.now c.args.name.now) (planned c.in_ok-plan.plan)
-    c.deliver.result (same ∙ c.in_ok-plan.ensures) c.deliver.ensures
+    ends_with _ (import_outcome c.args.file.now c.args.wave.now c.args.name.now) (texts_of_bank c.in_ok-edited_bank.edited_bank)
+    c.deliver.result (same ∙ c.in_ok-edited_bank.ensures) c.deliver.ensures

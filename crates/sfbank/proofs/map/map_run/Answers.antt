@@ -25,7 +25,7 @@ pub returns : goal.returns
 returns g c =
     record {
       runs =
-          rw c.missing.ensures
+          rw c.cause_of_missing.ensures
           (map_missing (Unit {0}) (g.W.Write.contents c.args.out.now) c.args.file.now c.args.owner
           c.in_ok-bank.bank c.in_ok-bank._counts c.has_owner.result c.in_ok-bank.ensures.ok
           c.has_owner.ensures c.if-has_owner.false);

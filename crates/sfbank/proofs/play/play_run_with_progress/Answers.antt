@@ -2,7 +2,7 @@ use Rattle.std.proofs.Common.{Ok, sym, ap, ◌∙◌}
 use Rattle.std.proofs.lemmas.Result.{err_from_is_err_and}
 use Rattle.std.proofs.KnownBytes.{Keeps-refl}
 use Rattle.sfbank.proofs.Restores.{are_bytes}
-use Rattle.sfbank.proofs.Sounds.{play_not_read, not_noted, fits_wave, play_runs, sounds_in_canon}
+use Rattle.sfbank.proofs.RenderLaws.{play_not_read, not_noted, fits_wave, play_runs, sounds_in_canon}
 use Rattle.sfbank.proofs.play.play_run_with_progress.Goals as goal
 
 pub returns-in_err-bank-clause-runs : goal.returns-in_err-bank-clause-runs

@@ -1,5 +1,5 @@
 use Rattle.std.proofs.lemmas.Result.{err_from_is_err_and}
-use Rattle.sfbank.proofs.Alone.{details_not_read, details_run}
+use Rattle.sfbank.proofs.OneText.{details_not_read, details_run}
 use Rattle.sfbank.proofs.show.show_details_run.Goals as goal
 
 pub returns-in_err-bank : goal.returns-in_err-bank

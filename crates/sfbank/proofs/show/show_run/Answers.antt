@@ -1,5 +1,5 @@
 use Rattle.std.proofs.lemmas.Result.{err_from_is_err_and}
-use Rattle.sfbank.proofs.Alone.{show_not_read, show_runs}
+use Rattle.sfbank.proofs.OneText.{show_not_read, show_runs}
 use Rattle.sfbank.proofs.show.show_run.Goals as goal
 
 pub returns-in_err-bank : goal.returns-in_err-bank

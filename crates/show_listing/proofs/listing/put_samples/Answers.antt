@@ -10,7 +10,7 @@ loop-number-preserved g c =
     putting_step _ _ c.loop-number.invariant
     (lines_at (sample_lines (option_copied c.args.uses)) c.args.samples.now c.loop-number.number _
     c.loop-number-test.true c.index-samples-number.is)
-    c.put_told_sample.ensures
+    c.put_sample_lines.ensures
 
 pub returns : goal.returns
 returns g c =

@@ -2,7 +2,7 @@ use Rattle.std.proofs.Common.{◌<◌, ◌≤◌, arith, ap, sym}
 use Rattle.std.specs.List.{flat_map, filter_map}
 use Rattle.bank_changes.specs.declared.members.Owner.TheVariants as owner
 use Rattle.base_outputs.proofs.OutputLaws.{puts_as, puts_nothing, putting_from, putting_step, putting_last}
-use Rattle.zone_select.specs.Left.{zones_in}
+use Rattle.zone_select.specs.Remaining.{zones_in}
 use Rattle.show_zone_map.specs.Rectangles.{rectangle_at}
 use Rattle.show_zone_map.specs.Picture.{drawn}
 use Rattle.show_zone_map.proofs.Rows.{all_from, options_on, options_over}

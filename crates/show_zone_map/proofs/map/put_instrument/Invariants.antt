@@ -1,7 +1,7 @@
 use Rattle.std.specs.List.{flat_map, filter_map}
 use Rattle.bank_changes.specs.declared.members.Owner.TheVariants as owner
 use Rattle.base_outputs.proofs.OutputLaws.{Putting}
-use Rattle.zone_select.specs.Left.{zones_in}
+use Rattle.zone_select.specs.Remaining.{zones_in}
 use Rattle.show_zone_map.specs.Rectangles.{rectangle_at, rectangles_in}
 use Rattle.show_zone_map.specs.Picture.{drawn}
 use Rattle.show_zone_map.proofs.Rows.{from}

@@ -2,7 +2,7 @@ use Rattle.std.proofs.Common.{◌≡◌, ◌+◌, ◌-◌, ◌*◌, ◌/◌, ◌
 use Rattle.std.proofs.Common.{refl, subst, ◌∙◌}
 use Rattle.std.proofs.lemmas.Grind.{common_steps}
 use Rattle.zone_select.specs.Select.{Voice}
-use Rattle.voices.specs.Course.{IsCourse}
+use Rattle.voices.specs.VoiceState.{IsVoiceState}
 use Rattle.voices.specs.Sound.{snd}
 use Rattle.voices.specs.Runs.{IsAdded}
 use Rattle.sound_envelopes.proofs.WriteLaws.{below_piece, after_piece, in_piece}
@@ -14,17 +14,17 @@ loop-at-init c = record {
   within = omega arith;
   even = (λ _. 0);
   here =
-      subst (λ t. IsCourse c.args.points.now c.args.v.now t c.args.course.now)
-      (let e : c.args.age ≡ c.args.age + 0 / 2 = omega arith in e) c.requires.course;
+      subst (λ t. IsVoiceState c.args.points.now c.args.v.now t c.args.state.now)
+      (let e : c.args.age ≡ c.args.age + 0 / 2 = omega arith in e) c.requires.state;
   done = λ i h. absurd (omega (arith, h));
   rest = λ i h. refl;
   room = refl;
 }
 
-pub returns-clause-course : goal.returns-clause-course
-returns-clause-course c =
+pub returns-clause-state : goal.returns-clause-state
+returns-clause-state c =
     let e : c.loop-at.at ≡ length c.args.sums.now = omega (arith, c.loop-at.invariant.within, c.loop-at.auto.sums) in
-    subst (λ n. IsCourse c.args.points.now c.args.v.now (c.args.age + n / 2) c.loop-at.course) e
+    subst (λ n. IsVoiceState c.args.points.now c.args.v.now (c.args.age + n / 2) c.loop-at.state) e
     c.loop-at.invariant.here
 
 pub loop-at-preserved : goal.loop-at-preserved
@@ -48,7 +48,7 @@ loop-at-preserved c =
       within = omega (arith, end, c.loop-at.auto.sums);
       even = omega (arith, even);
       here =
-          subst (λ x. IsCourse c.args.points.now c.args.v.now x c.fill_run.new.course) later
+          subst (λ x. IsVoiceState c.args.points.now c.args.v.now x c.fill_run.new.state) later
           c.fill_run.ensures.there;
       done =
           below_piece (pos 0)

@@ -1,7 +1,7 @@
 use Rattle.std.proofs.Common.{◌≡◌, ℤ, ◌+◌, ◌/◌, ◌%◌, ◌<◌, pos, arith, get_or, length, nat_eq, ap, refl, subst, ◌∙◌}
 use Rattle.std.proofs.lemmas.Int.{ints}
 use Rattle.zone_select.specs.Select.{Voice}
-use Rattle.voices.specs.Levels.{side}
+use Rattle.voices.specs.Panning.{side}
 use Rattle.voices.specs.Runs.{IsAdded}
 use Rattle.voices.proofs.RunLaws.{central_side, heard_added, shared_side, shared_middle}
 use Rattle.voices.proofs.adding.share.Goals as goal

@@ -1,10 +1,10 @@
 use Rattle.std.proofs.Common.{◌≡◌, length, arith}
-use Rattle.voices.specs.Place.{place}
-use Rattle.voices.proofs.OverLaws.{place_sounds}
+use Rattle.voices.specs.Position.{position}
+use Rattle.voices.proofs.OverLaws.{position_sounds}
 use Rattle.voices.proofs.frames.point_at_frame.Goals as goal
 
-pub point_of_place-requires-clause-near : goal.point_of_place-requires-clause-near
-point_of_place-requires-clause-near c =
-    let e : c.args.x ≡ place c.args.v.now c.args.t = c.requires.here in
-    let h = place_sounds (length c.args.points.now) c.args.v.now c.args.t c.requires.playable c.requires.sounds in
+pub point_at_position-requires-clause-near : goal.point_at_position-requires-clause-near
+point_at_position-requires-clause-near c =
+    let e : c.args.x ≡ position c.args.v.now c.args.t = c.requires.here in
+    let h = position_sounds (length c.args.points.now) c.args.v.now c.args.t c.requires.playable c.requires.sounds in
     omega (arith, e, h)

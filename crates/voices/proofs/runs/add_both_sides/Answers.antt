@@ -4,9 +4,9 @@ use Rattle.std.proofs.Common.{get_or-set_other}
 use Rattle.std.proofs.lemmas.Int.{ints, to_z-of_z}
 use Rattle.std.specs.Int.{w16, w32}
 use Rattle.std.proofs.lemmas.Grind.{common_steps}
-use Rattle.voices.specs.Levels.{side}
+use Rattle.voices.specs.Panning.{side}
 use Rattle.voices.specs.Runs.{IsAdded}
-use Rattle.voices.proofs.SideLaws.{side_within}
+use Rattle.voices.proofs.PanningLaws.{side_within}
 use Rattle.sound_envelopes.proofs.WriteLaws.{below_set, after_set}
 use Rattle.voices.proofs.RunLaws.{added, is_added, left_side, right_side}
 use Rattle.voices.proofs.runs.add_both_sides.Goals as goal

@@ -1,7 +1,7 @@
 use Rattle.std.proofs.Common.{rules, ◌≡◌, ℤ, ℕ, pos, arith, get_or, ap, ◌∙◌, SFits}
 use Rattle.std.proofs.lemmas.Int.{ints, to_z-of_z}
 use Rattle.std.specs.Int.{w16, w32}
-use Rattle.voices.specs.Levels.{side}
+use Rattle.voices.specs.Panning.{side}
 use Rattle.voices.specs.Runs.{IsAdded}
 use Rattle.sound_envelopes.proofs.WriteLaws.{below_set, after_set}
 use Rattle.voices.proofs.RunLaws.{added, is_added}

@@ -1,5 +1,5 @@
 use Rattle.std.proofs.Common.{◌≡◌, ℕ, ◌<◌, ◌≤◌, pos, get_or}
-use Rattle.voices.specs.Levels.{side}
+use Rattle.voices.specs.Panning.{side}
 use Rattle.voices.specs.Runs.{IsAdded}
 use Rattle.voices.proofs.runs.add_halves_once.Given as goal
 

@@ -55,9 +55,9 @@ loop-k-preserved c =
     let xs = c.loop-k.sums in
     let ys = c.args.sums.now in
     let run = c.args.run.now in
-    let first = c.turn_of-first.result in
+    let first = c.side_index-first.result in
     let j : ℕ = 2 * k + first in
-    let turn : first < 2 = c.turn_of-first.ensures.first in
+    let turn : first < 2 = c.side_index-first.ensures.first in
     let el : SFits w16 (get_or run k (pos 0)) = search rules in
     let z : c.from.result ≡ get_or run k (pos 0) = omega (arith, ints) in
     let long : j < length ys = omega (arith, c.requires.long, turn) in
@@ -86,4 +86,4 @@ returns c i h =
     IsAdded (get_or c.args.sums.now i (pos 0))
     (cond (nat_eq (i % 2) n) (get_or c.args.run.now (i / 2) (pos 0)) (pos 0))
     (get_or c.loop-k.sums i (pos 0)))
-    c.turn_of-first.ensures.value done
+    c.side_index-first.ensures.value done

@@ -1,7 +1,7 @@
 use Rattle.std.proofs.Common.{◌≡◌, ℕ, ◌/◌, ◌%◌, ℤ, pos, arith, get_or, cond, nat_eq, ap, subst, sym, ◌∙◌}
-use Rattle.voices.specs.Levels.{side}
+use Rattle.voices.specs.Panning.{side}
 use Rattle.voices.specs.Runs.{IsAdded}
-use Rattle.voices.proofs.SideLaws.{half_each, left_alone, right_alone}
+use Rattle.voices.proofs.PanningLaws.{half_each, left_alone, right_alone}
 use Rattle.voices.proofs.runs.add_sides.Goals as goal
 
 in_parts : (z : ℤ) (i left right left' right' : ℕ) → left ≡ left' → right ≡ right'

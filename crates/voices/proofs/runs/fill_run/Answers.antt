@@ -3,24 +3,24 @@ use Rattle.std.proofs.Common.{subst, ap, ◌∙◌}
 use Rattle.std.proofs.lemmas.Grind.{common_steps}
 use Rattle.std.proofs.lemmas.List.{places}
 use Rattle.zone_select.specs.Select.{Voice}
-use Rattle.voices.specs.Course.{IsCourse}
-use Rattle.voices.specs.Sound.{heard_at}
+use Rattle.voices.specs.VoiceState.{IsVoiceState}
+use Rattle.voices.specs.Sound.{frame_or_silence_at}
 use Rattle.sound_envelopes.proofs.WriteLaws.{below_piece, below_front}
 use Rattle.voices.proofs.RunLaws.{heard_is, heard_over}
-use Rattle.voices.proofs.OverLaws.{course_stays}
+use Rattle.voices.proofs.OverLaws.{state_stays}
 use Rattle.voices.proofs.runs.fill_run.Goals as goal
 
 pub loop-at-init : goal.loop-at-init
 loop-at-init c = record {
   within = omega arith;
   here =
-      subst (λ t. IsCourse c.args.points.now c.args.v.now t c.args.course.now)
+      subst (λ t. IsVoiceState c.args.points.now c.args.v.now t c.args.state.now)
       (let e : c.args.age ≡ c.args.age + 0 = omega arith in e) c.requires.here;
   done = λ k h. absurd (omega (arith, h));
 }
 
-pub returns-then-course-clause-heard : goal.returns-then-course-clause-heard
-returns-then-course-clause-heard c i h =
+pub returns-then-state-clause-heard : goal.returns-then-state-clause-heard
+returns-then-state-clause-heard c i h =
     let v : Voice = record { points = c.args.points.now; parameters = c.args.v.now } in
     let at = c.loop-at.at in
     let xs = c.loop-at.run in
@@ -32,23 +32,23 @@ returns-then-course-clause-heard c i h =
     c.fill.ensures.len ∙ (let e : length (take m (drop at xs)) ≡ m = grind (arith, common_steps, inside) in e) in
     let long : length (take at xs ++ (new ++ drop m (drop at xs))) ≡ length xs =
     grind (arith, common_steps, inside, len) in
-    below_front (pos 0) (λ k y. y ≡ heard_at v (c.args.age + k)) xs new at m m (omega (arith, whole)) len
+    below_front (pos 0) (λ k y. y ≡ frame_or_silence_at v (c.args.age + k)) xs new at m m (omega (arith, whole)) len
     (omega arith) c.loop-at.invariant.done
     (λ k l. (let zero : get_or new k (pos 0) ≡ pos 0 = search (rules, places) in zero)
     ∙ sym (heard_over v (c.args.age + at) (c.args.age + (at + k))
-    (sym c.loop-at.invariant.here.over ∙ c.if-course.true) (omega arith)))
+    (sym c.loop-at.invariant.here.over ∙ c.if-state.true) (omega arith)))
     i (omega (arith, h, long, whole))
 
-pub returns-then-course-clause-there : goal.returns-then-course-clause-there
-returns-then-course-clause-there c =
-    course_stays c.args.points.now c.args.v.now (c.args.age + c.loop-at.at) (c.args.age + length c.args.run.now)
-    c.loop-at.course
-    (omega (arith, c.loop-at.invariant.within)) c.if-course.true c.loop-at.invariant.here
+pub returns-then-state-clause-there : goal.returns-then-state-clause-there
+returns-then-state-clause-there c =
+    state_stays c.args.points.now c.args.v.now (c.args.age + c.loop-at.at) (c.args.age + length c.args.run.now)
+    c.loop-at.state
+    (omega (arith, c.loop-at.invariant.within)) c.if-state.true c.loop-at.invariant.here
 
 pub returns-clause-there : goal.returns-clause-there
 returns-clause-there c =
     let e : c.loop-at.at ≡ length c.args.run.now = omega (arith, c.loop-at.invariant.within, c.loop-at.auto.run) in
-    subst (λ n. IsCourse c.args.points.now c.args.v.now (c.args.age + n) c.loop-at.course) e c.loop-at.invariant.here
+    subst (λ n. IsVoiceState c.args.points.now c.args.v.now (c.args.age + n) c.loop-at.state) e c.loop-at.invariant.here
 
 pub loop-at-preserved : goal.loop-at-preserved
 loop-at-preserved c =
@@ -62,12 +62,12 @@ loop-at-preserved c =
     let len : length new ≡ n = c.fill_by_stages.auto.run ∙ long in
     record {
       within = omega (arith, end, c.loop-at.auto.run);
-      here = subst (λ t. IsCourse c.args.points.now c.args.v.now t c.fill_by_stages.new.course)
+      here = subst (λ t. IsVoiceState c.args.points.now c.args.v.now t c.fill_by_stages.new.state)
           (ap (λ m. c.args.age + at + m) long
           ∙ (let e : c.args.age + at + n ≡ c.args.age + (at + n) = omega arith in e))
-          c.fill_by_stages.ensures.course;
-      done = below_piece (pos 0) (λ k y. y ≡ heard_at v (c.args.age + k)) xs new at n end len c.loop-at.invariant.done
+          c.fill_by_stages.ensures.state;
+      done = below_piece (pos 0) (λ k y. y ≡ frame_or_silence_at v (c.args.age + k)) xs new at n end len c.loop-at.invariant.done
           (λ k h. c.fill_by_stages.ensures.sounds k (omega (arith, h, len))
           ∙ sym (heard_is v (c.args.age + at + k) (c.stretch-n.ensures.one_way.sounds k h))
-          ∙ ap (heard_at v) (let e : c.args.age + at + k ≡ c.args.age + (at + k) = omega arith in e));
+          ∙ ap (frame_or_silence_at v) (let e : c.args.age + at + k ≡ c.args.age + (at + k) = omega arith in e));
     }

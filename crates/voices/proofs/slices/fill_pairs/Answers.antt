@@ -1,11 +1,11 @@
 use Rattle.std.proofs.Common.{◌≡◌, ◌+◌, ◌-◌, ◌*◌, ◌%◌, ◌<◌, ◌≤◌, ℕ, true, length, take, drop, arith, ap, subst, sym}
 use Rattle.std.proofs.Common.{◌∙◌}
 use Rattle.std.proofs.lemmas.Grind.{common_steps}
-use Rattle.voices.specs.Place.{place, is_looping}
+use Rattle.voices.specs.Position.{position, is_looping}
 use Rattle.voices.specs.Points.{point_of}
-use Rattle.voices.specs.Runs.{limit, gone_on, pair_says}
+use Rattle.voices.specs.Runs.{limit, wrapped_position, interpolated_pair}
 use Rattle.sound_envelopes.proofs.WriteLaws.{below_front}
-use Rattle.voices.proofs.RunLaws.{place_near, place_on, gone_near, gone_part}
+use Rattle.voices.proofs.RunLaws.{position_near, position_on, gone_near, gone_part}
 use Rattle.voices.proofs.OverLaws.{is_looped_at}
 use Rattle.voices.proofs.slices.fill_pairs.Goals as goal
 
@@ -13,9 +13,9 @@ pub fill_front-n-requires-clause-near : goal.fill_front-n-requires-clause-near
 fill_front-n-requires-clause-near c =
     let at = c.loop-at.at in
     let lt : at < length c.args.pairs.now = omega (arith, c.loop-at-test.true, c.loop-at.auto.pairs) in
-    let e : c.loop-at.x ≡ place c.args.v.now (c.args.t + at) = c.loop-at.invariant.here in
+    let e : c.loop-at.x ≡ position c.args.v.now (c.args.t + at) = c.loop-at.invariant.here in
     subst (λ x. x < 65536 * limit c.args.v.now c.is_looping_at-looping.result) (sym e)
-    (place_near (length c.args.points.now) c.args.v.now (c.args.t + at) c.is_looping_at-looping.result
+    (position_near (length c.args.points.now) c.args.v.now (c.args.t + at) c.is_looping_at-looping.result
     c.requires.playable
     (c.requires.one_way.sounds at lt) (c.requires.one_way.same at lt ∙ sym c.is_looping_at-looping.ensures))
 
@@ -35,7 +35,7 @@ loop-at-preserved c =
     c.fill_front-n.auto.pairs
     ∙ (let e : length (take (length xs - at) (drop at xs)) ≡ m = grind (arith, common_steps) in e) in
     let part : n ≤ m = omega (arith, c.fill_front-n.ensures.some.1, len) in
-    let e : c.loop-at.x ≡ place v (t + at) = c.loop-at.invariant.here in
+    let e : c.loop-at.x ≡ position v (t + at) = c.loop-at.invariant.here in
     let behind = c.loop-at.invariant.part in
     let same : (j : ℕ) → j < m → is_looping v (t + at + j) ≡ looping =
     λ j h.
@@ -45,41 +45,41 @@ loop-at-preserved c =
     c.requires.one_way.same at (omega (arith, inside, auto)) ∙ sym c.is_looping_at-looping.ensures in
     let ordered = c.requires.playable.ordered in
     let loop_is : looping ≡ true → v.loop_start < v.loop_end = λ l. ordered (is_looped_at v (t + at) (here ∙ l)) in
-    let gone : (k : ℕ) → k ≤ n → place v (t + (at + k)) ≡ gone_on v looping (c.loop-at.x + k * v.step) =
-    λ k h. ap (place v) (let q : t + (at + k) ≡ t + at + k = omega arith in q)
-    ∙ place_on v (t + at) k looping ordered here (λ j l. same j (omega arith)) loop_is
-    ∙ ap (λ x. gone_on v looping (x + k * v.step)) (sym e) in
+    let gone : (k : ℕ) → k ≤ n → position v (t + (at + k)) ≡ wrapped_position v looping (c.loop-at.x + k * v.phase_increment) =
+    λ k h. ap (position v) (let q : t + (at + k) ≡ t + at + k = omega arith in q)
+    ∙ position_on v (t + at) k looping ordered here (λ j l. same j (omega arith)) loop_is
+    ∙ ap (λ x. wrapped_position v looping (x + k * v.phase_increment)) (sym e) in
     let long : length (borrow.Rule.Slice.PartMut.put_mid at (length xs - at) xs new) ≡ length xs =
     grind (arith, common_steps) in
-    let parted : (k : ℕ) → (c.loop-at.x + k * v.step) % 65536 ≡ (c.args.from + (at + k) * v.step) % 65536 =
+    let parted : (k : ℕ) → (c.loop-at.x + k * v.phase_increment) % 65536 ≡ (c.args.from + (at + k) * v.phase_increment) % 65536 =
     λ k. omega (arith, behind) in
     record {
       within = omega (arith, part, long, inside);
-      in_hand = c.fill_front-n.ensures.in_hand;
+      is_current = c.fill_front-n.ensures.is_current;
       here = c.advanced-x.ensures ∙ sym (gone n (omega arith));
       part =
-          ap (λ y. y % 65536) c.advanced-x.ensures ∙ gone_part v looping (c.loop-at.x + n * v.step) loop_is
+          ap (λ y. y % 65536) c.advanced-x.ensures ∙ gone_part v looping (c.loop-at.x + n * v.phase_increment) loop_is
           ∙ parted n;
       done =
           below_front 0
           (λ k y.
-          pair_says y ((c.args.from + k * v.step) % 65536)
-          ≡ point_of c.args.points.now v (is_looping v (t + k)) (place v (t + k)))
+          interpolated_pair y ((c.args.from + k * v.phase_increment) % 65536)
+          ≡ point_of c.args.points.now v (is_looping v (t + k)) (position v (t + k)))
           xs new at m n (omega arith) len part
           c.loop-at.invariant.done
           (λ k h.
           let near = c.fill_front-n.ensures.before k h in
-          let p : place v (t + (at + k)) ≡ c.loop-at.x + k * v.step =
-          gone k (omega arith) ∙ gone_near v looping (c.loop-at.x + k * v.step) near in
+          let p : position v (t + (at + k)) ≡ c.loop-at.x + k * v.phase_increment =
+          gone k (omega arith) ∙ gone_near v looping (c.loop-at.x + k * v.phase_increment) near in
           let l : is_looping v (t + (at + k)) ≡ looping =
           ap (is_looping v) (let q : t + (at + k) ≡ t + at + k = omega arith in q) ∙ same k (omega arith) in
-          ap (pair_says _) (sym (parted k))
+          ap (interpolated_pair _) (sym (parted k))
           ∙ c.fill_front-n.ensures.value k h
-          ∙ ap (λ b. point_of c.args.points.now v b (c.loop-at.x + k * v.step)) (sym l)
+          ∙ ap (λ b. point_of c.args.points.now v b (c.loop-at.x + k * v.phase_increment)) (sym l)
           ∙ ap (point_of c.args.points.now v (is_looping v (t + (at + k)))) (sym p));
     }
 
 pub returns-clause-there : goal.returns-clause-there
 returns-clause-there c =
     let e : c.loop-at.at ≡ length c.args.pairs.now = omega (arith, c.loop-at.invariant.within, c.loop-at.auto.pairs) in
-    c.loop-at.invariant.here ∙ ap (λ k. place c.args.v.now (c.args.t + k)) e
+    c.loop-at.invariant.here ∙ ap (λ k. position c.args.v.now (c.args.t + k)) e

@@ -1,6 +1,6 @@
 use Rattle.std.proofs.Common.{refl}
 use Rattle.base_outputs.proofs.OutputLaws.{puts_as, puts_then}
-use Rattle.riff_chunks.specs.Spelling.{pad, chunk}
+use Rattle.riff_chunks.specs.Encoding.{pad, chunk}
 use Rattle.wave_file.specs.Wave.{FORMAT}
 use Rattle.wave_file.specs.SampleWave.{mono_format}
 use Rattle.wave_file.proofs.sample.put_mono_format.Goals as goal

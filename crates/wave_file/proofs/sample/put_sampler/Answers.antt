@@ -1,6 +1,6 @@
 use Rattle.std.proofs.Common.{ℕ, ◌++◌, ap, sym, ◌∙◌}
 use Rattle.base_outputs.proofs.OutputLaws.{puts_row, puts_then}
-use Rattle.riff_chunks.specs.Spelling.{chunk_head}
+use Rattle.riff_chunks.specs.Encoding.{chunk_head}
 use Rattle.wave_file.specs.SampleWave.{SAMPLER, sampler}
 use Rattle.wave_file.proofs.SampleLaws.{chunk-even, sampler-even}
 use Rattle.wave_file.proofs.sample.put_sampler.Goals as goal

@@ -1,5 +1,5 @@
 use Rattle.std.proofs.Common.{sym}
-use Rattle.zone_select.proofs.LeftLaws.{all_pairs, no_pairs}
+use Rattle.zone_select.proofs.RemainingLaws.{all_pairs, no_pairs}
 use Rattle.zone_select.proofs.pairs.matches.Goals as goal
 
 pub returns-in_default : goal.returns-in_default

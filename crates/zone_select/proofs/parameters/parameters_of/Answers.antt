@@ -4,7 +4,7 @@ use Rattle.std.specs.Option.{is_some}
 use Rattle.std.proofs.lemmas.Int.{to_z-of_z}
 use Rattle.zone_select.specs.Amounts.{parameters_of}
 use Rattle.zone_select.specs.At.{instrument_zone_at, preset_zone_at}
-use Rattle.zone_select.proofs.SpanLaws.{loop_there, loop_start_is, loop_end_is}
+use Rattle.zone_select.proofs.SampleRangeLaws.{loop_there, loop_start_is, loop_end_is}
 use Rattle.zone_select.proofs.parameters.parameters_of.Goals as goal
 
 pub returns : goal.returns
@@ -27,13 +27,13 @@ returns c =
     let pan = to_z-of_z w32 c.pan.result fp ∙ c.pan.ensures in
     let class = to_z-of_z w16 c.exclusive_class.result fc ∙ c.exclusive_class.ensures in
     rw (
-      c.span_of-span.ensures.start,
-      c.span_of-span.ensures.end,
+      c.sample_range-played.ensures.start,
+      c.sample_range-played.ensures.end,
       first,
       after,
       there,
       c.mode.ensures.value,
-      c.step_through.ensures,
+      c.phase_increment_of.ensures,
       c.time.ensures,
       c.moved_time.ensures,
       c.time-2.ensures,

@@ -1,8 +1,8 @@
 use Rattle.std.proofs.Common.{Some, sym, ap, ◌∙◌}
 use Rattle.std.specs.Prelude.{is_some}
-use Rattle.zone_select.specs.At.{chosen_at}
+use Rattle.zone_select.specs.At.{selected_pair_at}
 use Rattle.zone_select.specs.declared.parameters.VoiceParameters.{VoiceParameters}
-use Rattle.zone_select.proofs.SpanLaws.{points_few, parameters_by, voices_playable}
+use Rattle.zone_select.proofs.SampleRangeLaws.{points_few, parameters_by, voices_playable}
 use Rattle.zone_select.proofs.PlayedLaws.{there_by, never_lost}
 use Rattle.zone_select.proofs.parameters.params.Goals as goal
 
@@ -14,7 +14,7 @@ parameters_of-requires c =
 pub returns-clause-voice : goal.returns-clause-voice
 returns-clause-voice c =
     ap (λ (v : VoiceParameters). Some v) c.parameters_of.ensures
-    ∙ parameters_by c.args.bank.now c.args.note.now c.args.pair (chosen_at c.args.bank.now c.in_ok-chosen.chosen)
+    ∙ parameters_by c.args.bank.now c.args.note.now c.args.pair (selected_pair_at c.args.bank.now c.in_ok-chosen.chosen)
     c.in_ok-sample.sample.now (sym c.in_ok-chosen.ensures) (sym c.in_ok-sample.ensures)
 
 pub returns-clause-playable : goal.returns-clause-playable
@@ -28,7 +28,7 @@ returns-in_err-chosen-clause-there c =
 -- a chosen sample is in the bank
 lost : goal.After-from_residual-in_err-sample → ⊥
 lost c =
-    never_lost c.args.bank.now c.args.note.now c.args.pair (chosen_at c.args.bank.now c.in_ok-chosen.chosen)
+    never_lost c.args.bank.now c.args.note.now c.args.pair (selected_pair_at c.args.bank.now c.in_ok-chosen.chosen)
     c.soundness.ensures.valid (sym c.in_ok-chosen.ensures) (sym c.in_err-sample.ensures)
 
 pub returns-in_err-sample-clause-sample : goal.returns-in_err-sample-clause-sample

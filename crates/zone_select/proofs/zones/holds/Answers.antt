@@ -1,20 +1,20 @@
 use Rattle.std.proofs.Common.{◌∙◌, ap}
-use Rattle.bank_changes.specs.Members.{own_zone_count}
+use Rattle.bank_changes.specs.Members.{owner_zone_count}
 use Rattle.bank_changes.specs.Zones.{range_of_zone}
 use Rattle.bank_zone_ranges.specs.declared.axes.Axis.TheVariants.{Key, Vel}
 use Rattle.zone_select.specs.Ranges.{within}
-use Rattle.zone_select.proofs.ZoneLaws.{zone_told, contains_is, first_fails, both_hold, counted}
+use Rattle.zone_select.proofs.ZoneLaws.{zone_queried, contains_is, first_fails, both_hold, counted}
 use Rattle.zone_select.proofs.zones.holds.Goals as goal
 
 pub zone_range-requires : goal.zone_range-requires
-zone_range-requires c = counted (own_zone_count c.args.bank.now c.args.owner) c.args.zone c.requires
+zone_range-requires c = counted (owner_zone_count c.args.bank.now c.args.owner) c.args.zone c.requires
 
 pub zone_range-requires-then-contains : goal.zone_range-requires-then-contains
-zone_range-requires-then-contains c = counted (own_zone_count c.args.bank.now c.args.owner) c.args.zone c.requires
+zone_range-requires-then-contains c = counted (owner_zone_count c.args.bank.now c.args.owner) c.args.zone c.requires
 
 pub returns-then-contains : goal.returns-then-contains
 returns-then-contains c =
-    let t = zone_told c.args.bank.now c.args.note.now c.args.owner c.args.zone c.requires in
+    let t = zone_queried c.args.bank.now c.args.note.now c.args.owner c.args.zone c.requires in
     both_hold c.args.bank.now c.args.note.now c.args.owner c.args.zone c.contains.result
     c.contains-then-contains.result t
     (contains_is c.contains.result c.zone_range.result.low c.zone_range.result.high t.key c.key.result
@@ -31,7 +31,7 @@ returns-then-contains c =
 
 pub returns-else-contains : goal.returns-else-contains
 returns-else-contains c =
-    let t = zone_told c.args.bank.now c.args.note.now c.args.owner c.args.zone c.requires in
+    let t = zone_queried c.args.bank.now c.args.note.now c.args.owner c.args.zone c.requires in
     first_fails c.args.bank.now c.args.note.now c.args.owner c.args.zone c.contains.result t
     (contains_is c.contains.result c.zone_range.result.low c.zone_range.result.high t.key c.key.result
     (range_of_zone c.args.bank.now c.args.owner c.args.zone Key) t.key_range c.zone_range.ensures.low

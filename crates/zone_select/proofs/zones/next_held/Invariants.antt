@@ -1,5 +1,5 @@
 use Rattle.std.proofs.Common.{◌≡◌, ◌≤◌, ◌-◌}
-use Rattle.zone_select.specs.Left.{owner_held}
+use Rattle.zone_select.specs.Remaining.{owner_held}
 use Rattle.zone_select.proofs.zones.next_held.Given as goal
 
 -- no zone before this one contains the note

@@ -12,12 +12,12 @@ recounted-self-inside-requires c = record {
   within = no_limit_before c.self.view_is c.self.invariant;
   counted =
       has_before c.self.view_is c.self.invariant c.args.owner c.args.place c.requires.there c.level.ensures
-      c.records_there-before.ensures;
+      c.place_records-before.ensures;
 }
 
 pub invariant_of-self-2 : goal.invariant_of-self-2
 invariant_of-self-2 c =
     kept_there c.self.view_is c.self.invariant c.args.owner c.args.place c.requires.there c.level.ensures
-    c.records_there-before.ensures (λ s. with_mods (insert s.mods c.args.index c.args.modulator) s)
+    c.place_records-before.ensures (λ s. with_mods (insert s.mods c.args.index c.args.modulator) s)
     (rw c.self.view_is at c.in_ok-add_mod.ensures.ok) c.requires.sound
-    c.records_there-after.ensures c.recounted-self-inside.ensures.value
+    c.place_records-after.ensures c.recounted-self-inside.ensures.value

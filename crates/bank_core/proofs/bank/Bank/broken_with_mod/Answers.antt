@@ -13,7 +13,7 @@ recounted-requires c = record {
   within = no_limit_before c.self.view_is c.self.invariant;
   counted =
       has_before c.self.view_is c.self.invariant c.args.owner c.args.place c.requires c.level.ensures
-      c.records_there-before.ensures;
+      c.place_records-before.ensures;
 }
 
 pub returns : goal.returns
@@ -23,11 +23,11 @@ returns c = λ index modulator.
     let (s, e) = found_there (settings_of b c.args.owner c.args.place) c.requires in
     let sound = rw c.self.view_is at c.self.invariant.0 in
     let counts = rw c.self.view_is at c.self.invariant.1 in
-    let had = rw c.self.view_is at c.records_there-before.ensures in
+    let had = rw c.self.view_is at c.place_records-before.ensures in
     let has =
-    mod_records b c.args.owner c.args.place s e sound c.records_there-before.result had c.zones_at.result
+    mod_records b c.args.owner c.args.place s e sound c.place_records-before.result had c.zones_at.result
     c.saturating_add.result c.zones_at.ensures index modulator c.saturating_add.ensures in
     c.broken.ensures
     ∙ c.recounted.ensures.limit (totals_of new) (became b c.args.owner c.args.place c.requires c.self.inside.totals
-    counts c.level.result c.level.ensures c.records_there-before.result had
+    counts c.level.result c.level.ensures c.place_records-before.result had
     (λ s. with_mods (insert s.mods index modulator) s) new refl _ has)

@@ -1,5 +1,5 @@
 use Rattle.std.proofs.Common.{refl}
-use Rattle.bank_changes.specs.Points.{looped_as}
+use Rattle.bank_changes.specs.Points.{with_loop}
 use Rattle.bank_changes.proofs.PointLaws.{totals_stay}
 use Rattle.bank_core.proofs.bank.Bank.set_loop.Goals as goal
 
@@ -7,6 +7,6 @@ pub invariant_of-self : goal.invariant_of-self
 invariant_of-self c =
     rw (c.set_loop.ensures.change, c.self.view_is) (
       c.requires.sound,
-      totals_stay c.args.self.now c.args.number (looped_as c.args.looped) c.requires.there (λ s. refl)
+      totals_stay c.args.self.now c.args.number (with_loop c.args.looped) c.requires.there (λ s. refl)
           c.self.inside.totals (rw c.self.view_is at c.self.invariant.1),
     )

@@ -1,6 +1,6 @@
 use Rattle.std.proofs.Common.{refl, w8}
 use Rattle.std.proofs.lemmas.Int.{to_z-of_z}
-use Rattle.bank_changes.specs.Points.{tuned}
+use Rattle.bank_changes.specs.Points.{with_tune}
 use Rattle.bank_changes.proofs.PointLaws.{totals_stay}
 use Rattle.bank_core.proofs.bank.Bank.set_tune.Goals as goal
 
@@ -8,7 +8,7 @@ pub invariant_of-self : goal.invariant_of-self
 invariant_of-self c =
     rw (c.set_tune.ensures.change, to_z-of_z w8 c.args.correction c.ranges.correction, c.self.view_is) (
       c.requires.sound,
-      totals_stay c.args.self.now c.args.number (tuned c.args.rate c.args.key c.args.correction) c.requires.there
+      totals_stay c.args.self.now c.args.number (with_tune c.args.rate c.args.key c.args.correction) c.requires.there
           (λ s. refl) c.self.inside.totals (rw c.self.view_is at c.self.invariant.1),
     )
 

@@ -21,7 +21,7 @@ pub returns : goal.returns
 returns g c =
     let p = g.T.Linked.links_to c.args.number in
     let span = c.link_span-span in
-    let ended = c.loop-i-test.false in
+    let double_ended = c.loop-i-test.false in
     let is = c.as_slice-members.ensures ∙ c.self.view_is in
     sym
     (none_but g.T.Linked.has_link p c.args.self.now c.args.number span.result span.ensures

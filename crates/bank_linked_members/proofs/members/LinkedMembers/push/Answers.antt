@@ -1,6 +1,6 @@
 use Rattle.std.proofs.Common.{◌≤◌, ◌∙◌, ◌++◌, ◌∷◌, [], length, subst, sym}
 use Rattle.bank_linked_members.specs.Spans.{IsOutside, IsShifted}
-use Rattle.bank_linked_members.proofs.Spans.{no_borrowed, span_pushed, IsSpanOf}
+use Rattle.bank_linked_members.proofs.Spans.{no_borrowed, span_pushed, IsLinkSpanOf}
 use Rattle.bank_linked_members.proofs.members.LinkedMembers.push.Goals as goal
 
 pub invariant_of-self-2 : goal.invariant_of-self-2
@@ -10,12 +10,12 @@ invariant_of-self-2 g c =
     let span = c.link_span-span.result in
     let after = c.after_insertion-self-inside in
     let is = c.in_ok-push.ensures.ok in
-    let known = subst (IsSpanOf h span) (sym c.self.view_is) c.link_span-span.ensures in
+    let known = subst (IsLinkSpanOf h span) (sym c.self.view_is) c.link_span-span.ensures in
     let within : after.result.end ≤ length (list ++ c.args.x ∷ []) =
     subst (λ xs. after.result.end ≤ length xs) is
     (subst (λ n. after.result.end ≤ n) c.len.ensures after.ensures.within) in
     no_borrowed h c.push.new.self after.result
-    (subst (IsSpanOf h after.result) (sym is)
+    (subst (IsLinkSpanOf h after.result) (sym is)
     (span_pushed h list c.args.x span after.result known after.ensures.order within
     (subst (IsShifted span after.result) c.len-at.ensures after.ensures.outside)
     (λ o.

@@ -1,6 +1,6 @@
 use Rattle.bank_owner_bags.proofs.Owners.{read, are_read, held}
 use Rattle.bank_owner_bags.proofs.Places.{member, place_there, bag_within}
-use Rattle.bank_owner_bags.proofs.Turns.{bag_moved}
+use Rattle.bank_owner_bags.proofs.OwnerRotations.{bag_moved}
 use Rattle.bank_owner_bags.proofs.owned.OwnerBags.move_bag.Goals as goal
 
 pub place-first-requires : goal.place-first-requires

@@ -1,12 +1,12 @@
 use Rattle.std.proofs.Common.{arith}
 use Rattle.bank_owner_bags.proofs.Owners.{read, are_read, held, begin_there}
-use Rattle.bank_owner_bags.proofs.Turns.{Turn, turn, owners_turned}
+use Rattle.bank_owner_bags.proofs.OwnerRotations.{OwnerRotation, turn, owners_turned}
 use Rattle.bank_owner_bags.proofs.owned.OwnerBags.rotate.Goals.{After-index-stop}
 use Rattle.bank_owner_bags.proofs.owned.OwnerBags.rotate.Goals as goal
 
 -- The owners at the three indexes.
 turned : (c : After-index-stop)
-    → Turn (record { begins = c.self.inside.begins.items; bags = c.self.inside.bags.bags }) c.args.self.now.owners
+    → OwnerRotation (record { begins = c.self.inside.begins.items; bags = c.self.inside.bags.bags }) c.args.self.now.owners
     c.args.a c.args.b c.args.c c.index-start.result.now c.index-middle.result.now c.index-stop.result.now
 turned c =
     turn (held c.self.invariant c.self.view_is) c.requires.first c.requires.second c.requires.last

@@ -2,7 +2,7 @@ use Rattle.bank_parts.specs.Owners.{gens_at}
 use Rattle.bank_parts.proofs.ReadLaws.{read, are_read, held}
 use Rattle.bank_parts.proofs.BagSettings.{place_there}
 use Rattle.bank_parts.proofs.PlaceChanges.{ordered, bag_place, bare_place, gen_within}
-use Rattle.bank_parts.proofs.GenChanges.{was_none, was_found, was_missing, gen_is_taken, bare_cleared, none_cleared}
+use Rattle.bank_parts.proofs.GenChanges.{was_none, was_found, was_missing, gen_is_removed, bare_cleared, none_cleared}
 use Rattle.bank_parts.proofs.owners.Owners.clear_gen.Goals as goal
 
 pub returns-in_default-clause-was : goal.returns-in_default-clause-was
@@ -21,8 +21,8 @@ pub search_entries-requires : goal.search_entries-requires
 search_entries-requires g c =
     ordered (gens_at c.args.self.now c.args.i c.args.place) c.entries-entries.result.now c.entries-entries.ensures.value
 
-pub take_gen-requires : goal.take_gen-requires
-take_gen-requires g c =
+pub remove_gen_record-requires : goal.remove_gen_record-requires
+remove_gen_record-requires g c =
     let b =
     bag_place (held c.self.invariant c.self.view_is) c.args.i c.args.place c.requires c.in-Some.at
     c.in-Some.ensures in
@@ -34,8 +34,8 @@ invariant_of-self g c =
     bag_place (held c.self.invariant c.self.view_is) c.args.i c.args.place c.requires c.in-Some.at
     c.in-Some.ensures in
     are_read
-    (gen_is_taken b c.entries-entries.ensures.value c.take_gen.new.bags.owners c.in-Ok.ensures.found
-    c.take_gen.ensures)
+    (gen_is_removed b c.entries-entries.ensures.value c.remove_gen_record.new.bags.owners c.in-Ok.ensures.found
+    c.remove_gen_record.ensures)
 
 pub returns-in-Ok-clause-was : goal.returns-in-Ok-clause-was
 returns-in-Ok-clause-was g c =
@@ -48,8 +48,8 @@ returns-in-Ok-clause-change g c =
     bag_place (held c.self.invariant c.self.view_is) c.args.i c.args.place c.requires c.in-Some.at
     c.in-Some.ensures in
     read
-    (gen_is_taken b c.entries-entries.ensures.value c.take_gen.new.bags.owners c.in-Ok.ensures.found
-    c.take_gen.ensures)
+    (gen_is_removed b c.entries-entries.ensures.value c.remove_gen_record.new.bags.owners c.in-Ok.ensures.found
+    c.remove_gen_record.ensures)
 
 pub returns-in-Err-clause-was : goal.returns-in-Err-clause-was
 returns-in-Err-clause-was g c =

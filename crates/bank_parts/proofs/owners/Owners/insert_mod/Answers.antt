@@ -4,8 +4,8 @@ use Rattle.bank_parts.proofs.GenChanges.{first_mod, mod_is_put}
 use Rattle.bank_parts.proofs.StorableLaws.{first_mod_held, mod_held}
 use Rattle.bank_parts.proofs.owners.Owners.insert_mod.Goals as goal
 
-pub open_bag-requires-clause-held : goal.open_bag-requires-clause-held
-open_bag-requires-clause-held g c =
+pub insert_first_bag-requires-clause-held : goal.insert_first_bag-requires-clause-held
+insert_first_bag-requires-clause-held g c =
     let b =
     bare_place (held c.self.invariant c.self.view_is) c.args.i c.args.place c.requires.there c.in_default.ensures
     in
@@ -17,15 +17,15 @@ invariant_of-self-in_default g c =
     bare_place (held c.self.invariant c.self.view_is) c.args.i c.args.place c.requires.there c.in_default.ensures
     in
     are_read
-    (first_mod b c.args.j c.args.modulator c.open_bag.new.bags.owners c.requires.index
-    c.in_ok-open_bag.ensures.ok)
+    (first_mod b c.args.j c.args.modulator c.insert_first_bag.new.bags.owners c.requires.index
+    c.in_ok-insert_first_bag.ensures.ok)
 
 pub returns-in_default-clause-ok : goal.returns-in_default-clause-ok
 returns-in_default-clause-ok g c =
     let b =
     bare_place (held c.self.invariant c.self.view_is) c.args.i c.args.place c.requires.there c.in_default.ensures
     in
-    read (first_mod b c.args.j c.args.modulator c.open_bag.new.bags.owners c.requires.index c.in_ok-open_bag.ensures.ok)
+    read (first_mod b c.args.j c.args.modulator c.insert_first_bag.new.bags.owners c.requires.index c.in_ok-insert_first_bag.ensures.ok)
 
 pub make_room-requires : goal.make_room-requires
 make_room-requires g c =

@@ -14,8 +14,8 @@ make_room-requires g c =
     zone_held a s c.zone_bag-at.result c.args.zone c.records.result c.zone_bag-at.ensures c.records.ensures
     c.requires.storable
 
-pub put_zone-requires : goal.put_zone-requires
-put_zone-requires g c =
+pub insert_zone_bag-requires : goal.insert_zone_bag-requires
+insert_zone_bag-requires g c =
     let a = held c.self.invariant c.self.view_is in
     let s = zones_there a c.args.i (λ n. c.args.k ≤ n) c.requires.place in
     record {
@@ -32,8 +32,8 @@ invariant_of-self-2 g c =
     let plain = subst (λ op. IsPlain op c.args.zone.gens) (sym c.operator-operator.ensures)
     (zone_in c.args.self.now c.args.i c.args.k s.found.owner c.args.zone s.found.there c.requires.storable) in
     are_read
-    (zone_put a s c.zone_bag-at.result c.args.zone c.put_zone.new.bags.owners c.zone_bag-at.ensures
-    c.operator-operator.ensures plain c.make_room.ensures.kept c.put_zone.ensures.owners)
+    (zone_put a s c.zone_bag-at.result c.args.zone c.insert_zone_bag.new.bags.owners c.zone_bag-at.ensures
+    c.operator-operator.ensures plain c.make_room.ensures.kept c.insert_zone_bag.ensures.owners)
 
 pub returns-clause-ok : goal.returns-clause-ok
 returns-clause-ok g c =
@@ -42,5 +42,5 @@ returns-clause-ok g c =
     let plain = subst (λ op. IsPlain op c.args.zone.gens) (sym c.operator-operator.ensures)
     (zone_in c.args.self.now c.args.i c.args.k s.found.owner c.args.zone s.found.there c.requires.storable) in
     read
-    (zone_put a s c.zone_bag-at.result c.args.zone c.put_zone.new.bags.owners c.zone_bag-at.ensures
-    c.operator-operator.ensures plain c.make_room.ensures.kept c.put_zone.ensures.owners)
+    (zone_put a s c.zone_bag-at.result c.args.zone c.insert_zone_bag.new.bags.owners c.zone_bag-at.ensures
+    c.operator-operator.ensures plain c.make_room.ensures.kept c.insert_zone_bag.ensures.owners)

@@ -8,13 +8,13 @@ use Rattle.bank_parts.proofs.GenChanges.{gen_is_put}
 use Rattle.bank_parts.proofs.StorableLaws.{first_gen_held, gen_found_other, gen_held, gen_other}
 use Rattle.bank_parts.proofs.owners.Owners.set_gen.Goals as goal
 
-pub returns-in_err-open_bag-clause-needs_no_memory : goal.returns-in_err-open_bag-clause-needs_no_memory
-returns-in_err-open_bag-clause-needs_no_memory g c =
+pub returns-in_err-insert_first_bag-clause-needs_no_memory : goal.returns-in_err-insert_first_bag-clause-needs_no_memory
+returns-in_err-insert_first_bag-clause-needs_no_memory g c =
     let b = bare_place (held c.self.invariant c.self.view_is) c.args.i c.args.place c.requires.there c.in_default.ensures in
     none_is_set (amount_at c.args.self.now c.args.i c.args.place c.args.operator) _ (was_none b c.args.operator)
 
-pub open_bag-requires-clause-held : goal.open_bag-requires-clause-held
-open_bag-requires-clause-held g c =
+pub insert_first_bag-requires-clause-held : goal.insert_first_bag-requires-clause-held
+insert_first_bag-requires-clause-held g c =
     let b =
     bare_place (held c.self.invariant c.self.view_is) c.args.i c.args.place c.requires.there c.in_default.ensures in
     first_gen_held b c.args.operator c.args.amount c.ranges.operator.fits c.ranges.amount.fits
@@ -24,9 +24,9 @@ pub invariant_of-self-in_default : goal.invariant_of-self-in_default
 invariant_of-self-in_default g c =
     let b = bare_place (held c.self.invariant c.self.view_is) c.args.i c.args.place c.requires.there c.in_default.ensures in
     are_read
-    (first_gen b c.args.operator c.args.amount c.open_bag.new.bags.owners
+    (first_gen b c.args.operator c.args.amount c.insert_first_bag.new.bags.owners
     (gen_other b.place c.args.operator c.args.amount (c.requires.storable (sym (was_none b c.args.operator)))) c.ranges.operator.fits
-    c.ranges.amount.fits c.in_ok-open_bag.ensures.ok)
+    c.ranges.amount.fits c.in_ok-insert_first_bag.ensures.ok)
 
 pub returns-in_default-clause-was : goal.returns-in_default-clause-was
 returns-in_default-clause-was g c =
@@ -38,9 +38,9 @@ pub returns-in_default-clause-ok : goal.returns-in_default-clause-ok
 returns-in_default-clause-ok g c =
     let b = bare_place (held c.self.invariant c.self.view_is) c.args.i c.args.place c.requires.there c.in_default.ensures in
     read
-    (first_gen b c.args.operator c.args.amount c.open_bag.new.bags.owners
+    (first_gen b c.args.operator c.args.amount c.insert_first_bag.new.bags.owners
     (gen_other b.place c.args.operator c.args.amount (c.requires.storable (sym (was_none b c.args.operator)))) c.ranges.operator.fits
-    c.ranges.amount.fits c.in_ok-open_bag.ensures.ok)
+    c.ranges.amount.fits c.in_ok-insert_first_bag.ensures.ok)
 
 pub search_entries-requires : goal.search_entries-requires
 search_entries-requires g c =

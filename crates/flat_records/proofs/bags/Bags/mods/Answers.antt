@@ -1,7 +1,7 @@
 use Rattle.std.proofs.Common.{◌≡◌, ℕ, ap, arith}
 use Rattle.flat_records.specs.Bags.{Bag}
 use Rattle.flat_records.proofs.TableLaws.{held, bags_size, index_there}
-use Rattle.flat_records.proofs.Spots.{any_bag, between, part_read, past_read, mods_part, at_value}
+use Rattle.flat_records.proofs.BagPositions.{any_bag, between, part_read, past_read, mods_part, at_value}
 use Rattle.flat_records.proofs.bags.Bags.mods.Goals as goal
 
 pub index-requires : goal.index-requires

@@ -1,36 +1,36 @@
 use Rattle.std.proofs.Common.{length, insert, refl, ◌∙◌, ap, append-nil, arith}
 use Rattle.flat_records.specs.Runs.{put}
 use Rattle.flat_records.specs.Bags.{Bag, no_bag}
-use Rattle.flat_records.proofs.Wholes.{changed_inserted, flat-inserted}
+use Rattle.flat_records.proofs.WholeBags.{changed_inserted, flat-inserted}
 use Rattle.flat_records.proofs.bags.Bags.put_bag.Goals as goal
 
-pub grow-requires-clause-gens_limit : goal.grow-requires-clause-gens_limit
-grow-requires-clause-gens_limit c =
+pub insert_records-requires-clause-gens_limit : goal.insert_records-requires-clause-gens_limit
+insert_records-requires-clause-gens_limit c =
     λ some.
     let same =
     ap length
-    (flat-inserted (λ (b : Bag). b.gens) c.args.self.now.bags c.open_bag.new.self.bags c.args.k no_bag
-    c.open_bag.ensures.bags refl)
+    (flat-inserted (λ (b : Bag). b.gens) c.args.self.now.bags c.insert_empty_bag.new.self.bags c.args.k no_bag
+    c.insert_empty_bag.ensures.bags refl)
     in
     let limit = c.requires.gens_limit in
     omega arith
 
-pub grow-requires-clause-mods_limit : goal.grow-requires-clause-mods_limit
-grow-requires-clause-mods_limit c =
+pub insert_records-requires-clause-mods_limit : goal.insert_records-requires-clause-mods_limit
+insert_records-requires-clause-mods_limit c =
     λ some.
     let same =
     ap length
-    (flat-inserted (λ (b : Bag). b.mods) c.args.self.now.bags c.open_bag.new.self.bags c.args.k no_bag
-    c.open_bag.ensures.bags refl)
+    (flat-inserted (λ (b : Bag). b.mods) c.args.self.now.bags c.insert_empty_bag.new.self.bags c.args.k no_bag
+    c.insert_empty_bag.ensures.bags refl)
     in
     let limit = c.requires.mods_limit in
     omega arith
 
 pub returns-clause-bags : goal.returns-clause-bags
 returns-clause-bags c =
-    c.grow.ensures.bags
-    ∙ (changed_inserted c.args.self.now.bags c.open_bag.new.self.bags c.args.k no_bag
+    c.insert_records.ensures.bags
+    ∙ (changed_inserted c.args.self.now.bags c.insert_empty_bag.new.self.bags c.args.k no_bag
     (λ (b : Bag). record { gens = put b.gens 0 c.args.gens.now; mods = put b.mods 0 c.args.mods.now })
-    c.open_bag.ensures.bags c.requires.place
+    c.insert_empty_bag.ensures.bags c.requires.place
     ∙ (λ i. insert c.args.self.now.bags c.args.k
     (record { gens = append-nil c.args.gens.now i; mods = append-nil c.args.mods.now i })))

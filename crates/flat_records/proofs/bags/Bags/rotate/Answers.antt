@@ -1,12 +1,12 @@
 use Rattle.std.proofs.Common.{length, get_or, ◌∙◌, ap, arith}
 use Rattle.flat_records.proofs.TableLaws.{bags_read, are_read, held, index_there}
-use Rattle.flat_records.proofs.Turns.{Turn, turn, bags_turned}
+use Rattle.flat_records.proofs.BagRotations.{BagRotation, turn, bags_turned}
 use Rattle.flat_records.proofs.bags.Bags.rotate.Goals.{After-index-stop}
 use Rattle.flat_records.proofs.bags.Bags.rotate.Goals as goal
 
 -- The bags at the three indexes.
 turned : (c : After-index-stop)
-    → Turn
+    → BagRotation
     (record { bags = c.self.inside.bags.items; gens = c.self.inside.gens.items; mods = c.self.inside.mods.items })
     c.args.self.now.bags c.args.a c.args.b c.args.c c.index-start.result c.index-middle.result
     c.index-stop.result

@@ -4,35 +4,35 @@ use Rattle.base_numbered_lists.proofs.Lists.{slice_get-found}
 use Rattle.flat_records.specs.Runs.{put}
 use Rattle.flat_records.specs.Bags.{Bag, no_bag, gens_in, mods_in}
 use Rattle.flat_records.specs.Stored.{Frees}
-use Rattle.flat_records.proofs.Wholes.{length-emptied, changed_emptied}
+use Rattle.flat_records.proofs.WholeBags.{length-emptied, changed_emptied}
 use Rattle.flat_records.proofs.bags.Bags.set_bag.Goals as goal
 
-pub grow-requires-clause-gens_limit : goal.grow-requires-clause-gens_limit
-grow-requires-clause-gens_limit c some =
+pub insert_records-requires-clause-gens_limit : goal.insert_records-requires-clause-gens_limit
+insert_records-requires-clause-gens_limit c some =
     let (b, there) = slice_get-found c.args.self.now.bags c.args.k c.requires.place in
     let fewer : length c.args.gens.now ≤ length b.gens =
     subst (λ o. IfSome o (λ (b : Bag). length c.args.gens.now ≤ length b.gens)) there c.requires.gens in
     let emptied = length-emptied (λ (b : Bag). b.gens) c.args.self.now.bags c.args.k b refl there in
-    let few = c.few_records.ensures.gens in
-    let left = ap (λ bags. length (gens_in bags)) c.empty_bag.ensures.bags in
+    let few = c.records_fit.ensures.gens in
+    let left = ap (λ bags. length (gens_in bags)) c.clear_bag.ensures.bags in
     omega arith
 
-pub grow-requires-clause-mods_limit : goal.grow-requires-clause-mods_limit
-grow-requires-clause-mods_limit c some =
+pub insert_records-requires-clause-mods_limit : goal.insert_records-requires-clause-mods_limit
+insert_records-requires-clause-mods_limit c some =
     let (b, there) = slice_get-found c.args.self.now.bags c.args.k c.requires.place in
     let fewer : length c.args.mods.now ≤ length b.mods =
     subst (λ o. IfSome o (λ (b : Bag). length c.args.mods.now ≤ length b.mods)) there c.requires.mods in
     let emptied = length-emptied (λ (b : Bag). b.mods) c.args.self.now.bags c.args.k b refl there in
-    let few = c.few_records.ensures.mods in
-    let left = ap (λ bags. length (mods_in bags)) c.empty_bag.ensures.bags in
+    let few = c.records_fit.ensures.mods in
+    let left = ap (λ bags. length (mods_in bags)) c.clear_bag.ensures.bags in
     omega arith
 
 pub returns-clause-bags : goal.returns-clause-bags
 returns-clause-bags c =
-    c.grow.ensures.bags
-    ∙ (changed_emptied c.args.self.now.bags c.empty_bag.new.self.bags c.args.k
+    c.insert_records.ensures.bags
+    ∙ (changed_emptied c.args.self.now.bags c.clear_bag.new.self.bags c.args.k
     (λ (b : Bag). record { gens = put b.gens 0 c.args.gens.now; mods = put b.mods 0 c.args.mods.now })
-    c.empty_bag.ensures.bags c.requires.place
+    c.clear_bag.ensures.bags c.requires.place
     ∙ (λ i. set c.args.self.now.bags c.args.k
     (record { gens = append-nil c.args.gens.now i; mods = append-nil c.args.mods.now i })))
 
@@ -43,16 +43,16 @@ returns-clause-spare c =
     subst (λ o. IfSome o (λ (b : Bag). length c.args.gens.now ≤ length b.gens)) there c.requires.gens in
     let mods : length c.args.mods.now ≤ length b.mods =
     subst (λ o. IfSome o (λ (b : Bag). length c.args.mods.now ≤ length b.mods)) there c.requires.mods in
-    let freed : Frees c.args.self.now.spare c.empty_bag.new.self.spare
+    let freed : Frees c.args.self.now.spare c.clear_bag.new.self.spare
     (record { bags = 0; gens = length b.gens; mods = length b.mods }) =
     subst
     (λ o.
     IfSome o
     (λ (b : Bag).
-    Frees c.args.self.now.spare c.empty_bag.new.self.spare
+    Frees c.args.self.now.spare c.clear_bag.new.self.spare
     (record { bags = 0; gens = length b.gens; mods = length b.mods })))
-    there c.empty_bag.ensures.spare in
-    let used = c.grow.ensures.spare in
+    there c.clear_bag.ensures.spare in
+    let used = c.insert_records.ensures.spare in
     record {
       bags = (let f = freed.bags in let u = used.bags in omega arith);
       gens = (let f = freed.gens in let u = used.gens in omega arith);

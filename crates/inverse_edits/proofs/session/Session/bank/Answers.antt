@@ -1,11 +1,11 @@
 use Rattle.std.proofs.Common.{reverse}
-use Rattle.inverse_edits.proofs.HistoryLaws.{stands, is_history}
+use Rattle.inverse_edits.proofs.HistoryLaws.{bank_now_is, is_history}
 use Rattle.inverse_edits.proofs.session.Session.bank.Goals as goal
 
 pub returns-clause-value : goal.returns-clause-value
 returns-clause-value c =
     rw (← c.self.view_is)
-    (stands c.self.inside.bank (reverse c.self.inside.undo.items) (reverse c.self.inside.redo.items))
+    (bank_now_is c.self.inside.bank (reverse c.self.inside.undo.items) (reverse c.self.inside.redo.items))
 
 pub returns-clause-history : goal.returns-clause-history
 returns-clause-history c =

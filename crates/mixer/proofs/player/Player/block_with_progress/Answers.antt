@@ -1,5 +1,5 @@
 use Rattle.std.proofs.Common.{◌≡◌, ◌+◌, ◌-◌, ◌/◌, ◌≤◌, List, drop, length, sym, ap, subst, ◌∙◌, arith}
-use Rattle.mixer.specs.declared.playing.Playing.{Playing}
+use Rattle.mixer.specs.declared.playing.PlayingVoice.{PlayingVoice}
 use Rattle.mixer.specs.Events.{after_block, next_side}
 use Rattle.mixer.specs.KeptVoices.{AllSounding}
 use Rattle.mixer.proofs.Parts.{nothing_given, nothing_after, block_written}
@@ -10,7 +10,7 @@ use Rattle.mixer.proofs.player.Player.block_with_progress.Goals as goal
 pub loop-at-init : goal.loop-at-init
 loop-at-init g c =
     let all : AllSounding c.args.self.now =
-    subst (λ (ps : List Playing). AllSounding ps) c.self.view_is (playing_sounds _ _) in
+    subst (λ (ps : List PlayingVoice). AllSounding ps) c.self.view_is (playing_sounds _ _) in
     record {
       within =
           omega arith;
@@ -23,13 +23,13 @@ loop-at-init g c =
 pub loop-at-preserved : goal.loop-at-preserved
 loop-at-preserved g c =
     let at = c.loop-at.at in
-    let n = c.give_part-at.result in
+    let n = c.write_part-at.result in
     let out = c.loop-at.out in
-    let new = c.give_part-at.new.out in
+    let new = c.write_part-at.new.out in
     let ps = c.args.self.now in
     let even = c.loop-at.invariant.even in
-    let evenly = c.give_part-at.ensures.even in
-    let most : n ≤ length new = omega (arith, c.give_part-at.ensures.most, c.give_part-at.auto.out) in
+    let evenly = c.write_part-at.ensures.even in
+    let most : n ≤ length new = omega (arith, c.write_part-at.ensures.most, c.write_part-at.auto.out) in
     record {
       within = omega arith;
       even = omega (arith, even, evenly);
@@ -37,8 +37,8 @@ loop-at-preserved g c =
           written_on out new (drop (length out - at) (drop at out)) ps at n (omega arith) most even
           c.loop-at.invariant.value
           (λ k h.
-          c.give_part-at.ensures.heard k h ∙ ap (λ (qs : List Playing). next_side qs k) c.loop-at.invariant.live);
-      live = c.give_part-at.ensures.live ∙ ap (λ (qs : List Playing). after_block qs (n / 2)) c.loop-at.invariant.live
+          c.write_part-at.ensures.heard k h ∙ ap (λ (qs : List PlayingVoice). next_side qs k) c.loop-at.invariant.live);
+      live = c.write_part-at.ensures.live ∙ ap (λ (qs : List PlayingVoice). after_block qs (n / 2)) c.loop-at.invariant.live
           ∙ after_more (at / 2) (n / 2) ps
           ∙ ap (after_block ps) (let e : at / 2 + n / 2 ≡ (at + n) / 2 = omega (arith, even) in e);
     }
@@ -51,6 +51,6 @@ returns-clause-heard g c =
 pub returns-clause-none : goal.returns-clause-none
 returns-clause-none g c = λ h.
     let all : AllSounding c.args.self.now =
-    subst (λ (ps : List Playing). AllSounding ps) c.self.view_is (playing_sounds _ _) in
+    subst (λ (ps : List PlayingVoice). AllSounding ps) c.self.view_is (playing_sounds _ _) in
     let none : c.loop-at.at ≡ 0 = omega (arith, h, c.loop-at.invariant.within) in
     c.loop-at.invariant.live ∙ nothing_after c.loop-at.at c.args.self.now none all

@@ -15,9 +15,9 @@ loop-item-preserved c =
       tt,
       tt,
       sym (ap is_whole next) ∙ inv.2,
-      first_more ids c.loop-item.bodies c.take_first.new.bodies chunk (chunks_in c.next.new.self) all
+      first_more ids c.loop-item.bodies c.keep_first.new.bodies chunk (chunks_in c.next.new.self) all
           (subst (λ (is : List Item). AreFirstSoFar ids c.loop-item.bodies (chunks_in is) all) next inv.3)
-          c.take_first.ensures,
+          c.keep_first.ensures,
     )
 
 pub invariant_of-result : goal.invariant_of-result

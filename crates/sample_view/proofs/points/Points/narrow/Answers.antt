@@ -1,6 +1,6 @@
 use Rattle.std.proofs.Common.{◌≡◌, ◌≤◌, ◌-◌, arith, length, ap, sym, ◌∙◌}
 use Rattle.sample_view.specs.Pieces.{joined}
-use Rattle.sample_view.proofs.CutLaws.{three_ranges}
+use Rattle.sample_view.proofs.CopyLaws.{three_ranges}
 use Rattle.sample_view.proofs.points.Points.narrow.Goals as goal
 
 pub returns-clause-whole : goal.returns-clause-whole

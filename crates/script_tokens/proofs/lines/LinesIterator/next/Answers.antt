@@ -14,7 +14,7 @@ pub returns-clause-steps : goal.returns-clause-steps
 returns-clause-steps c =
     let some : 0 < length c.self.inside.rest.now =
     (let ne = eqb-false _ _ (sym c.is_empty.ensures ∙ c.if-is_empty.false) in omega (arith, ne)) in
-    rw (c.front_of.ensures, c.behind-self-inside.ensures)
+    rw (c.front_of.ensures, c.bytes_after-self-inside.ensures)
     (sym c.self.view_is ∙ lines_at c.feed_at-end.result c.self.inside.rest.now some c.feed_at-end.ensures)
 
 pub returns-clause-goes : goal.returns-clause-goes

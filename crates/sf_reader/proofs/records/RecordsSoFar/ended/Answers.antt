@@ -1,5 +1,5 @@
 use Rattle.std.proofs.Common.{refl}
-use Rattle.sf_reader.proofs.Adding.{terminals}
+use Rattle.sf_reader.proofs.BagAppends.{terminals}
 use Rattle.sf_reader.proofs.records.RecordsSoFar.ended.Goals as goal
 
 pub returns : goal.returns

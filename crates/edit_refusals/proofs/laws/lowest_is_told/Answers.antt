@@ -1,5 +1,0 @@
-use Rattle.edit_refusals.proofs.OrderLaws as order
-use Rattle.edit_refusals.proofs.laws.lowest_is_told.Goals as goal
-
-pub returns : goal.returns
-returns c = order.lowest_is_told

@@ -1,5 +1,0 @@
-use Rattle.base_outputs.proofs.OutputLaws.{puts_then}
-use Rattle.live_sessions.proofs.telling.put_text.Goals as goal
-
-pub returns : goal.returns
-returns g c = puts_then _ _ c.put_told.ensures c.put_answer.ensures

@@ -1,8 +1,0 @@
-use Rattle.mixer.proofs.AlikeLaws as laws
-use Rattle.mixer.proofs.laws.alike_edits_are_not_heard.Goals as goal
-
-pub returns-clause-heard : goal.returns-clause-heard
-returns-clause-heard c = laws.alike_heard
-
-pub returns-clause-blocks : goal.returns-clause-blocks
-returns-clause-blocks c = laws.alike_blocks

@@ -1,5 +1,0 @@
-use Rattle.riff_chunks.proofs.WalkLaws.{walk_is_one}
-use Rattle.riff_chunks.proofs.laws.walk_is_the_one_list.Goals as goal
-
-pub returns : goal.returns
-returns c = walk_is_one

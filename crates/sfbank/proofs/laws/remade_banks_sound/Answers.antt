@@ -1,5 +1,0 @@
-use Rattle.sfbank.proofs.BankScripts.{remade_sounds}
-use Rattle.sfbank.proofs.laws.remade_banks_sound.Goals as goal
-
-pub returns : goal.returns
-returns c = remade_sounds

@@ -1,0 +1,100 @@
+-- The checks of reading a WAVE file, in order. The first that fails gives the fault.
+use Rattle.std.specs.Prelude.{◌+◌, ◌-◌, ◌*◌, ◌%◌, ◌^◌, ◌==◌, ◌&&◌, ◌||◌, ℕ, Bool, min, nat_le, nat_lt, List, [], ◌∷◌}
+use Rattle.std.specs.Prelude.{◌++◌, length, Option, Some, None, is_some, unwrap_or, Result, Ok, Err}
+use Rattle.riff_chunks.specs.Walk.{Chunk, walk}
+use Rattle.riff_chunks.specs.Finding.{chunks_in, is_whole, first_body}
+use Rattle.bank_format.specs.Chunks.{window, body_in}
+use Rattle.wave_file.specs.Wave.{WAVE, FORMAT, DATA}
+use Rattle.wave_file.specs.SampleWave.{SAMPLER}
+use Rattle.wave_file.specs.declared.fault.WaveFault.{WaveFault}
+use Rattle.wave_file.specs.declared.fault.WaveFault.TheVariants as fault
+use Rattle.wave_file.specs.declared.frames.SamplerLoop.{SamplerLoop}
+use Rattle.wave_file.specs.declared.recording.Layout.{Layout}
+use Rattle.wave_file.specs.declared.recording.Recording.{Recording}
+use Rattle.bank_format.specs.FaultChecks.{Check, check, first_fault}
+use Rattle.bank_format.specs.ReadChecks.{form_checks}
+use Rattle.wave_file.specs.Recordings.{channel_count_in, bits_in, is_pcm, layout_in, format_in, frame_size}
+use Rattle.wave_file.specs.Recordings.{channels_in, frame_count, loop_count_in, forward_loop, unity_note_in}
+use Rattle.wave_file.specs.Recordings.{sampler_in}
+
+-- ---- the RIFF chunk, whose form type is WAVE
+
+abbrev pub riff_checks : List ℕ → List (Check WaveFault)
+riff_checks file = form_checks WAVE fault.NotWave fault.Truncated fault.NotWave file
+
+-- ---- the `fmt ` chunk
+
+unfoldable pub format_checks : List ℕ → List (Check WaveFault)
+format_checks f =
+    check (nat_le 16 (length f)) fault.NoFormat
+    ∷ check (is_pcm f) fault.Compressed
+    ∷ check (bits_in f == 16) fault.SampleBits
+    ∷ check (channel_count_in f == 1 || channel_count_in f == 2) fault.ChannelCount
+    ∷ []
+
+-- ---- the `data` chunk, of whole frames
+
+unfoldable pub frame_checks : Layout → List ℕ → List (Check WaveFault)
+frame_checks layout bytes = check (length bytes % frame_size layout == 0) fault.HalfFrame ∷ []
+
+unfoldable pub data_checks : Layout → Option (List ℕ) → List (Check WaveFault)
+data_checks layout body = check (is_some body) fault.NoData ∷ frame_checks layout (unwrap_or body [])
+
+-- ---- the `smpl` chunk, if there is one
+
+-- the chunk holds its header and all its loops
+abbrev pub has_loops : List ℕ → Bool
+has_loops s = nat_le 36 (length s) && nat_le (36 + 24 * loop_count_in s) (length s)
+
+-- a loop of at least one point among these frames, whose end fits into 32 bits
+abbrev pub is_inside : ℕ → SamplerLoop → Bool
+is_inside frames l = nat_le l.first l.last && nat_lt l.last (min frames (2 ^ 32 - 1))
+
+abbrev pub loop_checks : ℕ → Option SamplerLoop → List (Check WaveFault)
+loop_checks frames None = []
+loop_checks frames (Some l) = check (is_inside frames l) fault.LoopOutside ∷ []
+
+unfoldable pub chunk_checks : ℕ → List ℕ → List (Check WaveFault)
+chunk_checks frames s =
+    check (has_loops s) fault.ShortSampler
+    ∷ check (nat_le (unity_note_in s) 127) fault.UnityNote
+    ∷ loop_checks frames (forward_loop s)
+
+abbrev pub sampler_checks : ℕ → Option (List ℕ) → List (Check WaveFault)
+sampler_checks frames None = []
+sampler_checks frames (Some s) = chunk_checks frames s
+
+-- ---- together
+
+-- the first chunk of each id
+unfoldable pub content_checks : List Chunk → List (Check WaveFault)
+content_checks chunks =
+    let f = body_in FORMAT chunks in
+    let body = body_in DATA chunks in
+    format_checks f
+    ++ (data_checks (layout_in f) (first_body DATA chunks)
+    ++ sampler_checks (frame_count (channels_in (layout_in f) body)) (first_body SAMPLER chunks))
+
+unfoldable pub content_in : List Chunk → Recording
+content_in chunks =
+    let f = format_in (body_in FORMAT chunks) in
+    record {
+      channels = channels_in f.layout (body_in DATA chunks);
+      rate = f.rate;
+      sampler = sampler_in (first_body SAMPLER chunks);
+    }
+
+unfoldable pub window_checks : List ℕ → List (Check WaveFault)
+window_checks w = check (is_whole (walk w)) fault.Truncated ∷ content_checks (chunks_in (walk w))
+
+unfoldable pub steps : List ℕ → List (Check WaveFault)
+steps file = riff_checks file ++ window_checks (window file)
+
+-- a value, or the fault of a failed check
+abbrev pub unless_broken : {X : Type 0} → Option WaveFault → X → Result X WaveFault
+unless_broken None value = Ok value
+unless_broken (Some fault) value = Err fault
+
+-- The recording of a WAVE file, or the fault of the first check that fails.
+unfoldable pub recording_in : List ℕ → Result Recording WaveFault
+recording_in file = unless_broken (first_fault (steps file)) (content_in (chunks_in (walk (window file))))
