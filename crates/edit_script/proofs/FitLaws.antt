@@ -23,27 +23,27 @@ use Rattle.edit_script.specs.TextForm.{EncodesEdit, LinesEncode, Spells}
 use Rattle.edit_script.proofs.ReadLaws.{read_spelled}
 
 whole_fits : (s : Step) (os : List Operand) → EncodesWholeStep s os → AllRanged os → FitsStep s
-whole_fits s os h r = let k = subst AllRanged h.parts r in step_fits s h.operands h.says k.1
+whole_fits s os h r = let k = subst AllRanged h.parts r in step_fits s h.operands h.encoding k.1
 
 steps_fit : (ss : List Step) (os : List Operand) → EncodesSteps ss os → AllRanged os → AllByRecursion FitsStep ss
 steps_fit [] os h r = tt
 steps_fit (s ∷ ss) os h r =
     let k = following (in_braces h.operands) h.more (subst AllRanged h.parts r) in
     let b = following h.operands (Fixed (codes "}") ∷ []) k.0.1 in
-    (whole_fits s h.operands h.says b.0, steps_fit ss h.more h.follow k.1)
+    (whole_fits s h.operands h.encoding b.0, steps_fit ss h.more h.follow k.1)
 
 all_fit : (e : Edit) (os : List Operand) → HasOperands e os → AllRanged os → FitsEdit e
 all_fit (One s) os h r = whole_fits s os h r
-all_fit (Group ss) os h r = let k = subst AllRanged h.parts r in steps_fit ss h.braces h.says k.1
+all_fit (Group ss) os h r = let k = subst AllRanged h.parts r in steps_fit ss h.braces h.encoding k.1
 
-edit_fits : (said : List TokenValue) (e : Edit) → EncodesEdit said e → FitsEdit e
-edit_fits said e h = all_fit e h.operands h.says (all_ranged said h.operands h.tokens)
+edit_fits : (token_values : List TokenValue) (e : Edit) → EncodesEdit token_values e → FitsEdit e
+edit_fits token_values e h = all_fit e h.operands h.encoding (all_ranged token_values h.operands h.tokens)
 
 lines_fit : (n : ℕ) (ls : List (List ℕ)) (edits : List Line) → LinesEncode n ls edits → LinesFit edits
 lines_fit n [] edits h = subst LinesFit (sym h) tt
 lines_fit n (l ∷ ls) edits (inl h) = lines_fit (suc n) ls edits h.1
 lines_fit n (l ∷ ls) edits (inr h) =
-    subst LinesFit (sym h.parts) (edit_fits h.said h.edit h.form, lines_fit (suc n) ls h.more h.follow)
+    subst LinesFit (sym h.parts) (edit_fits h.token_values h.edit h.form, lines_fit (suc n) ls h.more h.follow)
 
 pub spelled_fit : (text : List ℕ) (edits : List Line) → Spells text edits → LinesFit edits
 spelled_fit text edits h = lines_fit 1 (lines_of text) edits h
@@ -52,7 +52,7 @@ pub script_fits : (text : List ℕ) (lines : List Line) → script_of text ≡ O
 script_fits text lines e = spelled_fit text lines (read_spelled text lines e)
 
 -- the edits that `parse` returns fit
-pub answers_fit : {X : Type 0} (text : List ℕ) (view : X → List Line) (r : Result X (Failure ScriptFault))
+pub parsed_fit : {X : Type 0} (text : List ℕ) (view : X → List Line) (r : Result X (Failure ScriptFault))
     → Answers view r (script_of text) → IfOk r (λ x. LinesFit (view x))
-answers_fit text view (Ok x) h = script_fits text (view x) h
-answers_fit text view (Err failure) h = tt
+parsed_fit text view (Ok x) h = script_fits text (view x) h
+parsed_fit text view (Err failure) h = tt

@@ -20,10 +20,10 @@ gives_braced : (s : Step) (os more : List Operand) → EncodesWholeStep s os →
     → AllEncode line (in_braces os ++ more) → Gives braced_step s line more
 unfolding braced_step
 gives_braced s os more h line k =
-    let says : AllEncode line (Fixed (codes "{") ∷ (os ++ Fixed (codes "}") ∷ more)) =
+    let encoding : AllEncode line (Fixed (codes "{") ∷ (os ++ Fixed (codes "}") ∷ more)) =
     subst (λ (all : List Operand). AllEncode line (Fixed (codes "{") ∷ all))
     (append_assoc os (Fixed (codes "}") ∷ []) more) k in
-    then _ (gives_fixed (codes "{") line (os ++ Fixed (codes "}") ∷ more) says) (λ rest k.
+    then _ (gives_fixed (codes "{") line (os ++ Fixed (codes "}") ∷ more) encoding) (λ rest k.
     then _ (gives_step s os (Fixed (codes "}") ∷ more) (brace_ends more) h rest k) (λ rest k.
     then _ (gives_fixed (codes "}") rest more k) (λ rest k. gives_pure s rest more k)))
 
@@ -38,28 +38,28 @@ some_left (s ∷ line) o more h = refl
 gives_steps_left : (ms : List Step) (os : List Operand) (ss : List Step) → EncodesSteps ms os → (line : List TokenValue)
     → AllEncode line os → Gives (remaining_steps ss) (ss ++ ms) line []
 gives_steps_left [] os ss h line k =
-    let says : AllEncode line [] = subst (AllEncode line) h k in
+    let encoding : AllEncode line [] = subst (AllEncode line) h k in
     record {
       rest =
           line;
       is =
-          steps_end ss line (none_left line says)
+          steps_end ss line (none_left line encoding)
           ∙ ap (λ (all : List Step). Ok (record { value = all; rest = line })) (sym (append-nil ss));
-      says =
-          says;
+      encoding =
+          encoding;
     }
 gives_steps_left (m ∷ ms) os ss h line k =
-    let says : AllEncode line (in_braces h.operands ++ h.more) = subst (AllEncode line) h.parts k in
-    let g = gives_braced m h.operands h.more h.says line says in
-    let l = gives_steps_left ms h.more (with_step ss m) h.follow g.rest g.says in
+    let encoding : AllEncode line (in_braces h.operands ++ h.more) = subst (AllEncode line) h.parts k in
+    let g = gives_braced m h.operands h.more h.encoding line encoding in
+    let l = gives_steps_left ms h.more (with_step ss m) h.follow g.rest g.encoding in
     record {
       rest = l.rest;
       is =
           steps_go_on ss line _
-          (some_left line (Fixed (codes "{")) ((h.operands ++ Fixed (codes "}") ∷ []) ++ h.more) says) g.is
+          (some_left line (Fixed (codes "{")) ((h.operands ++ Fixed (codes "}") ∷ []) ++ h.more) encoding) g.is
           ∙ l.is
           ∙ ap (λ (all : List Step). Ok (record { value = all; rest = l.rest })) (append_assoc ss (m ∷ []) ms);
-      says = l.says;
+      encoding = l.encoding;
     }
 
 gives_group : (ss : List Step) (os : List Operand) → EncodesGroup ss os → (line : List TokenValue) → AllEncode line os
@@ -67,7 +67,7 @@ gives_group : (ss : List Step) (os : List Operand) → EncodesGroup ss os → (l
 unfolding group
 gives_group ss os h line k =
     then _ (gives_fixed (codes "group") line h.braces (subst (AllEncode line) h.parts k)) (λ rest k.
-    then _ (gives_steps_left ss h.braces [] h.says rest k) (λ rest k. gives_pure (Group ss) rest [] k))
+    then _ (gives_steps_left ss h.braces [] h.encoding rest k) (λ rest k. gives_pure (Group ss) rest [] k))
 
 gives_one : (s : Step) (os : List Operand) → EncodesWholeStep s os → (line : List TokenValue) → AllEncode line os
     → Gives one (One s) line []

@@ -21,47 +21,47 @@ use Rattle.script_grammar.specs.Operands.{AllEncode}
 use Rattle.edit_script.specs.Grammar.{one_or_group, edit}
 use Rattle.edit_script.specs.Script.{edit_of, with_edit, edits_in, script_of}
 use Rattle.edit_script.specs.TextForm.{EncodesEdit, LinesEncode, Spells}
-use Rattle.edit_script.proofs.GroupReadLaws.{edit_said}
+use Rattle.edit_script.proofs.GroupReadLaws.{edit_encoded}
 
-edit_says : (line : List TokenValue) (t : Parsed Edit) → AllHoldBytes line → edit line ≡ Ok t → EncodesEdit line t.value
+read_edit_encoded : (line : List TokenValue) (t : Parsed Edit) → AllHoldBytes line → edit line ≡ Ok t → EncodesEdit line t.value
 unfolding edit
-edit_says line t h e =
+read_edit_encoded line t h e =
     let s = both (one_or_group line) (λ e. ended e) t e in
-    let g = edit_said line s.first h s.is in
+    let g = edit_encoded line s.first h s.is in
     let c = ended_is s.first.value s.first.rest t s.second in
     subst (EncodesEdit line) {x = s.first.value} c.1 (record {
       operands = g.operands;
-      says = g.says;
+      encoding = g.encoding;
       tokens =
           subst (AllEncode line) (append-nil g.operands)
-          (g.fronts.says [] (subst (λ (r : List TokenValue). AllEncode r []) (sym c.0) tt));
+          (g.prefix.encoding [] (subst (λ (r : List TokenValue). AllEncode r []) (sym c.0) tt));
     })
 
 -- ---- the lines
 
 -- what a line adds to the edits before it
-pub record Adds (n : ℕ) (said : List TokenValue) (before after : List Line) : Type 0 where
+pub record Adds (n : ℕ) (token_values : List TokenValue) (before after : List Line) : Type 0 where
   pub edit : Edit
   pub parts : after ≡ before ++ record { number = n; edit = edit } ∷ []
-  pub form : EncodesEdit said edit
+  pub form : EncodesEdit token_values edit
 
 abbrev LineMakes : ℕ → List TokenValue → List Line → List Line → Type 0
-LineMakes n said before after = ((said ≡ []) × (after ≡ before)) ⊎ Adds n said before after
+LineMakes n token_values before after = ((token_values ≡ []) × (after ≡ before)) ⊎ Adds n token_values before after
 
-with_edit_makes : (n : ℕ) (said : List TokenValue) (r : Result (Parsed Edit) LineFault) (before after : List Line)
-    → ((t : Parsed Edit) → r ≡ Ok t → EncodesEdit said t.value) → with_edit n before r ≡ Ok after
-    → LineMakes n said before after
-with_edit_makes n said (Ok t) before after f e =
+with_edit_makes : (n : ℕ) (token_values : List TokenValue) (r : Result (Parsed Edit) LineFault) (before after : List Line)
+    → ((t : Parsed Edit) → r ≡ Ok t → EncodesEdit token_values t.value) → with_edit n before r ≡ Ok after
+    → LineMakes n token_values before after
+with_edit_makes n token_values (Ok t) before after f e =
     let k : before ++ record { number = n; edit = t.value } ∷ [] ≡ after = cc in
     inr (record { edit = t.value; parts = sym k; form = f t refl })
-with_edit_makes n said (Err d) before after f e = cc
+with_edit_makes n token_values (Err d) before after f e = cc
 
-line_makes : (n : ℕ) (said : List TokenValue) (before after : List Line) → AllHoldBytes said
-    → edit_of n said before ≡ Ok after → LineMakes n said before after
+line_makes : (n : ℕ) (token_values : List TokenValue) (before after : List Line) → AllHoldBytes token_values
+    → edit_of n token_values before ≡ Ok after → LineMakes n token_values before after
 unfolding edit_of
 line_makes n [] before after h e = let k : before ≡ after = cc in inl (refl, sym k)
-line_makes n (s ∷ said) before after h e =
-    with_edit_makes n (s ∷ said) (edit (s ∷ said)) before after (λ t k. edit_says (s ∷ said) t h k) e
+line_makes n (s ∷ token_values) before after h e =
+    with_edit_makes n (s ∷ token_values) (edit (s ∷ token_values)) before after (λ t k. read_edit_encoded (s ∷ token_values) t h k) e
 
 -- what lines add to the edits before them
 record LinesMake (n : ℕ) (ls : List (List ℕ)) (before after : List Line) : Type 0 where
@@ -71,25 +71,25 @@ record LinesMake (n : ℕ) (ls : List (List ℕ)) (before after : List Line) : T
 
 step_makes : (n : ℕ) (l : List ℕ) (ls : List (List ℕ)) (before between after : List Line) → LineHasValues l (values_in l)
     → LineMakes n (values_in l) before between → LinesMake (suc n) ls between after → LinesMake n (l ∷ ls) before after
-step_makes n l ls before between after says (inl h) r = record {
+step_makes n l ls before between after encoding (inl h) r = record {
   more = r.more;
   parts = r.parts ∙ ap (λ (x : List Line). x ++ r.more) h.1;
-  say = inl (subst (LineHasValues l) h.0 says, r.say);
+  say = inl (subst (LineHasValues l) h.0 encoding, r.say);
 }
-step_makes n l ls before between after says (inr h) r =
+step_makes n l ls before between after encoding (inr h) r =
     let one : Line = record { number = n; edit = h.edit } in record {
       more = one ∷ r.more;
       parts = r.parts ∙ ap (λ (x : List Line). x ++ r.more) h.parts ∙ append_assoc before (one ∷ []) r.more;
       say =
           inr
           (record {
-            said =
+            token_values =
                 values_in l;
             edit =
                 h.edit;
             more = r.more;
             parts = refl;
-            tokens = says;
+            tokens = encoding;
             form = h.form;
             follow = r.say;
           });

@@ -6,7 +6,7 @@ use Rattle.sf_base.specs.declared.memory.Failure.TheVariants.{Fault}
 use Rattle.script_tokens.specs.declared.cursor.TokenValue.{TokenValue}
 use Rattle.script_tokens.specs.declared.fault.LineFault.{LineFault}
 use Rattle.script_tokens.specs.Lines.{lines_of}
-use Rattle.script_tokens.specs.TokenValue.{Left, values_of_lines, line_values_over}
+use Rattle.script_tokens.specs.TokenValue.{CursorState, values_of_lines, line_values_over}
 use Rattle.script_tokens.specs.Parsers.{Parser}
 use Rattle.script_tokens.specs.Pool.{ListOrFault, pool_bytes}
 use Rattle.script_tokens.proofs.PoolLaws.{over_pool}
@@ -15,21 +15,21 @@ use Rattle.edit_script.specs.declared.parsing.Line.{Line}
 use Rattle.edit_script.specs.Grammar.{edit}
 use Rattle.edit_script.specs.Script.{edit_of, with_edit, edits_in, script_of}
 
-pub says_nothing : (n : ℕ) (said : List TokenValue) (lines : List Line) → said ≡ [] → edit_of n said lines ≡ Ok lines
+pub line_without_tokens : (n : ℕ) (token_values : List TokenValue) (lines : List Line) → token_values ≡ [] → edit_of n token_values lines ≡ Ok lines
 unfolding edit_of
-says_nothing n [] lines e = refl
-says_nothing n (s ∷ said) lines e = cc
+line_without_tokens n [] lines e = refl
+line_without_tokens n (s ∷ token_values) lines e = cc
 
-pub one_more : (n : ℕ) (said : List TokenValue) (lines : List Line) → (said ≡ [] → ⊥)
-    → edit_of n said lines ≡ with_edit n lines (edit said)
+pub one_more : (n : ℕ) (token_values : List TokenValue) (lines : List Line) → (token_values ≡ [] → ⊥)
+    → edit_of n token_values lines ≡ with_edit n lines (edit token_values)
 unfolding edit_of
 one_more n [] lines some = absurd (some refl)
-one_more n (s ∷ said) lines some = refl
+one_more n (s ∷ token_values) lines some = refl
 
 -- the fault of a line that is not read
-pub not_read : {X Y : Type 0} (part : Parser Y) (view : X → Y) (old new : Left) (failure : Failure LineFault)
+pub not_read : {X Y : Type 0} (part : Parser Y) (view : X → Y) (old new : CursorState) (failure : Failure LineFault)
     (fault : LineFault)
-    → failure ≡ Fault fault → ReadsOrOutOfMemory view part old new (Err failure) → part old.said ≡ Err fault
+    → failure ≡ Fault fault → ReadsOrOutOfMemory view part old new (Err failure) → part old.token_values ≡ Err fault
 not_read part view old new failure fault e h =
     subst (λ (f : Failure LineFault). ReadsOrOutOfMemory view part old new (Err f)) e h
 

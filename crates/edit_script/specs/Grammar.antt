@@ -26,7 +26,7 @@ pub record EncodesBraced (s : Step) (os : List Operand) (Follow : List Operand �
   pub operands : List Operand
   pub more : List Operand
   pub parts : os ≡ in_braces operands ++ more
-  pub says : EncodesWholeStep s operands
+  pub encoding : EncodesWholeStep s operands
   pub follow : Follow more
 
 -- steps, each in braces
@@ -38,7 +38,7 @@ EncodesSteps (s ∷ ss) os = EncodesBraced s os (λ more. EncodesSteps ss more)
 pub record EncodesGroup (steps : List Step) (os : List Operand) : Type 0 where
   pub braces : List Operand
   pub parts : os ≡ Fixed (codes "group") ∷ braces
-  pub says : EncodesSteps steps braces
+  pub encoding : EncodesSteps steps braces
 
 -- the operands that encode an edit
 abbrev pub HasOperands : Edit → List Operand → Type 0

@@ -9,19 +9,19 @@ use Rattle.script_grammar.specs.Operands.{Operand, AllEncode}
 use Rattle.edit_script.specs.Grammar.{HasOperands}
 
 -- operands that encode the edit, token by token
-pub record EncodesEdit (said : List TokenValue) (edit : Edit) : Type 0 where
+pub record EncodesEdit (token_values : List TokenValue) (edit : Edit) : Type 0 where
   pub operands : List Operand
-  pub says : HasOperands edit operands
-  pub tokens : AllEncode said operands
+  pub encoding : HasOperands edit operands
+  pub tokens : AllEncode token_values operands
 
 -- line n encodes the first edit, and what follows encodes the other edits
 pub record EncodesFirst (n : ℕ) (line : List ℕ) (edits : List Line) (Follow : List Line → Type 0) : Type 0 where
-  pub said : List TokenValue
+  pub token_values : List TokenValue
   pub edit : Edit
   pub more : List Line
   pub parts : edits ≡ record { number = n; edit = edit } ∷ more
-  pub tokens : LineHasValues line said
-  pub form : EncodesEdit said edit
+  pub tokens : LineHasValues line token_values
+  pub form : EncodesEdit token_values edit
   pub follow : Follow more
 
 -- the lines, of which the first has the number n, encode these edits

@@ -28,7 +28,7 @@ use std::io::Write;
 #[tactic(auto, unfolding(crate::specs::Grammar::edit, script_tokens::specs::Parsers::ended))]
 pub fn edit<'p>(alloc: Global, line: &mut Cursor<'_, 'p>) -> Result<Edit<'p>, Failure<LineFault>>
     ensures reads { ReadsOrOutOfMemory (λ e. e) edit line.old line.new result }
-    ensures done { OnOk result (line.new.said ≡ []) }
+    ensures done { OnOk result (line.new.token_values ≡ []) }
 {
     let edit = one_or_group(alloc, line)?;
     line.end()?;

@@ -44,7 +44,7 @@ pub fn parse<'a>(
     pool: &'a [u8],
 ) -> Result<Vec<Line<'a>>, Failure<ScriptFault>>
     requires { pool_bytes text.now ≡ Ok pool.now }
-    ensures answers { Answers (λ lines. lines.items) result (script_of text.now) }
+    ensures parsed { Answers (λ lines. lines.items) result (script_of text.now) }
     ensures fit { IfOk result (λ lines. LinesFit lines.items) }
 {
     parse_lines(alloc, text, pool)

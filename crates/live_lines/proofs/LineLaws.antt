@@ -9,9 +9,9 @@ use Rattle.script_tokens.specs.declared.cursor.TokenValue.TheVariants.{Word, Lit
 use Rattle.script_tokens.specs.declared.fault.ScriptFault.{ScriptFault}
 use Rattle.script_tokens.specs.Lines.{lines_of, is_feed}
 use Rattle.script_tokens.specs.Tokens.{tokens_of, tokens_for}
-use Rattle.script_tokens.specs.TokenValue.{said, values_in, values_over}
+use Rattle.script_tokens.specs.TokenValue.{token_value, values_in, values_over}
 use Rattle.script_tokens.specs.Pool.{ListOrFault, and_then, gather, literal_of, literals_of, pool_bytes}
-use Rattle.script_tokens.proofs.PoolLaws.{serves}
+use Rattle.script_tokens.proofs.PoolLaws.{literals_in_pool}
 use Rattle.live_lines.specs.Requests.{HasNoFeed, is_bad}
 
 -- ---- a text without line feed is one line
@@ -44,41 +44,41 @@ none_gathered : gather literals_of 1 (map values_in (lines_of [])) [] ≡ Ok []
 unfolding gather lines_of
 none_gathered = refl
 
-none_taken : literals_of 1 [] [] ≡ Ok []
+no_literals : literals_of 1 [] [] ≡ Ok []
 unfolding literals_of
-none_taken = refl
+no_literals = refl
 
-one_gathered : (said : List TokenValue) → gather literals_of 1 (said ∷ []) [] ≡ literals_of 1 said []
+one_gathered : (token_values : List TokenValue) → gather literals_of 1 (token_values ∷ []) [] ≡ literals_of 1 token_values []
 unfolding gather
-one_gathered said = whole (literals_of 1 said [])
+one_gathered token_values = whole (literals_of 1 token_values [])
 
 pub pool_of_one : (l : List ℕ) → HasNoFeed l → pool_bytes l ≡ literals_of 1 (values_in l) []
 unfolding pool_bytes
-pool_of_one [] h = none_gathered ∙ sym none_taken ∙ ap (λ (s : List TokenValue). literals_of 1 s []) (sym no_tokens)
+pool_of_one [] h = none_gathered ∙ sym no_literals ∙ ap (λ (s : List TokenValue). literals_of 1 s []) (sym no_tokens)
 pool_of_one (b ∷ l) h =
     ap (λ (ls : List (List ℕ)). gather literals_of 1 (map values_in ls) []) (one_line b l (is_feed b) refl h)
     ∙ one_gathered (values_in (b ∷ l))
 
 -- ---- its pool
 
-pub says_same : (l pool : List ℕ) → HasNoFeed l → pool_bytes l ≡ Ok pool → values_over pool (tokens_of l) ≡ values_in l
-says_same l pool h e =
-    let s = serves 1 (tokens_of l) [] pool (sym (pool_of_one l h) ∙ e) in
+pub values_same : (l pool : List ℕ) → HasNoFeed l → pool_bytes l ≡ Ok pool → values_over pool (tokens_of l) ≡ values_in l
+values_same l pool h e =
+    let s = literals_in_pool 1 (tokens_of l) [] pool (sym (pool_of_one l h) ∙ e) in
     ap (λ (p : List ℕ). values_over p (tokens_of l)) (s.parts ∙ sym (append-nil s.bytes)) ∙ s.same []
 
 -- ---- malformed literals
 
-spelled : (n : ℕ) (said : List TokenValue) (pool : List ℕ) (r : ListOrFault ℕ) → literals_of n said pool ≡ r
-    → list_any is_bad said ≡ is_err r
+bad_is_err : (n : ℕ) (token_values : List TokenValue) (pool : List ℕ) (r : ListOrFault ℕ) → literals_of n token_values pool ≡ r
+    → list_any is_bad token_values ≡ is_err r
 unfolding literals_of literal_of
-spelled n [] pool r e = ap is_err e
-spelled n (Word w ∷ said) pool r e = spelled n said pool r e
-spelled n (Literal bytes ∷ said) pool r e = spelled n said (pool ++ bytes) r e
-spelled n (Malformed ∷ said) pool r e = ap is_err e
+bad_is_err n [] pool r e = ap is_err e
+bad_is_err n (Word w ∷ token_values) pool r e = bad_is_err n token_values pool r e
+bad_is_err n (Literal bytes ∷ token_values) pool r e = bad_is_err n token_values (pool ++ bytes) r e
+bad_is_err n (Malformed ∷ token_values) pool r e = ap is_err e
 
-pub well_spelled : (l pool : List ℕ) → HasNoFeed l → pool_bytes l ≡ Ok pool → list_any is_bad (values_in l) ≡ false
-well_spelled l pool h e = spelled 1 (values_in l) [] (Ok pool) (sym (pool_of_one l h) ∙ e)
+pub no_bad_token : (l pool : List ℕ) → HasNoFeed l → pool_bytes l ≡ Ok pool → list_any is_bad (values_in l) ≡ false
+no_bad_token l pool h e = bad_is_err 1 (values_in l) [] (Ok pool) (sym (pool_of_one l h) ∙ e)
 
-pub badly_spelled : (l : List ℕ) (f : ScriptFault) → HasNoFeed l → pool_bytes l ≡ Err f
+pub has_bad_token : (l : List ℕ) (f : ScriptFault) → HasNoFeed l → pool_bytes l ≡ Err f
     → list_any is_bad (values_in l) ≡ true
-badly_spelled l f h e = spelled 1 (values_in l) [] (Err f) (sym (pool_of_one l h) ∙ e)
+has_bad_token l f h e = bad_is_err 1 (values_in l) [] (Err f) (sym (pool_of_one l h) ∙ e)

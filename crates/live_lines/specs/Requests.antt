@@ -130,4 +130,4 @@ HasNoFeed line = IsTrue (list_all (λ b. not (is_feed b)) line)
 
 -- The request of a line, or its fault: a malformed literal anywhere in it, else the first fault from left to right.
 unfoldable pub request_of : List TokenValue → Result (Option Request) RequestFault
-request_of said = if list_any is_bad said then Err faults.Literal else if_any said
+request_of token_values = if list_any is_bad token_values then Err faults.Literal else if_any token_values

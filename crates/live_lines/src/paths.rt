@@ -87,7 +87,7 @@ fn first_path<'t, 'p: 't>(
     pool: &'p [u8],
 ) -> Result<(FilePath<'t>, Cursor<'t, 'p>), LineFault>
     requires { IsOk (word (values_over pool.now (tokens_of line.now))) }
-    ensures { MatchResult result (λ r. path (drop 1 (values_over pool.now (tokens_of line.now))) ≡ Ok (record { value = r.0; rest = r.1.said })) (λ e. path (drop 1 (values_over pool.now (tokens_of line.now))) ≡ Err e) }
+    ensures { MatchResult result (λ r. path (drop 1 (values_over pool.now (tokens_of line.now))) ≡ Ok (record { value = r.0; rest = r.1.token_values })) (λ e. path (drop 1 (values_over pool.now (tokens_of line.now))) ≡ Err e) }
 {
     let mut rest = after_first_word(line, pool);
     let twin = after_first_word(line, pool);
@@ -96,10 +96,10 @@ fn first_path<'t, 'p: 't>(
 }
 
 // The rest of a line after its first word.
-#[tactic(auto, using(crate::proofs::RequestLaws::word_taken))]
+#[tactic(auto, using(crate::proofs::RequestLaws::rest_after_word))]
 fn after_first_word<'t, 'p>(line: &'t [u8], pool: &'p [u8]) -> Cursor<'t, 'p>
     requires { IsOk (word (values_over pool.now (tokens_of line.now))) }
-    ensures { result.said ≡ drop 1 (values_over pool.now (tokens_of line.now)) }
+    ensures { result.token_values ≡ drop 1 (values_over pool.now (tokens_of line.now)) }
 {
     let mut rest = Cursor::of(line, pool);
     rest.word().unwrap();
@@ -112,7 +112,7 @@ fn path<'t, 'p: 't>(
     line: &mut Cursor<'t, 'p>,
     mut twin: Cursor<'t, 'p>,
 ) -> Result<FilePath<'t>, LineFault>
-    requires { twin.said ≡ line.old.said }
+    requires { twin.token_values ≡ line.old.token_values }
     ensures { Reads (λ p. p) path line.old line.new result }
 {
     match twin.word() {

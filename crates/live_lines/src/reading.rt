@@ -111,9 +111,9 @@ fn request_by<'t, 'p: 't>(
     line: &'t [u8],
     pool: &'p [u8],
 ) -> Result<Request<'t, 'p>, Failure<RequestFault>>
-    requires after_word { rest.old.said ≡ drop 1 (values_over pool.now (tokens_of line.now)) }
+    requires after_word { rest.old.token_values ≡ drop 1 (values_over pool.now (tokens_of line.now)) }
     requires word { IsOk (word (values_over pool.now (tokens_of line.now))) }
-    ensures { Answers (λ r. r) result (request_by command rest.old.said) }
+    ensures { Answers (λ r. r) result (request_by command rest.old.token_values) }
 {
     match command {
         Command::Neutral => neutral_edit(alloc, rest),
@@ -133,14 +133,14 @@ fn neutral_edit<'t, 'p>(
     alloc: Global,
     line: &mut Cursor<'t, 'p>,
 ) -> Result<Request<'t, 'p>, Failure<RequestFault>>
-    ensures { Answers (λ r. r) result (made_request asks.Neutral (edit line.old.said)) }
+    ensures { Answers (λ r. r) result (made_request asks.Neutral (edit line.old.token_values)) }
 {
     Ok(Request::Neutral(an_edit(alloc, line)?))
 }
 
 // The edit in the rest of a line.
 fn an_edit<'p>(alloc: Global, line: &mut Cursor<'_, 'p>) -> Result<Edit<'p>, Failure<RequestFault>>
-    ensures { (make : Edit → Request) → Answers make result (made_request make (edit line.old.said)) }
+    ensures { (make : Edit → Request) → Answers make result (made_request make (edit line.old.token_values)) }
 {
     match edit(alloc, line) {
         Ok(edit) => Ok(edit),
@@ -162,7 +162,7 @@ fn without_arguments<'t, 'p>(
     request: Request<'t, 'p>,
     line: &mut Cursor<'t, 'p>,
 ) -> Result<Request<'t, 'p>, Failure<RequestFault>>
-    ensures answer { Answers (λ r. r) result (made_request (λ r. r) (ended request.entry line.old.said)) }
+    ensures answer { Answers (λ r. r) result (made_request (λ r. r) (ended request.entry line.old.token_values)) }
     ensures memory { IsNotOutOfMemory result }
 {
     match line.end() {
@@ -173,7 +173,7 @@ fn without_arguments<'t, 'p>(
 
 // A note that starts now.
 fn note<'t, 'p>(line: &mut Cursor<'t, 'p>) -> Result<Request<'t, 'p>, Failure<RequestFault>>
-    ensures answer { Answers (λ r. r) result (noted (note_now line.old.said)) }
+    ensures answer { Answers (λ r. r) result (noted (note_now line.old.token_values)) }
     ensures memory { IsNotOutOfMemory result }
 {
     match note_now(line) {
@@ -206,7 +206,7 @@ fn note_now(line: &mut Cursor<'_, '_>) -> Result<Option<Note>, LineFault>
 
 // A request for frames.
 fn some_frames<'t, 'p>(line: &mut Cursor<'t, 'p>) -> Result<Request<'t, 'p>, Failure<RequestFault>>
-    ensures answer { Answers (λ r. r) result (made_request asks.Frames (frames line.old.said)) }
+    ensures answer { Answers (λ r. r) result (made_request asks.Frames (frames line.old.token_values)) }
     ensures memory { IsNotOutOfMemory result }
 {
     match frames(line) {

@@ -90,8 +90,8 @@ same_events ps k n =
     (let e : k + n + 0 ≡ k + (n + 0) = omega arith in e)
     ∙ sym (blocks_from no_bank (Given k ∷ Given n ∷ []) ps 0)
 
-pub block_cut : (ps : List PlayingVoice) (k n : ℕ) → block ps (k + n) ≡ block ps k ++ block (after_block ps k) n
-block_cut ps k n = sym (alone ps (k + n)) ∙ same_events ps k n ∙ in_two ps k n
+pub block_split : (ps : List PlayingVoice) (k n : ℕ) → block ps (k + n) ≡ block ps k ++ block (after_block ps k) n
+block_split ps k n = sym (alone ps (k + n)) ∙ same_events ps k n ∙ in_two ps k n
 
 pub block_none : (ps : List PlayingVoice) → block ps 0 ≡ []
 unfolding block
@@ -106,7 +106,7 @@ module _ {W : Type 0} {c : W → Option (List ℕ)} {o p q : Output W} {whole : 
       let left : n ≡ m + (n - k) = omega arith in
       putting_step (flat_map sample_bytes (block ps m)) (flat_map sample_bytes (block qs (n - k))) s
       (ap (λ (j : ℕ). flat_map sample_bytes (block ps j)) left
-      ∙ ap (flat_map sample_bytes) (block_cut ps m (n - k))
+      ∙ ap (flat_map sample_bytes) (block_split ps m (n - k))
       ∙ flat_map-append sample_bytes (block ps m) (block (after_block ps m) (n - k))
       ∙ ap (λ (xs : List PlayingVoice). flat_map sample_bytes (block ps m) ++ flat_map sample_bytes (block xs (n - k)))
       (sym e)) h

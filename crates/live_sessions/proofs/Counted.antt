@@ -27,9 +27,9 @@ all_voiced f (q ∷ qs) d h =
     all_voiced f qs d (λ k l. h (suc k) (omega arith)) in
     omega (arith, length-append (listed (f q)) (flat_map (λ q. listed (f q)) qs))
 
-pub fresh_counted : (b : Parts) (n : Numbers) → IsValid b → length (pairs b n) ≡ length (note_voices b n)
+pub voices_counted : (b : Parts) (n : Numbers) → IsValid b → length (pairs b n) ≡ length (note_voices b n)
 unfolding note_voices
-fresh_counted b n valid =
+voices_counted b n valid =
     sym
     (all_voiced (voice_by b n) (pairs b n) (0, 0)
     (λ k h.
@@ -41,7 +41,7 @@ fresh_counted b n valid =
 pub count_first : (b : Parts) (n : Numbers) (qs : List (ℕ × ℕ)) (voices : ℕ) → IsValid b → voices ≡ 0 → qs ≡ pairs b n
     → (length qs ≤ length (note_voices b n)) × (voices ≡ min (length (note_voices b n) - length qs) (2 ^ 64 - 1))
 count_first b n qs voices valid e f =
-    let same : length qs ≡ length (note_voices b n) = ap length f ∙ fresh_counted b n valid in
+    let same : length qs ≡ length (note_voices b n) = ap length f ∙ voices_counted b n valid in
     (omega arith, omega arith)
 
 pub count_next : (total : ℕ) (q : ℕ × ℕ) (rest qs : List (ℕ × ℕ)) (voices more : ℕ) → qs ≡ q ∷ rest

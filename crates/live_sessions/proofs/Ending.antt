@@ -19,10 +19,10 @@ use Rattle.live_sessions.specs.declared.fault.LiveFault.TheVariants as fault
 use Rattle.live_sessions.specs.Saved.{Saved, Adds}
 use Rattle.live_sessions.specs.Turns.{LineIs, Turn, Streams, request_in, text_in, bytes_in, saves_in, ends_in, AreTurns}
 use Rattle.live_sessions.specs.Turns.{Reads, Passes, Passed}
-use Rattle.live_sessions.specs.Runs.{OnlyReads, EndsWell, ReadsPart, Unread, EndsBy, most_lines, Plays, AnswersOr, GoesOn}
-use Rattle.live_sessions.specs.Runs.{Goes, IsReadFault}
-use Rattle.live_sessions.proofs.Doing.{adds_nothing, adds_then}
-use Rattle.live_sessions.proofs.Turning.{around}
+use Rattle.live_sessions.specs.Runs.{OnlyReads, EndsWell, ReadsPart, Unread, EndsBy, most_lines, Plays, IsLineResult, Continues}
+use Rattle.live_sessions.specs.Runs.{IsNextLineResult, IsReadFault}
+use Rattle.live_sessions.proofs.RequestLaws.{adds_nothing, adds_then}
+use Rattle.live_sessions.proofs.AnsweredLines.{around}
 
 abbrev pub with_input : Option (List ℕ) → Option (List ℕ) → Option (List ℕ) → Option (List Saved) → Streams
 with_input input answers pcm saved = record { input = input; answers = answers; pcm = pcm; saved = saved }
@@ -34,19 +34,19 @@ passes_read : (counts : Counts) (t : Turn) (i j o n p q : Option (List ℕ)) (v 
     → Passes counts t (with_input i o p v) (with_input j n q w)
 passes_read counts t i j o n p q v w h = record { is = h.is; answers = h.answers; pcm = h.pcm; saved = h.saved }
 
-pub line_goes : (counts : Counts) (line : List ℕ) (old new : LiveState) (i j o n p q : Option (List ℕ))
+pub line_result : (counts : Counts) (line : List ℕ) (old new : LiveState) (i j o n p q : Option (List ℕ))
     (v w : Option (List Saved)) (why : Option ErrorKind) (r : Result Next LiveFault)
-    → Reads i j (line ∷ []) → AnswersOr counts line old new (around o p v) (around n q w) r
-    → Goes counts old new (with_input i o p v) (with_input j n q w) why r
-line_goes counts line old new i j o n p q v w why (Ok next.Line) read h = record {
+    → Reads i j (line ∷ []) → IsLineResult counts line old new (around o p v) (around n q w) r
+    → IsNextLineResult counts old new (with_input i o p v) (with_input j n q w) why r
+line_result counts line old new i j o n p q v w why (Ok next.Line) read h = record {
   line = line;
   input = read;
   answers =
       record {
         turn =
             h.turn;
-        said =
-            h.said;
+        line_is =
+            h.line_is;
         begins =
             h.begins;
         leaves =
@@ -55,17 +55,17 @@ line_goes counts line old new i j o n p q v w why (Ok next.Line) read h = record
         ends = h.ends;
       };
 }
-line_goes counts line old new i j o n p q v w why (Ok next.End) read h = inr (record {
+line_result counts line old new i j o n p q v w why (Ok next.End) read h = inr (record {
   turn = h.turn;
   begins = h.begins;
-  input = subst (λ (l : List ℕ). Reads i j (l ∷ [])) (sym h.said) read;
+  input = subst (λ (l : List ℕ). Reads i j (l ∷ [])) (sym h.line_is) read;
   passes = passes_read counts h.turn i j o n p q v w h.passes;
   ends = h.ends;
 })
-line_goes counts line old new i j o n p q v w why (Err (fault.Answers k)) read h = record {
+line_result counts line old new i j o n p q v w why (Err (fault.Answers k)) read h = record {
   turn = h.turn;
   begins = h.begins;
-  input = subst (λ (l : List ℕ). Reads i j (l ∷ [])) (sym h.said) read;
+  input = subst (λ (l : List ℕ). Reads i j (l ∷ [])) (sym h.line_is) read;
   stops =
       record {
         is =
@@ -77,15 +77,15 @@ line_goes counts line old new i j o n p q v w why (Err (fault.Answers k)) read h
         saved = h.stops.saved;
       };
 }
-line_goes counts line old new i j o n p q v w why (Err (fault.Pcm k)) read h = record {
+line_result counts line old new i j o n p q v w why (Err (fault.Pcm k)) read h = record {
   turn = h.turn;
   begins = h.begins;
-  input = subst (λ (l : List ℕ). Reads i j (l ∷ [])) (sym h.said) read;
+  input = subst (λ (l : List ℕ). Reads i j (l ∷ [])) (sym h.line_is) read;
   stops = record { request = h.stops.request; is = h.stops.is; stops = h.stops.stops; answers = h.stops.answers };
 }
-line_goes counts line old new i j o n p q v w why (Err (fault.File f)) read h = absurd h.stops
-line_goes counts line old new i j o n p q v w why (Err fault.Memory) read h = absurd h.stops
-line_goes counts line old new i j o n p q v w why (Err fault.Input) read h = absurd h.stops
+line_result counts line old new i j o n p q v w why (Err (fault.File f)) read h = absurd h.stops
+line_result counts line old new i j o n p q v w why (Err fault.Memory) read h = absurd h.stops
+line_result counts line old new i j o n p q v w why (Err fault.Input) read h = absurd h.stops
 
 only_reads : (i j o p : Option (List ℕ)) (v : Option (List Saved)) → OnlyReads (with_input i o p v) (with_input j o p v)
 only_reads i j o p v = record { answers = refl; pcm = refl; saved = refl }
@@ -101,7 +101,7 @@ no_line i j o p v why P kind e h part = record {
 
 pub unread : (counts : Counts) (old new : LiveState) (i j o p : Option (List ℕ)) (v : Option (List Saved))
     (why : Option ErrorKind) (kind : ErrorKind) (f : LiveFault) → why ≡ Some kind → IsReadFault kind f → ReadsPart i j
-    → Goes counts old new (with_input i o p v) (with_input j o p v) why (Err f)
+    → IsNextLineResult counts old new (with_input i o p v) (with_input j o p v) why (Err f)
 unread counts old new i j o p v why kind fault.Memory e h part =
     no_line i j o p v why (λ k. k ≡ OutOfMemory) kind e h part
 unread counts old new i j o p v why kind fault.Input e h part =
@@ -168,7 +168,7 @@ reached_first counts first a = record {
 }
 
 pub reached_next : (counts : Counts) (n : ℕ) (first last new : LiveState) (a b c : Streams) → Reached counts n first last a b
-    → GoesOn counts last new b c → Reached counts (n + 1) first new a c
+    → Continues counts last new b c → Reached counts (n + 1) first new a c
 reached_next counts n first last new a b c r g =
     let t : Turn = g.answers.turn in
     let ts : List Turn = r.turns in
@@ -184,7 +184,7 @@ reached_next counts n first last new a b c r g =
             subst (λ (ls : List (List ℕ)). Reads a.input c.input ls)
             (sym (map-append (λ (u : Turn). u.line) ts (t ∷ [])))
             (reads_then a.input b.input c.input (map (λ (u : Turn). u.line) ts) (t.line ∷ []) r.passed.input
-            (subst (λ (l : List ℕ). Reads b.input c.input (l ∷ [])) (sym g.answers.said) g.input));
+            (subst (λ (l : List ℕ). Reads b.input c.input (l ∷ [])) (sym g.answers.line_is) g.input));
         answers = subst (λ (xs : List ℕ). Appends a.answers c.answers xs) (sym (more_of (text_in counts) ts t))
             (Appends-trans a.answers b.answers c.answers (flat_map (text_in counts) ts) (text_in counts t)
             r.passed.answers g.answers.passes.answers);
@@ -209,10 +209,10 @@ plays_full counts n first last a b why h e =
 
 -- ---- the whole run
 
-pub goes_on : (counts : Counts) (x : Next) (old new : LiveState) (a b : Streams) (why : Option ErrorKind) → x ≡ next.Line
-    → Goes counts old new a b why (Ok x) → GoesOn counts old new a b
-goes_on counts x old new a b why e h = subst (λ (y : Next). Goes counts old new a b why (Ok y)) e h
+pub continues : (counts : Counts) (x : Next) (old new : LiveState) (a b : Streams) (why : Option ErrorKind) → x ≡ next.Line
+    → IsNextLineResult counts old new a b why (Ok x) → Continues counts old new a b
+continues counts x old new a b why e h = subst (λ (y : Next). IsNextLineResult counts old new a b why (Ok y)) e h
 
 pub ends_well : (counts : Counts) (x : Next) (old new : LiveState) (a b : Streams) (why : Option ErrorKind) → x ≡ next.End
-    → Goes counts old new a b why (Ok x) → EndsWell counts old a b
-ends_well counts x old new a b why e h = subst (λ (y : Next). Goes counts old new a b why (Ok y)) e h
+    → IsNextLineResult counts old new a b why (Ok x) → EndsWell counts old a b
+ends_well counts x old new a b why e h = subst (λ (y : Next). IsNextLineResult counts old new a b why (Ok y)) e h

@@ -25,7 +25,7 @@ use Rattle.live_sessions.specs.Steps.{RequestIs, EditIs, NeutralIs, UndoIs, Redo
 use Rattle.live_sessions.specs.Steps.{ShowIs, OnlyTheBank, StartsVoices, events_of, frames_of, if_edited, if_started}
 use Rattle.live_sessions.specs.Steps.{if_given, block_if, after_frames, started_with}
 use Rattle.live_sessions.specs.Turns.{RequestResult, LineIs, Turn, answered, events_in, frames_in, bytes_in, AreTurns}
-use Rattle.live_sessions.proofs.Turning.{nothing_done}
+use Rattle.live_sessions.proofs.AnsweredLines.{nothing_done}
 
 -- ---- one request
 
@@ -34,14 +34,14 @@ use Rattle.live_sessions.proofs.Turning.{nothing_done}
 record RendersAs (old new : LiveState) (b : Parts) (events : List Event) (frames : List ℤ) : Type 0 where
   bank : Parts
   here : bank_now new.session ≡ Some bank
-  front : slice_get new.session.banks 0 ≡ slice_get old.session.banks 0
+  first_bank : slice_get new.session.banks 0 ≡ slice_get old.session.banks 0
   blocks_are : (es : List Event) → blocks b old.player (events ++ es) ≡ frames ++ blocks bank new.player es
 
-hears_nothing : (old new : LiveState) (b : Parts) → bank_now old.session ≡ Some b → new ≡ old → RendersAs old new b [] []
-hears_nothing old new b here e = record {
+renders_nothing : (old new : LiveState) (b : Parts) → bank_now old.session ≡ Some b → new ≡ old → RendersAs old new b [] []
+renders_nothing old new b here e = record {
   bank = b;
   here = ap (λ (s : LiveState). bank_now s.session) e ∙ here;
-  front = ap (λ (s : LiveState). slice_get s.session.banks 0) e;
+  first_bank = ap (λ (s : LiveState). slice_get s.session.banks 0) e;
   blocks_are = λ es. ap (λ (s : LiveState). blocks b s.player es) (sym e);
 }
 
@@ -49,13 +49,13 @@ edited_blocks : (b c : Parts) (ps : List PlayingVoice) (es : List Event) → blo
 unfolding blocks
 edited_blocks b c ps es = refl
 
-hears_edit : (old new : LiveState) (b c : Parts) → bank_now new.session ≡ Some c
+bank_change_renders : (old new : LiveState) (b c : Parts) → bank_now new.session ≡ Some c
     → slice_get new.session.banks 0 ≡ slice_get old.session.banks 0 → OnlyTheBank old new
     → RendersAs old new b (if_edited answer.Done new) []
-hears_edit old new b c here front only = record {
+bank_change_renders old new b c here first_bank only = record {
   bank = c;
   here = here;
-  front = front;
+  first_bank = first_bank;
   blocks_are = λ es.
       ap (λ (o : Option Parts). blocks b old.player (option_map_or (λ (d : Parts). Edited d ∷ []) o [] ++ es)) here
       ∙ edited_blocks b c old.player es
@@ -84,48 +84,48 @@ now_edited old new e h =
     ap bank_now h.changed ∙ get_pushed (take (old.index + 1) old.banks) (old.index + 1) (raw h.bank e) long
 
 -- truncating a list after a bank keeps its first bank
-front_kept : (banks : List Parts) (index : ℕ) (c d : Parts) → slice_get banks index ≡ Some d
+first_bank_kept : (banks : List Parts) (index : ℕ) (c d : Parts) → slice_get banks index ≡ Some d
     → slice_get (take (index + 1) banks ++ c ∷ []) 0 ≡ slice_get banks 0
-front_kept [] index c d h = absurd cc
-front_kept (x ∷ banks) index c d h =
+first_bank_kept [] index c d h = absurd cc
+first_bank_kept (x ∷ banks) index c d h =
     ap (λ (n : ℕ). slice_get (take n (x ∷ banks) ++ c ∷ []) 0) (let e : index + 1 ≡ suc index = omega arith in e)
 
-hears_edited : (old new : LiveState) (b : Parts) (e : Edit) → EditIs old e answer.Done new
+done_edit_renders : (old new : LiveState) (b : Parts) (e : Edit) → EditIs old e answer.Done new
     → RendersAs old new b (if_edited answer.Done new) []
-hears_edited old new b e h =
-    hears_edit old new b (raw h.0.bank e) (now_edited old.session new.session e h.0)
+done_edit_renders old new b e h =
+    bank_change_renders old new b (raw h.0.bank e) (now_edited old.session new.session e h.0)
     (ap (λ (s : History). slice_get s.banks 0) h.0.changed
-    ∙ front_kept old.session.banks old.session.index (raw h.0.bank e) h.0.bank h.0.here)
+    ∙ first_bank_kept old.session.banks old.session.index (raw h.0.bank e) h.0.bank h.0.here)
     h.1
 
-hears_undone : (old new : LiveState) (b : Parts) → UndoIs old answer.Done new
+done_undo_renders : (old new : LiveState) (b : Parts) → UndoIs old answer.Done new
     → RendersAs old new b (if_edited answer.Done new) []
-hears_undone old new b h =
+done_undo_renders old new b h =
     let got : (x : Parts) × (slice_get new.session.banks new.session.index ≡ Some x) =
     get_within new.session.banks new.session.index
     (let n : new.session.index + 1 < length new.session.banks = h.0.next in omega arith) in
-    hears_edit old new b got.0 got.1 (sym (ap (λ (s : History). slice_get s.banks 0) h.0.moved)) h.1
+    bank_change_renders old new b got.0 got.1 (sym (ap (λ (s : History). slice_get s.banks 0) h.0.moved)) h.1
 
-hears_redone : (old new : LiveState) (b : Parts) → RedoIs old answer.Done new
+done_redo_renders : (old new : LiveState) (b : Parts) → RedoIs old answer.Done new
     → RendersAs old new b (if_edited answer.Done new) []
-hears_redone old new b h =
+done_redo_renders old new b h =
     let got : (x : Parts) × (slice_get old.session.banks (old.session.index + 1) ≡ Some x) =
     get_within old.session.banks (old.session.index + 1) h.0.next in
-    hears_edit old new b got.0 (ap bank_now h.0.moved ∙ got.1) (ap (λ (s : History). slice_get s.banks 0) h.0.moved) h.1
+    bank_change_renders old new b got.0 (ap bank_now h.0.moved ∙ got.1) (ap (λ (s : History). slice_get s.banks 0) h.0.moved) h.1
 
 started_blocks : (b : Parts) (n : Numbers) (ps : List PlayingVoice) (es : List Event)
     → blocks b ps (Started n ∷ es) ≡ blocks b (after_start ps (note_voices b n)) es
 unfolding blocks
 started_blocks b n ps es = refl
 
-hears_note : (old new : LiveState) (b : Parts) (n : Numbers) (voices : ℕ) → bank_now old.session ≡ Some b
+started_note_renders : (old new : LiveState) (b : Parts) (n : Numbers) (voices : ℕ) → bank_now old.session ≡ Some b
     → StartsVoices old n voices new → RendersAs old new b (Started n ∷ []) []
-hears_note old new b n voices here h =
+started_note_renders old new b n voices here h =
     let same : b ≡ h.bank = (let e : Some b ≡ Some h.bank = sym here ∙ h.here in cc) in
     record {
       bank = b;
       here = ap (λ (s : LiveState). bank_now s.session) h.plays ∙ here;
-      front = ap (λ (s : LiveState). slice_get s.session.banks 0) h.plays;
+      first_bank = ap (λ (s : LiveState). slice_get s.session.banks 0) h.plays;
       blocks_are = λ es.
           started_blocks b n old.player es
           ∙ ap (λ (c : Parts). blocks b (after_start old.player (note_voices c n)) es) same
@@ -137,166 +137,166 @@ given_blocks : (b : Parts) (m : ℕ) (ps : List PlayingVoice) (es : List Event)
 unfolding blocks
 given_blocks b m ps es = refl
 
-hears_frames : (old new : LiveState) (b : Parts) (m : ℕ) → bank_now old.session ≡ Some b → new ≡ after_frames old m
+done_frames_render : (old new : LiveState) (b : Parts) (m : ℕ) → bank_now old.session ≡ Some b → new ≡ after_frames old m
     → RendersAs old new b (Given m ∷ []) (block old.player m)
-hears_frames old new b m here e = record {
+done_frames_render old new b m here e = record {
   bank = b;
   here = ap (λ (s : LiveState). bank_now s.session) e ∙ here;
-  front = ap (λ (s : LiveState). slice_get s.session.banks 0) e;
+  first_bank = ap (λ (s : LiveState). slice_get s.session.banks 0) e;
   blocks_are =
       λ es. given_blocks b m old.player es ∙ ap (λ (s : LiveState). block old.player m ++ blocks b s.player es) (sym e);
 }
 
-edit_heard : (old new : LiveState) (b : Parts) (e : Edit) (a : Answer) → bank_now old.session ≡ Some b
+edit_renders : (old new : LiveState) (b : Parts) (e : Edit) (a : Answer) → bank_now old.session ≡ Some b
     → EditIs old e a new → RendersAs old new b (if_edited a new) []
-edit_heard old new b e answer.Done here h = hears_edited old new b e h
-edit_heard old new b e (answer.Started k) here h = absurd h
-edit_heard old new b e (answer.Refused why) here h = hears_nothing old new b here h.1
-edit_heard old new b e answer.NotNeutral here h = absurd h
-edit_heard old new b e answer.TooManyFrames here h = absurd h
-edit_heard old new b e (answer.Fault f) here h = absurd h
-edit_heard old new b e answer.OutOfMemory here h = absurd h
-edit_heard old new b e (answer.WriteFault path n) here h = absurd h
-edit_heard old new b e (answer.Rejected path f) here h = absurd h
+edit_renders old new b e answer.Done here h = done_edit_renders old new b e h
+edit_renders old new b e (answer.Started k) here h = absurd h
+edit_renders old new b e (answer.Refused why) here h = renders_nothing old new b here h.1
+edit_renders old new b e answer.NotNeutral here h = absurd h
+edit_renders old new b e answer.TooManyFrames here h = absurd h
+edit_renders old new b e (answer.Fault f) here h = absurd h
+edit_renders old new b e answer.OutOfMemory here h = absurd h
+edit_renders old new b e (answer.WriteFault path n) here h = absurd h
+edit_renders old new b e (answer.Rejected path f) here h = absurd h
 
-neutral_heard : (old new : LiveState) (b : Parts) (e : Edit) (a : Answer) → bank_now old.session ≡ Some b
+neutral_edit_renders : (old new : LiveState) (b : Parts) (e : Edit) (a : Answer) → bank_now old.session ≡ Some b
     → NeutralIs old e a new → RendersAs old new b (if_edited a new) []
-neutral_heard old new b e answer.Done here h = edit_heard old new b e answer.Done here h.1
-neutral_heard old new b e (answer.Started k) here h = edit_heard old new b e (answer.Started k) here h.1
-neutral_heard old new b e (answer.Refused why) here h = edit_heard old new b e (answer.Refused why) here h.1
-neutral_heard old new b e answer.NotNeutral here h = hears_nothing old new b here h.1
-neutral_heard old new b e answer.TooManyFrames here h = edit_heard old new b e answer.TooManyFrames here h.1
-neutral_heard old new b e (answer.Fault f) here h = edit_heard old new b e (answer.Fault f) here h.1
-neutral_heard old new b e answer.OutOfMemory here h = edit_heard old new b e answer.OutOfMemory here h.1
-neutral_heard old new b e (answer.WriteFault path n) here h = edit_heard old new b e (answer.WriteFault path n) here h.1
-neutral_heard old new b e (answer.Rejected path f) here h = edit_heard old new b e (answer.Rejected path f) here h.1
+neutral_edit_renders old new b e answer.Done here h = edit_renders old new b e answer.Done here h.1
+neutral_edit_renders old new b e (answer.Started k) here h = edit_renders old new b e (answer.Started k) here h.1
+neutral_edit_renders old new b e (answer.Refused why) here h = edit_renders old new b e (answer.Refused why) here h.1
+neutral_edit_renders old new b e answer.NotNeutral here h = renders_nothing old new b here h.1
+neutral_edit_renders old new b e answer.TooManyFrames here h = edit_renders old new b e answer.TooManyFrames here h.1
+neutral_edit_renders old new b e (answer.Fault f) here h = edit_renders old new b e (answer.Fault f) here h.1
+neutral_edit_renders old new b e answer.OutOfMemory here h = edit_renders old new b e answer.OutOfMemory here h.1
+neutral_edit_renders old new b e (answer.WriteFault path n) here h = edit_renders old new b e (answer.WriteFault path n) here h.1
+neutral_edit_renders old new b e (answer.Rejected path f) here h = edit_renders old new b e (answer.Rejected path f) here h.1
 
-undo_heard : (old new : LiveState) (b : Parts) (a : Answer) → bank_now old.session ≡ Some b → UndoIs old a new
+undo_renders : (old new : LiveState) (b : Parts) (a : Answer) → bank_now old.session ≡ Some b → UndoIs old a new
     → RendersAs old new b (if_edited a new) []
-undo_heard old new b answer.Done here h = hears_undone old new b h
-undo_heard old new b (answer.Started k) here h = absurd h
-undo_heard old new b (answer.Refused why) here h = hears_nothing old new b here h.1
-undo_heard old new b answer.NotNeutral here h = absurd h
-undo_heard old new b answer.TooManyFrames here h = absurd h
-undo_heard old new b (answer.Fault f) here h = absurd h
-undo_heard old new b answer.OutOfMemory here h = absurd h
-undo_heard old new b (answer.WriteFault path n) here h = absurd h
-undo_heard old new b (answer.Rejected path f) here h = absurd h
+undo_renders old new b answer.Done here h = done_undo_renders old new b h
+undo_renders old new b (answer.Started k) here h = absurd h
+undo_renders old new b (answer.Refused why) here h = renders_nothing old new b here h.1
+undo_renders old new b answer.NotNeutral here h = absurd h
+undo_renders old new b answer.TooManyFrames here h = absurd h
+undo_renders old new b (answer.Fault f) here h = absurd h
+undo_renders old new b answer.OutOfMemory here h = absurd h
+undo_renders old new b (answer.WriteFault path n) here h = absurd h
+undo_renders old new b (answer.Rejected path f) here h = absurd h
 
-redo_heard : (old new : LiveState) (b : Parts) (a : Answer) → bank_now old.session ≡ Some b → RedoIs old a new
+redo_renders : (old new : LiveState) (b : Parts) (a : Answer) → bank_now old.session ≡ Some b → RedoIs old a new
     → RendersAs old new b (if_edited a new) []
-redo_heard old new b answer.Done here h = hears_redone old new b h
-redo_heard old new b (answer.Started k) here h = absurd h
-redo_heard old new b (answer.Refused why) here h = hears_nothing old new b here h.1
-redo_heard old new b answer.NotNeutral here h = absurd h
-redo_heard old new b answer.TooManyFrames here h = absurd h
-redo_heard old new b (answer.Fault f) here h = absurd h
-redo_heard old new b answer.OutOfMemory here h = absurd h
-redo_heard old new b (answer.WriteFault path n) here h = absurd h
-redo_heard old new b (answer.Rejected path f) here h = absurd h
+redo_renders old new b answer.Done here h = done_redo_renders old new b h
+redo_renders old new b (answer.Started k) here h = absurd h
+redo_renders old new b (answer.Refused why) here h = renders_nothing old new b here h.1
+redo_renders old new b answer.NotNeutral here h = absurd h
+redo_renders old new b answer.TooManyFrames here h = absurd h
+redo_renders old new b (answer.Fault f) here h = absurd h
+redo_renders old new b answer.OutOfMemory here h = absurd h
+redo_renders old new b (answer.WriteFault path n) here h = absurd h
+redo_renders old new b (answer.Rejected path f) here h = absurd h
 
-note_heard : (old new : LiveState) (b : Parts) (n : Numbers) (a : Answer) → bank_now old.session ≡ Some b
+note_renders : (old new : LiveState) (b : Parts) (n : Numbers) (a : Answer) → bank_now old.session ≡ Some b
     → NoteIs old n a new → RendersAs old new b (if_started n a) []
-note_heard old new b m answer.Done here h = absurd h
-note_heard old new b m (answer.Started k) here h = hears_note old new b m k here h
-note_heard old new b m (answer.Refused why) here h = absurd h
-note_heard old new b m answer.NotNeutral here h = absurd h
-note_heard old new b m answer.TooManyFrames here h = absurd h
-note_heard old new b m (answer.Fault f) here h = absurd h
-note_heard old new b m answer.OutOfMemory here h = hears_nothing old new b here h
-note_heard old new b m (answer.WriteFault path n) here h = absurd h
-note_heard old new b m (answer.Rejected path f) here h = absurd h
+note_renders old new b m answer.Done here h = absurd h
+note_renders old new b m (answer.Started k) here h = started_note_renders old new b m k here h
+note_renders old new b m (answer.Refused why) here h = absurd h
+note_renders old new b m answer.NotNeutral here h = absurd h
+note_renders old new b m answer.TooManyFrames here h = absurd h
+note_renders old new b m (answer.Fault f) here h = absurd h
+note_renders old new b m answer.OutOfMemory here h = renders_nothing old new b here h
+note_renders old new b m (answer.WriteFault path n) here h = absurd h
+note_renders old new b m (answer.Rejected path f) here h = absurd h
 
-frames_heard : (old new : LiveState) (b : Parts) (m : ℕ) (a : Answer) → bank_now old.session ≡ Some b
+frames_render : (old new : LiveState) (b : Parts) (m : ℕ) (a : Answer) → bank_now old.session ≡ Some b
     → FramesAre old m a new → RendersAs old new b (if_given m a) (block_if old m a)
-frames_heard old new b m answer.Done here h = hears_frames old new b m here h.1
-frames_heard old new b m (answer.Started k) here h = absurd h
-frames_heard old new b m (answer.Refused why) here h = absurd h
-frames_heard old new b m answer.NotNeutral here h = absurd h
-frames_heard old new b m answer.TooManyFrames here h = hears_nothing old new b here h.1
-frames_heard old new b m (answer.Fault f) here h = absurd h
-frames_heard old new b m answer.OutOfMemory here h = absurd h
-frames_heard old new b m (answer.WriteFault path n) here h = absurd h
-frames_heard old new b m (answer.Rejected path f) here h = absurd h
+frames_render old new b m answer.Done here h = done_frames_render old new b m here h.1
+frames_render old new b m (answer.Started k) here h = absurd h
+frames_render old new b m (answer.Refused why) here h = absurd h
+frames_render old new b m answer.NotNeutral here h = absurd h
+frames_render old new b m answer.TooManyFrames here h = renders_nothing old new b here h.1
+frames_render old new b m (answer.Fault f) here h = absurd h
+frames_render old new b m answer.OutOfMemory here h = absurd h
+frames_render old new b m (answer.WriteFault path n) here h = absurd h
+frames_render old new b m (answer.Rejected path f) here h = absurd h
 
-tell_heard : (old new : LiveState) (b : Parts) (a : Answer) → bank_now old.session ≡ Some b → ShowIs old a new
+show_renders : (old new : LiveState) (b : Parts) (a : Answer) → bank_now old.session ≡ Some b → ShowIs old a new
     → RendersAs old new b [] []
-tell_heard old new b answer.Done here h = hears_nothing old new b here h
-tell_heard old new b (answer.Started k) here h = absurd h
-tell_heard old new b (answer.Refused why) here h = absurd h
-tell_heard old new b answer.NotNeutral here h = absurd h
-tell_heard old new b answer.TooManyFrames here h = absurd h
-tell_heard old new b (answer.Fault f) here h = absurd h
-tell_heard old new b answer.OutOfMemory here h = absurd h
-tell_heard old new b (answer.WriteFault path n) here h = absurd h
-tell_heard old new b (answer.Rejected path f) here h = absurd h
+show_renders old new b answer.Done here h = renders_nothing old new b here h
+show_renders old new b (answer.Started k) here h = absurd h
+show_renders old new b (answer.Refused why) here h = absurd h
+show_renders old new b answer.NotNeutral here h = absurd h
+show_renders old new b answer.TooManyFrames here h = absurd h
+show_renders old new b (answer.Fault f) here h = absurd h
+show_renders old new b answer.OutOfMemory here h = absurd h
+show_renders old new b (answer.WriteFault path n) here h = absurd h
+show_renders old new b (answer.Rejected path f) here h = absurd h
 
-save_heard : (old new : LiveState) (b : Parts) (paths : Paths) (a : Answer) → bank_now old.session ≡ Some b
+save_renders : (old new : LiveState) (b : Parts) (paths : Paths) (a : Answer) → bank_now old.session ≡ Some b
     → SaveIs old paths a new → RendersAs old new b [] []
-save_heard old new b paths answer.Done here h = hears_nothing old new b here h.1
-save_heard old new b paths (answer.Started k) here h = absurd h
-save_heard old new b paths (answer.Refused why) here h = absurd h
-save_heard old new b paths answer.NotNeutral here h = absurd h
-save_heard old new b paths answer.TooManyFrames here h = absurd h
-save_heard old new b paths (answer.Fault f) here h = absurd h
-save_heard old new b paths answer.OutOfMemory here h = hears_nothing old new b here h
-save_heard old new b paths (answer.WriteFault path n) here h = hears_nothing old new b here h.1
-save_heard old new b paths (answer.Rejected path f) here h = hears_nothing old new b here h.1
+save_renders old new b paths answer.Done here h = renders_nothing old new b here h.1
+save_renders old new b paths (answer.Started k) here h = absurd h
+save_renders old new b paths (answer.Refused why) here h = absurd h
+save_renders old new b paths answer.NotNeutral here h = absurd h
+save_renders old new b paths answer.TooManyFrames here h = absurd h
+save_renders old new b paths (answer.Fault f) here h = absurd h
+save_renders old new b paths answer.OutOfMemory here h = renders_nothing old new b here h
+save_renders old new b paths (answer.WriteFault path n) here h = renders_nothing old new b here h.1
+save_renders old new b paths (answer.Rejected path f) here h = renders_nothing old new b here h.1
 
-request_heard : (old new : LiveState) (b : Parts) (r : Request) (a : Answer) → bank_now old.session ≡ Some b
+request_renders : (old new : LiveState) (b : Parts) (r : Request) (a : Answer) → bank_now old.session ≡ Some b
     → RequestIs old r a new → RendersAs old new b (events_of r a new) (frames_of old r a)
-request_heard old new b (asks.Edit e) a here h = edit_heard old new b e a here h
-request_heard old new b (asks.Neutral e) a here h = neutral_heard old new b e a here h
-request_heard old new b asks.Undo a here h = undo_heard old new b a here h
-request_heard old new b asks.Redo a here h = redo_heard old new b a here h
-request_heard old new b (asks.Note n) a here h = note_heard old new b n a here h
-request_heard old new b (asks.Frames m) a here h = frames_heard old new b m a here h
-request_heard old new b (asks.Save paths) a here h = save_heard old new b paths a here h
-request_heard old new b asks.Show a here h = tell_heard old new b a here h
-request_heard old new b asks.Help a here h = tell_heard old new b a here h
-request_heard old new b asks.Quit a here h = tell_heard old new b a here h
+request_renders old new b (asks.Edit e) a here h = edit_renders old new b e a here h
+request_renders old new b (asks.Neutral e) a here h = neutral_edit_renders old new b e a here h
+request_renders old new b asks.Undo a here h = undo_renders old new b a here h
+request_renders old new b asks.Redo a here h = redo_renders old new b a here h
+request_renders old new b (asks.Note n) a here h = note_renders old new b n a here h
+request_renders old new b (asks.Frames m) a here h = frames_render old new b m a here h
+request_renders old new b (asks.Save paths) a here h = save_renders old new b paths a here h
+request_renders old new b asks.Show a here h = show_renders old new b a here h
+request_renders old new b asks.Help a here h = show_renders old new b a here h
+request_renders old new b asks.Quit a here h = show_renders old new b a here h
 
 -- ---- one line
 
-hears_as : (old new : LiveState) (b : Parts) (events more : List Event) (frames others : List ℤ) → more ≡ events
+renders_equal : (old new : LiveState) (b : Parts) (events more : List Event) (frames others : List ℤ) → more ≡ events
     → others ≡ frames → RendersAs old new b events frames → RendersAs old new b more others
-hears_as old new b events more frames others e f h =
+renders_equal old new b events more frames others e f h =
     subst (λ (xs : List Event). RendersAs old new b xs others) (sym e)
     (subst (λ (ys : List ℤ). RendersAs old new b events ys) (sym f) h)
 
-abbrev LineHears : RequestResult → LiveState → Option Answer → LiveState → Parts → Type 0
-LineHears x old oa new b = RendersAs old new b (answered x oa (λ r a. events_of r a new)) (answered x oa (frames_of old))
+abbrev LineRendersAs : RequestResult → LiveState → Option Answer → LiveState → Parts → Type 0
+LineRendersAs x old oa new b = RendersAs old new b (answered x oa (λ r a. events_of r a new)) (answered x oa (frames_of old))
 
-memory_heard : (x : RequestResult) (old new : LiveState) (b : Parts) → bank_now old.session ≡ Some b → new ≡ old
-    → LineHears x old (Some answer.OutOfMemory) new b
-memory_heard (Ok None) old new b here e = hears_nothing old new b here e
-memory_heard (Ok (Some r)) old new b here e =
-    let none = nothing_done old r new in hears_as old new b [] _ [] _ none.3 none.1 (hears_nothing old new b here e)
-memory_heard (Err f) old new b here e = hears_nothing old new b here e
+out_of_memory_renders : (x : RequestResult) (old new : LiveState) (b : Parts) → bank_now old.session ≡ Some b → new ≡ old
+    → LineRendersAs x old (Some answer.OutOfMemory) new b
+out_of_memory_renders (Ok None) old new b here e = renders_nothing old new b here e
+out_of_memory_renders (Ok (Some r)) old new b here e =
+    let none = nothing_done old r new in renders_equal old new b [] _ [] _ none.3 none.1 (renders_nothing old new b here e)
+out_of_memory_renders (Err f) old new b here e = renders_nothing old new b here e
 
-line_heard : (x : RequestResult) (old new : LiveState) (oa : Option Answer) (b : Parts) → bank_now old.session ≡ Some b
-    → LineIs x old oa new → LineHears x old oa new b
-line_heard x old new None b here h =
-    subst (λ (y : RequestResult). LineHears y old None new b) (sym h.0) (hears_nothing old new b here h.1)
-line_heard x old new (Some a) b here (inr h) =
-    subst (λ (c : Answer). LineHears x old (Some c) new b) (sym h.0) (memory_heard x old new b here h.1)
-line_heard (Ok None) old new (Some a) b here (inl h) = absurd h
-line_heard (Ok (Some r)) old new (Some a) b here (inl h) = request_heard old new b r a here h
-line_heard (Err f) old new (Some a) b here (inl h) = hears_nothing old new b here h.1
+line_renders : (x : RequestResult) (old new : LiveState) (oa : Option Answer) (b : Parts) → bank_now old.session ≡ Some b
+    → LineIs x old oa new → LineRendersAs x old oa new b
+line_renders x old new None b here h =
+    subst (λ (y : RequestResult). LineRendersAs y old None new b) (sym h.0) (renders_nothing old new b here h.1)
+line_renders x old new (Some a) b here (inr h) =
+    subst (λ (c : Answer). LineRendersAs x old (Some c) new b) (sym h.0) (out_of_memory_renders x old new b here h.1)
+line_renders (Ok None) old new (Some a) b here (inl h) = absurd h
+line_renders (Ok (Some r)) old new (Some a) b here (inl h) = request_renders old new b r a here h
+line_renders (Err f) old new (Some a) b here (inl h) = renders_nothing old new b here h.1
 
 -- ---- all lines
 
-none_heard : (b : Parts) (ps : List PlayingVoice) → [] ≡ blocks b ps []
+no_events_render : (b : Parts) (ps : List PlayingVoice) → [] ≡ blocks b ps []
 unfolding blocks
-none_heard b ps = refl
+no_events_render b ps = refl
 
-turns_heard : (ts : List Turn) (s last : LiveState) (b : Parts) → bank_now s.session ≡ Some b → AreTurns s ts last
+turns_render : (ts : List Turn) (s last : LiveState) (b : Parts) → bank_now s.session ≡ Some b → AreTurns s ts last
     → flat_map frames_in ts ≡ blocks b s.player (flat_map events_in ts)
-turns_heard [] s last b here h = none_heard b s.player
-turns_heard (t ∷ ts) s last b here h =
+turns_render [] s last b here h = no_events_render b s.player
+turns_render (t ∷ ts) s last b here h =
     let k : RendersAs t.old t.new b (events_in t) (frames_in t) =
-    line_heard _ t.old t.new t.answer b (ap (λ (u : LiveState). bank_now u.session) h.0 ∙ here) h.1 in
-    ap (λ (xs : List ℤ). frames_in t ++ xs) (turns_heard ts t.new last k.bank k.here h.2)
+    line_renders _ t.old t.new t.answer b (ap (λ (u : LiveState). bank_now u.session) h.0 ∙ here) h.1 in
+    ap (λ (xs : List ℤ). frames_in t ++ xs) (turns_render ts t.new last k.bank k.here h.2)
     ∙ sym (k.blocks_are (flat_map events_in ts))
     ∙ ap (λ (u : LiveState). blocks b u.player (flat_map events_in (t ∷ ts))) h.0
 
@@ -305,8 +305,8 @@ pub first_stays : (ts : List Turn) (s last : LiveState) (b : Parts) → bank_now
 first_stays [] s last b here h = ap (λ (u : LiveState). slice_get u.session.banks 0) h
 first_stays (t ∷ ts) s last b here h =
     let k : RendersAs t.old t.new b (events_in t) (frames_in t) =
-    line_heard _ t.old t.new t.answer b (ap (λ (u : LiveState). bank_now u.session) h.0 ∙ here) h.1 in
-    first_stays ts t.new last k.bank k.here h.2 ∙ k.front ∙ ap (λ (u : LiveState). slice_get u.session.banks 0) h.0
+    line_renders _ t.old t.new t.answer b (ap (λ (u : LiveState). bank_now u.session) h.0 ∙ here) h.1 in
+    first_stays ts t.new last k.bank k.here h.2 ∙ k.first_bank ∙ ap (λ (u : LiveState). slice_get u.session.banks 0) h.0
 
 bytes_of_frames : (ts : List Turn) → flat_map bytes_in ts ≡ flat_map sample_bytes (flat_map frames_in ts)
 bytes_of_frames [] = refl
@@ -319,4 +319,4 @@ pub frames_follow_events : (b : Parts) (ts : List Turn) (last : LiveState) → A
 frames_follow_events b ts last h =
     bytes_of_frames ts
     ∙ ap (flat_map sample_bytes)
-    (turns_heard ts (started_with b) last b refl h ∙ blocks_heard b (flat_map events_in ts))
+    (turns_render ts (started_with b) last b refl h ∙ blocks_heard b (flat_map events_in ts))

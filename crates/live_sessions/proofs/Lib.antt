@@ -1,10 +1,10 @@
 pub mod Counted
 pub mod Blocks
 pub mod Backward
-pub mod Sending
-pub mod Doing
+pub mod WrittenAnswers
+pub mod RequestLaws
 pub mod LineLaws
-pub mod Turning
+pub mod AnsweredLines
 pub mod Ending
 pub mod FrameLaws
 pub mod UndoLists

@@ -26,31 +26,31 @@ drop_step : (x : ℕ) (xs : List ℕ) (b : Bool) → is_feed x ≡ b → drop_th
 drop_step x xs b e = ap (λ (t : Bool). cond t xs (drop_through 10 xs)) e
 
 -- the bytes up to the first line feed are the first line
-record Cut (xs : List ℕ) : Type 0 where
+record FirstLine (xs : List ℕ) : Type 0 where
   line : List ℕ
-  taken : lines_of (take_through 10 xs) ≡ line ∷ []
+  prefix_is : lines_of (take_through 10 xs) ≡ line ∷ []
   rest : lines_of xs ≡ line ∷ lines_of (drop_through 10 xs)
 
-cut_at : (x : ℕ) (xs : List ℕ) (b : Bool) → is_feed x ≡ b → Cut (x ∷ xs)
-cut_at x xs true e = record {
+first_line_at : (x : ℕ) (xs : List ℕ) (b : Bool) → is_feed x ≡ b → FirstLine (x ∷ xs)
+first_line_at x xs true e = record {
   line = [];
-  taken = ap lines_of (take_step x xs true e) ∙ lines_step x [] true e ∙ ap (λ (ls : List (List ℕ)). [] ∷ ls) no_lines;
+  prefix_is = ap lines_of (take_step x xs true e) ∙ lines_step x [] true e ∙ ap (λ (ls : List (List ℕ)). [] ∷ ls) no_lines;
   rest = lines_step x xs true e ∙ ap (λ (ys : List ℕ). [] ∷ lines_of ys) (sym (drop_step x xs true e));
 }
-cut_at x [] false e = record {
+first_line_at x [] false e = record {
   line = x ∷ [];
-  taken = ap lines_of (take_step x [] false e) ∙ lines_step x [] false e ∙ ap (onto x) no_lines;
+  prefix_is = ap lines_of (take_step x [] false e) ∙ lines_step x [] false e ∙ ap (onto x) no_lines;
   rest =
       lines_step x [] false e ∙ ap (onto x) no_lines
       ∙ ap (λ (ls : List (List ℕ)). (x ∷ []) ∷ ls) (sym (ap lines_of (drop_step x [] false e) ∙ no_lines));
 }
-cut_at x (y ∷ ys) false e =
-    let c : Cut (y ∷ ys) = cut_at y ys (is_feed y) refl in
+first_line_at x (y ∷ ys) false e =
+    let c : FirstLine (y ∷ ys) = first_line_at y ys (is_feed y) refl in
     record {
       line = x ∷ c.line;
-      taken =
+      prefix_is =
           ap lines_of (take_step x (y ∷ ys) false e) ∙ lines_step x (take_through 10 (y ∷ ys)) false e
-          ∙ ap (onto x) c.taken;
+          ∙ ap (onto x) c.prefix_is;
       rest =
           lines_step x (y ∷ ys) false e ∙ ap (onto x) c.rest
           ∙ ap (λ (zs : List ℕ). (x ∷ c.line) ∷ lines_of zs) (sym (drop_step x (y ∷ ys) false e));
@@ -64,9 +64,9 @@ read_one None new bytes some h d line f = tt
 read_one (Some []) new bytes some h d line f = absurd (some h)
 read_one (Some (x ∷ xs)) None bytes some h d line f = absurd cc
 read_one (Some (x ∷ xs)) (Some left) bytes some h d line f =
-    let c : Cut (x ∷ xs) = cut_at x xs (is_feed x) refl in
+    let c : FirstLine (x ∷ xs) = first_line_at x xs (is_feed x) refl in
     let P : List (List ℕ) → Type 0 = λ ls. IsFirst ls line in
-    let is : line ≡ c.line = subst P (ap lines_of h ∙ c.taken) f in
+    let is : line ≡ c.line = subst P (ap lines_of h ∙ c.prefix_is) f in
     let left_is : left ≡ drop_through 10 (x ∷ xs) = cc in
     c.rest ∙ (λ i. sym is i ∷ lines_of (sym left_is i))
 

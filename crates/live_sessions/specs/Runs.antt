@@ -116,7 +116,7 @@ Runs file old new failure (Err (fault.Pcm n)) = PlaysBank file old new failure (
 pub record Answers (counts : Counts) (line : List ℕ) (live live_new : LiveState) (old new : Streams) (ending : Bool) : Type
     0 where
   pub turn : Turn
-  pub said : turn.line ≡ line
+  pub line_is : turn.line ≡ line
   pub begins : turn.old ≡ live
   pub leaves : turn.new ≡ live_new
   pub passes : Passes counts turn old new
@@ -125,25 +125,25 @@ pub record Answers (counts : Counts) (line : List ℕ) (live live_new : LiveStat
 -- a writer fails at this line
 pub record StopsLine (counts : Counts) (line : List ℕ) (live : LiveState) (old new : Streams) (why : LiveFault) : Type 0 where
   pub turn : Turn
-  pub said : turn.line ≡ line
+  pub line_is : turn.line ≡ line
   pub begins : turn.old ≡ live
   pub stops : StopsAt counts turn old new why
 
-abbrev pub AnswersOr : Counts → List ℕ → LiveState → LiveState → Streams → Streams → Result Next LiveFault → Type 0
-AnswersOr counts line live live_new old new (Ok n) = Answers counts line live live_new old new (is_last n)
-AnswersOr counts line live live_new old new (Err why) = StopsLine counts line live old new why
+abbrev pub IsLineResult : Counts → List ℕ → LiveState → LiveState → Streams → Streams → Result Next LiveFault → Type 0
+IsLineResult counts line live live_new old new (Ok n) = Answers counts line live live_new old new (is_last n)
+IsLineResult counts line live live_new old new (Err why) = StopsLine counts line live old new why
 
 -- the line was read before it was answered
-pub record GoesOn (counts : Counts) (live live_new : LiveState) (old new : Streams) : Type 0 where
+pub record Continues (counts : Counts) (live live_new : LiveState) (old new : Streams) : Type 0 where
   pub line : List ℕ
   pub input : Reads old.input new.input (line ∷ [])
   pub answers : Answers counts line live live_new old new false
 
 -- the result of the next line
-abbrev pub Goes : Counts → LiveState → LiveState → Streams → Streams → Option ErrorKind → Result Next LiveFault → Type 0
-Goes counts live live_new old new failure (Ok next.Line) = GoesOn counts live live_new old new
-Goes counts live live_new old new failure (Ok next.End) = EndsWell counts live old new
-Goes counts live live_new old new failure (Err why) = EndsBy counts live old new failure (Err why)
+abbrev pub IsNextLineResult : Counts → LiveState → LiveState → Streams → Streams → Option ErrorKind → Result Next LiveFault → Type 0
+IsNextLineResult counts live live_new old new failure (Ok next.Line) = Continues counts live live_new old new
+IsNextLineResult counts live live_new old new failure (Ok next.End) = EndsWell counts live old new
+IsNextLineResult counts live live_new old new failure (Err why) = EndsBy counts live old new failure (Err why)
 
 -- ---- how a line is read
 

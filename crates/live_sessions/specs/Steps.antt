@@ -189,7 +189,7 @@ pub record StopsInFrames (old : LiveState) (count : ℕ) (pcm pcm_new : Option (
   pub within : old.given + count ≤ MOST_FRAMES
   pub part : ℕ
   pub counted : written ≡ min (4 * old.given + part) (2 ^ 64 - 1)
-  pub front : part ≤ length (flat_map sample_bytes (block old.player count))
+  pub part_within : part ≤ length (flat_map sample_bytes (block old.player count))
   pub out : Appends pcm pcm_new (take part (flat_map sample_bytes (block old.player count)))
 
 abbrev pub FramesStop : LiveState → ℕ → Option (List ℕ) → Option (List ℕ) → LiveFault → Type 0

@@ -14,7 +14,7 @@ use show_listing::put_listing;
 use std::io::Write;
 
 /// Writes the text that answers a line, flushes, and returns whether the session continues. Allocates nothing.
-#[tactic(auto, using(crate::proofs::Sending::text_is_sent))]
+#[tactic(auto, using(crate::proofs::WrittenAnswers::text_is_written))]
 pub(crate) fn write_answer<A: Write>(
     live: &LiveState<'_>,
     counts: &Counts,
@@ -22,7 +22,7 @@ pub(crate) fn write_answer<A: Write>(
     answer: &Answer<'_>,
     answers: &mut A,
 ) -> Result<Next, LiveFault>
-    ensures sent { IsWritten (A.contents answers.old) (A.contents answers.new) (preamble counts.now live.now kind ++ answer_text answer.now) result }
+    ensures is_written { IsWritten (A.contents answers.old) (A.contents answers.new) (preamble counts.now live.now kind ++ answer_text answer.now) result }
     ensures next { IfOk result (λ next. next ≡ next_of kind) }
 {
     let mut output = Output::to(answers);
@@ -44,7 +44,7 @@ fn put_text<A: Write>(
 }
 
 // Puts the text before an answer.
-#[tactic(auto, using(crate::proofs::Sending::bank_is_listed, base_outputs::proofs::OutputLaws::puts_nothing))]
+#[tactic(auto, using(crate::proofs::WrittenAnswers::bank_is_listed, base_outputs::proofs::OutputLaws::puts_nothing))]
 fn put_preamble<A: Write>(
     live: &LiveState<'_>,
     counts: &Counts,

@@ -24,7 +24,7 @@ pub(crate) fn write_frames<P: Write>(
     count: u32,
     pcm: &mut P,
 ) -> Result<u64, WriteFault>
-    ensures sent { writing.Delivers (P.contents pcm.old) (P.contents pcm.new) (flat_map sample_bytes (block player.old count)) result }
+    ensures is_written { writing.Delivers (P.contents pcm.old) (P.contents pcm.new) (flat_map sample_bytes (block player.old count)) result }
     ensures played { player.new ≡ after_block player.old count }
 {
     let mut output = Output::to(pcm);

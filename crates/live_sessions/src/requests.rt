@@ -88,7 +88,7 @@ fn give_frames<P: Write>(
     pcm: &mut P,
 ) -> Result<Answer<'static>, LiveFault>
     ensures done { IfOk result (λ a. FramesAre live.old count a live.new) }
-    ensures sent { IfOk result (λ a. Appends (P.contents pcm.old) (P.contents pcm.new) (flat_map sample_bytes (block_if live.old count a))) }
+    ensures is_written { IfOk result (λ a. Appends (P.contents pcm.old) (P.contents pcm.new) (flat_map sample_bytes (block_if live.old count a))) }
     ensures stopped { IfErr result (λ fault. FramesStop live.old count (P.contents pcm.old) (P.contents pcm.new) fault) }
 {
     let given = u64::from(live.given) + u64::from(count);

@@ -3,7 +3,7 @@ ghost use Rattle.std.specs.Prelude.{◌≡◌, None};
 ghost use Rattle.script_tokens.specs.Lines.{lines_of};
 ghost use Rattle.live_lines.specs.Requests.{HasNoFeed};
 ghost use Rattle.live_sessions.specs.AnswerTexts.{failure_answer};
-ghost use Rattle.live_sessions.specs.Runs.{AnswersOr, Goes, IsFirst, IsReadFault, Plays, Runs};
+ghost use Rattle.live_sessions.specs.Runs.{IsLineResult, IsNextLineResult, IsFirst, IsReadFault, Plays, Runs};
 
 use crate::answering::write_answer;
 use crate::fault::LiveFault;
@@ -86,7 +86,7 @@ fn take_line<R: LineReader, A: Write, P: Write, S: Saves>(
     pcm: &mut P,
     host: &mut S,
 ) -> Result<Next, LiveFault>
-    ensures { Goes counts.now live.old live.new
+    ensures { IsNextLineResult counts.now live.old live.new
         (record { input = R.remaining input.old; answers = A.contents answers.old; pcm = P.contents pcm.old; saved = S.saved host.old })
         (record { input = R.remaining input.new; answers = A.contents answers.new; pcm = P.contents pcm.new; saved = S.saved host.new }) (R.failure input.new) result }
 {
@@ -136,7 +136,7 @@ fn answer_line<'a, A: Write, P: Write, S: Saves>(
     host: &mut S,
 ) -> Result<Next, LiveFault>
     requires { HasNoFeed line.now }
-    ensures { AnswersOr counts.now line.now live.old live.new
+    ensures { IsLineResult counts.now line.now live.old live.new
         (record { input = None; answers = A.contents answers.old; pcm = P.contents pcm.old; saved = S.saved host.old })
         (record { input = None; answers = A.contents answers.new; pcm = P.contents pcm.new; saved = S.saved host.new }) result }
 {

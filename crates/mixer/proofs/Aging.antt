@@ -60,9 +60,9 @@ pub added_on : (new was before this : ℤ) → new ≡ was +ℤ this → was ≡
 added_on new was before this e h = e ∙ ap (λ (z : ℤ). z +ℤ this) h
 
 -- the list after the first i elements
-front : {X : Type 0} (f : X → X) (xs ys : List X) (i : ℕ) → i ≤ length xs → ys ≡ map f (take i xs) ++ drop i xs
+aged_prefix : {X : Type 0} (f : X → X) (xs ys : List X) (i : ℕ) → i ≤ length xs → ys ≡ map f (take i xs) ++ drop i xs
     → take i ys ≡ map f (take i xs)
-front f xs ys i h e = grind (arith, common_steps)
+aged_prefix f xs ys i h e = grind (arith, common_steps)
 
 back : {X : Type 0} (f : X → X) (xs ys : List X) (i : ℕ) → i ≤ length xs → ys ≡ map f (take i xs) ++ drop i xs
     → drop i ys ≡ drop i xs
@@ -90,7 +90,7 @@ part_live f xs ys mid i n h e m =
     (λ j. drop ((let k : i + n - i ≡ n = omega arith in k) j) (back f xs ys i le e j)) ∙ drop-drop n i xs in
     let whole : map f (take (i + n) xs) ≡ map f (take i xs) ++ map f (take n (drop i xs)) =
     ap (map f) (take-add i n xs) ∙ map-append f (take i xs) (take n (drop i xs)) in
-    (λ j. front f xs ys i le e j ++ (mid_is j ++ rest j))
+    (λ j. aged_prefix f xs ys i le e j ++ (mid_is j ++ rest j))
     ∙ sym (append_assoc (map f (take i xs)) (map f (take n (drop i xs))) (drop (i + n) xs))
     ∙ ap (λ l. l ++ drop (i + n) xs) (sym whole)
 

@@ -64,19 +64,19 @@ pub length-middle : (left : ℕ) (xs : List ℤ) → left ≤ 256 → length xs 
 length-middle left xs le size =
     omega (arith, le, size, length-take (256 - (256 - left)) (drop (256 - left) xs), length-drop (256 - left) xs)
 
-lent : (n m k : ℕ) (xs : List ℤ) → k < m → get_or (take m (drop n xs)) k (pos 0) ≡ get_or xs (n + k) (pos 0)
-lent n m k xs l = grind (arith, common_steps)
+get_take_drop : (n m k : ℕ) (xs : List ℤ) → k < m → get_or (take m (drop n xs)) k (pos 0) ≡ get_or xs (n + k) (pos 0)
+get_take_drop n m k xs l = grind (arith, common_steps)
 
 pub sides_borrowed : (left : ℕ) (xs : List ℤ) (i : ℕ) → left ≤ 256 → i < 2 * left
     → get_or (take (512 - 2 * (256 - left)) (drop (2 * (256 - left)) xs)) i (pos 0)
     ≡ get_or xs (512 - 2 * left + i) (pos 0)
 sides_borrowed left xs i le l =
-    lent (2 * (256 - left)) (512 - 2 * (256 - left)) i xs (omega (arith, le, l))
+    get_take_drop (2 * (256 - left)) (512 - 2 * (256 - left)) i xs (omega (arith, le, l))
     ∙ ap (λ k. get_or xs k (pos 0)) (omega (arith, le))
 
 pub middle_borrowed : (left : ℕ) (xs : List ℤ) (k : ℕ) → left ≤ 256 → k < left
     → get_or (take (256 - (256 - left)) (drop (256 - left) xs)) k (pos 0) ≡ get_or xs (256 - left + k) (pos 0)
-middle_borrowed left xs k le l = lent (256 - left) (256 - (256 - left)) k xs (omega (arith, le, l))
+middle_borrowed left xs k le l = get_take_drop (256 - left) (256 - (256 - left)) k xs (omega (arith, le, l))
 
 -- ---- without remaining frames
 
@@ -214,20 +214,20 @@ unfolding playing_now
 none_playing a ps e = ap (λ n. filter is_sounding (map (rewound n) ps)) e ∙ ap (filter is_sounding) (rewound-none ps)
 
 -- all voices have gone back
-young_behind : (n m : ℕ) (ps : List PlayingVoice) → AllYounger m ps → AllYounger m (map (rewound n) ps)
+rewound_younger : (n m : ℕ) (ps : List PlayingVoice) → AllYounger m ps → AllYounger m (map (rewound n) ps)
 unfolding rewound
-young_behind n m ps young =
+rewound_younger n m ps young =
     All-map (λ (p : PlayingVoice). p.voice.age < m) (rewound n) ps
     (λ k d l. let g : (get_or ps k d).voice.age < m = young k d l in omega (arith, g))
 
-pub gone_back_ahead : (a b : Ahead) (ps : List PlayingVoice) → b.left ≡ 0 → IsAhead a ps
+pub rewound_ahead : (a b : Ahead) (ps : List PlayingVoice) → b.left ≡ 0 → IsAhead a ps
     → IsAhead b (map (rewound a.left) ps)
-gone_back_ahead a b ps e h = none_ahead b (map (rewound a.left) ps) e (young_behind a.left (2 ^ 33 + 256) ps h.young)
+rewound_ahead a b ps e h = none_ahead b (map (rewound a.left) ps) e (rewound_younger a.left (2 ^ 33 + 256) ps h.young)
 
-pub gone_back_playing : (a b : Ahead) (ps : List PlayingVoice) → b.left ≡ 0
+pub rewound_playing : (a b : Ahead) (ps : List PlayingVoice) → b.left ≡ 0
     → playing_now b (map (rewound a.left) ps) ≡ playing_now a ps
 unfolding playing_now
-gone_back_playing a b ps e = none_playing b (map (rewound a.left) ps) e
+rewound_playing a b ps e = none_playing b (map (rewound a.left) ps) e
 
 -- some voices are dropped, or none if frames remain
 pub silenced_ahead : (a : Ahead) (ps new : List PlayingVoice) → (0 < a.left → list_any has_class new ≡ false)
@@ -301,10 +301,10 @@ unfolding playing_now
 filled_playing a ps all = ap (filter is_sounding) (rewound-aged a.left ps) ∙ filter_all ps all
 
 -- the first of the remaining frames
-pub heard_first : (a : Ahead) (ps : List PlayingVoice) (k : ℕ)
+pub next_side_playing : (a : Ahead) (ps : List PlayingVoice) (k : ℕ)
     → next_side (map (rewound a.left) ps) k ≡ next_side (playing_now a ps) k
 unfolding playing_now
-heard_first a ps k = sym (next_sounding (map (rewound a.left) ps) k)
+next_side_playing a ps k = sym (next_sounding (map (rewound a.left) ps) k)
 
 -- voices that are over have been dropped
 pub dropped_playing : (a : Ahead) (ps : List PlayingVoice) → a.left ≡ 0

@@ -55,8 +55,8 @@ within-count b (n ∷ ns) =
 pub half_of : (m : ℕ) → 2 * m / 2 ≡ m
 half_of m = omega arith
 
-pub take_front : (k : ℕ) (xs ys : List ℤ) → length xs ≡ k → take k (xs ++ ys) ≡ xs
-take_front k xs ys e = grind (arith, common_steps)
+pub take_prefix : (k : ℕ) (xs ys : List ℤ) → length xs ≡ k → take k (xs ++ ys) ≡ xs
+take_prefix k xs ys e = grind (arith, common_steps)
 
 -- whole frames, as many as are counted
 pub rendered_fits : (b : Parts) (ns : List Numbers) (sides : List ℤ) → sides ≡ render b ns

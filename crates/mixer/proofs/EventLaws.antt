@@ -132,10 +132,10 @@ is_left-more : (m i : ℕ) → is_left (2 * m + i) ≡ is_left i
 is_left-more m i = ap (λ a. nat_eq a 0) (let e : (2 * m + i) % 2 ≡ i % 2 = omega arith in e)
 
 -- a voice that nothing has silenced
-heard_alone : (later : List Start) (from u : ℕ) (left : Bool) (p : PlayingVoice) → is_silenced later (from + u) p ≡ false
+unsilenced_voice : (later : List Start) (from u : ℕ) (left : Bool) (p : PlayingVoice) → is_silenced later (from + u) p ≡ false
     → voice_at later from left (from + u) p ≡ snd p.voice.value left (p.voice.age + u)
 unfolding voice_at
-heard_alone later from u left p h =
+unsilenced_voice later from u left p h =
     let e : p.voice.age + (from + u - from) ≡ p.voice.age + u = omega arith in
     λ j. cond (h j) (pos 0) (snd p.voice.value left (e j))
 
@@ -172,7 +172,7 @@ block_is b ps from m es i h =
     let early : from + i / 2 < from + m = omega (arith, half_below i m h) in
     let one : (p : PlayingVoice) → voice_at fs from (is_left i) t p ≡ snd p.voice.value (is_left i) (p.voice.age + i / 2) =
     λ p.
-    heard_alone fs from (i / 2) (is_left i) p (none_yet b (from + m) (from + i / 2) es p early) in
+    unsilenced_voice fs from (i / 2) (is_left i) p (none_yet b (from + m) (from + i / 2) es p early) in
     ap clipped (started_at (record { frame = from; voices = ps }) fs (is_left i) t (omega arith)
     ∙
     (λ j.
@@ -182,10 +182,10 @@ block_is b ps from m es i h =
     ∙ add_z-zero (sum_over (λ p. snd p.voice.value (is_left i) (p.voice.age + i / 2)) ps))
 
 -- no voices add nothing
-nobody : (later : List Start) (left : Bool) (t : ℕ)
+no_voices_silent : (later : List Start) (left : Bool) (t : ℕ)
     → sum_at (record { frame = 0; voices = [] } ∷ later) left t ≡ sum_at later left t
 unfolding sum_over
-nobody later left t =
+no_voices_silent later left t =
     started_at (record { frame = 0; voices = [] }) later left t (omega arith) ∙ zero-add_z (sum_at later left t)
 
 frames-none : (ss : List Start) (from : ℕ) → [] ≡ frames ss from 0
@@ -243,7 +243,7 @@ unfolding heard
 blocks_heard b es =
     blocks_from b es [] 0
     ∙ frames-same (record { frame = 0; voices = [] } ∷ starts b 0 es) (starts b 0 es) 0
-    (λ left t h. nobody (starts b 0 es) left t) (given es)
+    (λ left t h. no_voices_silent (starts b 0 es) left t) (given es)
 
 starts-clipped : (b : Parts) (from m n : ℕ) (es fs : List Event)
     → starts b from (es ++ Given (m + n) ∷ fs) ≡ starts b from (es ++ Given m ∷ Given n ∷ fs)
@@ -261,7 +261,7 @@ given-clipped m n (Edited c ∷ es) fs = given-clipped m n es fs
 given-clipped m n (Started x ∷ es) fs = given-clipped m n es fs
 given-clipped m n (Given k ∷ es) fs = ap (λ a. k + a) (given-clipped m n es fs)
 
-pub cuts_free : (b : Parts) (es fs : List Event) (m n : ℕ)
+pub splits_free : (b : Parts) (es fs : List Event) (m n : ℕ)
     → heard b (es ++ Given (m + n) ∷ fs) ≡ heard b (es ++ Given m ∷ Given n ∷ fs)
 unfolding heard
-cuts_free b es fs m n = λ j. frames (starts-clipped b 0 m n es fs j) 0 (given-clipped m n es fs j)
+splits_free b es fs m n = λ j. frames (starts-clipped b 0 m n es fs j) 0 (given-clipped m n es fs j)

@@ -97,9 +97,9 @@ at_own n ns = ap (λ b. cond b (n ∷ starting n.start ns) (starting n.start ns)
 rest_is : (m n : Numbers) (k l : List Numbers) → m ∷ k ≡ n ∷ l → k ≡ l
 rest_is m n k l e = cc
 
-cut_heads : (k : ℕ) (m n : Numbers) (xs ys : List Numbers) → m ≡ n
+tails_equal : (k : ℕ) (m n : Numbers) (xs ys : List Numbers) → m ≡ n
     → cond (nat_eq k m.start) (m ∷ xs) xs ≡ cond (nat_eq k n.start) (n ∷ ys) ys → xs ≡ ys
-cut_heads k m n xs ys e h =
+tails_equal k m n xs ys e h =
     let P : Bool → Type 0 = λ b. cond b (m ∷ xs) xs ≡ cond b (n ∷ ys) ys → xs ≡ ys in
     let at : (b : Bool) → P b = elim [ true ↦ λ g. rest_is m n xs ys g | false ↦ λ g. g ] in
     at (nat_eq k m.start) (h ∙ ap (λ (x : Numbers). cond (nat_eq k x.start) (n ∷ ys) ys) (sym e))
@@ -124,7 +124,7 @@ same_order t u (m ∷ ms) (n ∷ ns) r s h =
     λ j.
     e j
     ∷ same_order m.start n.start ms ns r.1 s.1
-    (λ k. cut_heads k m n (starting k ms) (starting k ns) e (h k)) j in
+    (λ k. tails_equal k m n (starting k ms) (starting k ns) e (h k)) j in
     elim (order m.start n.start) [
       | below l ↦ absurd
           (nil_cons m (starting m.start ms)

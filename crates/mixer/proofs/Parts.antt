@@ -84,7 +84,7 @@ unfolding block
 block_none ps = refl
 
 -- an empty block is complete
-pub nothing_heard : (out : List ℤ) (ps : List PlayingVoice) → length out ≡ 0 → out ≡ block ps (length out / 2)
-nothing_heard out ps e =
+pub empty_block : (out : List ℤ) (ps : List PlayingVoice) → length out ≡ 0 → out ≡ block ps (length out / 2)
+empty_block out ps e =
     let P : List ℤ → Type 0 = λ zs. zs ≡ block ps (length zs / 2) in
     subst P (sym (nil_from_length out e)) (block_none ps)

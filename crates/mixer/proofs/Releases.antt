@@ -55,14 +55,14 @@ of_sample n c p (Some s) e =
     let h : p.release ≡ frames_of (moved n c.instrument_zone c.preset_zone 38) = cc in
     subst (λ (k : ℕ). k ≤ 4480284) (sym h) (frames_most (moved n c.instrument_zone c.preset_zone 38))
 
-of_chosen : (b : Parts) (n : Numbers) (p : VoiceParameters) (o : Option SelectedPair)
+of_selected : (b : Parts) (n : Numbers) (p : VoiceParameters) (o : Option SelectedPair)
     → Some p ≡ option_map (λ (v : Voice). v.parameters) (option_and_then (selected_pair_voice b n) o) → p.release ≤ 4480284
-of_chosen b n p None e = absurd cc
-of_chosen b n p (Some c) e = of_sample n c p (slice_get b.samples c.sample) e
+of_selected b n p None e = absurd cc
+of_selected b n p (Some c) e = of_sample n c p (slice_get b.samples c.sample) e
 
 pub release_most : (b : Parts) (n : Numbers) (q : ℕ × ℕ) (p : VoiceParameters)
     → Some p ≡ option_map (λ (v : Voice). v.parameters) (voice_by b n q) → p.release ≤ 4480284
-release_most b n q p e = of_chosen b n p (selected_pair b n q) e
+release_most b n q p e = of_selected b n p (selected_pair b n q) e
 
 pub release_is : (p : VoiceParameters) (o : Option Voice) → Some p ≡ option_map (λ (v : Voice). v.parameters) o
     → p.release ≡ last_release (listed o)

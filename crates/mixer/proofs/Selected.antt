@@ -21,25 +21,25 @@ voices_of b n qs = flat_map (λ q. listed (voice_by b n q)) qs
 
 -- ---- their starts
 
-pub fresh_first : (b : Parts) (n : Numbers) (qs : List (ℕ × ℕ)) (ps : List PlayingVoice) → ps ≡ [] → qs ≡ pairs b n
+pub note_voices_first : (b : Parts) (n : Numbers) (qs : List (ℕ × ℕ)) (ps : List PlayingVoice) → ps ≡ [] → qs ≡ pairs b n
     → ps ++ map (playing n) (voices_of b n qs) ≡ note_voices b n
 unfolding note_voices
-fresh_first b n qs ps e f =
+note_voices_first b n qs ps e f =
     (λ j. e j ++ map (playing n) (voices_of b n (f j))) ∙ ap (map (playing n)) (selected_by_pairs b n)
 
-pub fresh_next : (b : Parts) (n : Numbers) (q : ℕ × ℕ) (rest qs : List (ℕ × ℕ)) (ps new : List PlayingVoice) → qs ≡ q ∷ rest
+pub note_voices_next : (b : Parts) (n : Numbers) (q : ℕ × ℕ) (rest qs : List (ℕ × ℕ)) (ps new : List PlayingVoice) → qs ≡ q ∷ rest
     → new ≡ ps ++ map (playing n) (listed (voice_by b n q)) → ps ++ map (playing n) (voices_of b n qs) ≡ note_voices b n
     → new ++ map (playing n) (voices_of b n rest) ≡ note_voices b n
-fresh_next b n q rest qs ps new e f h =
+note_voices_next b n q rest qs ps new e f h =
     ap (λ xs. xs ++ map (playing n) (voices_of b n rest)) f
     ∙ append_assoc ps (map (playing n) (listed (voice_by b n q))) (map (playing n) (voices_of b n rest))
     ∙ ap (λ xs. ps ++ xs) (sym (map-append (playing n) (listed (voice_by b n q)) (voices_of b n rest)))
     ∙ ap (λ rs. ps ++ map (playing n) (voices_of b n rs)) (sym e)
     ∙ h
 
-pub fresh_last : (b : Parts) (n : Numbers) (qs : List (ℕ × ℕ)) (ps all : List PlayingVoice) → qs ≡ []
+pub note_voices_last : (b : Parts) (n : Numbers) (qs : List (ℕ × ℕ)) (ps all : List PlayingVoice) → qs ≡ []
     → ps ++ map (playing n) (voices_of b n qs) ≡ all → ps ≡ all
-fresh_last b n qs ps all e h = sym (append-nil ps) ∙ ap (λ rs. ps ++ map (playing n) (voices_of b n rs)) (sym e) ∙ h
+note_voices_last b n qs ps all e h = sym (append-nil ps) ∙ ap (λ rs. ps ++ map (playing n) (voices_of b n rs)) (sym e) ∙ h
 
 pub started_is : (n : Numbers) (o : Option Voice) (l : Live) (bank number : ℕ) → option_map starts.note_voices o ≡ Some l
     → bank ≡ n.bank → number ≡ n.number

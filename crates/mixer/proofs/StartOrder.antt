@@ -109,10 +109,10 @@ earlier b n m before ms left t h =
     first ∙ three rest x y ∙ sym last ∙ ap (λ z. x || z) (sym placed_is)) j) m left t
 
 -- a note that starts before n doesn't silence n
-unheard : (b : Parts) (n m : Numbers) (before ms : List Numbers) (left : Bool) (t : ℕ) → m.start < n.start
+not_silenced_by_earlier : (b : Parts) (n m : Numbers) (before ms : List Numbers) (left : Bool) (t : ℕ) → m.start < n.start
     → note_at b before (m ∷ ms) n left t ≡ note_at b before ms n left t
 unfolding note_at silenced_from
-unheard b n m before ms left t h =
+not_silenced_by_earlier b n m before ms left t h =
     λ j.
     note_with b
     (λ p.
@@ -137,7 +137,7 @@ put_in b u n before (m ∷ ms) left t r =
       | false ↦ λ e.
           let h : m.start < n.start = below_of n.start m.start e in
           (λ j.
-          unheard b n m before ms left t h j
+          not_silenced_by_earlier b n m before ms left t h j
           +ℤ (earlier b n m before ms left t h j +ℤ sorted_at b (n ∷ before) ms left t))
           ∙ swap_sums (note_at b before ms n left t) (note_at b before (placed n ms) m left t)
           (sorted_at b (n ∷ before) ms left t)

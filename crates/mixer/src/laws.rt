@@ -12,7 +12,7 @@ pub fn blocks_are_heard()
 {}
 
 /// The law that the division of frames into blocks doesn't change them. It does nothing.
-#[tactic(auto, using(crate::proofs::EventLaws::cuts_free))]
+#[tactic(auto, using(crate::proofs::EventLaws::splits_free))]
 pub fn splits_are_free()
     ensures { SplitsAreFree }
 {}

@@ -6,8 +6,8 @@ use Rattle.base_outputs.specs.Writing.{Writes}
 use Rattle.program_files.specs.Reporting.{WritesPrefix}
 
 -- a prefix of a written text was written
-pub written_goes_out : {U : Type 0} (a b : Option (List ℕ)) (line : List ℕ) (r : Result U WriteFault)
+pub prefix_written : {U : Type 0} (a b : Option (List ℕ)) (line : List ℕ) (r : Result U WriteFault)
     → Writes a b line r → WritesPrefix a b line
-written_goes_out a b line (Ok u) h =
+prefix_written a b line (Ok u) h =
     (length line, subst (Appends a b) (sym (take_all (length line) line (le_refl _))) h)
-written_goes_out a b line (Err fault) h = (fault.written, h.1)
+prefix_written a b line (Err fault) h = (fault.written, h.1)

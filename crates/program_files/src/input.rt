@@ -60,7 +60,7 @@ fn read_piece<R: Read>(input: &mut R, bytes: &mut Vec<u8>) -> Result<usize, Fail
 fn add_room(bytes: &mut Vec<u8>, most: usize) -> Result<(), AllocError>
     requires positive { 0 < most }
     requires bounded { vec_len bytes.old + most ≤ most_bytes }
-    ensures front { OnOk result (take (vec_len bytes.old) bytes.new.items ≡ bytes.old.items) }
+    ensures prefix_kept { OnOk result (take (vec_len bytes.old) bytes.new.items ≡ bytes.old.items) }
     ensures room { OnOk result (vec_len bytes.old < vec_len bytes.new) }
     ensures within { OnOk result (vec_len bytes.new ≤ vec_len bytes.old + most) }
 {
@@ -75,7 +75,7 @@ fn add_room(bytes: &mut Vec<u8>, most: usize) -> Result<(), AllocError>
 /// Reads once, into the buffer from `at` on.
 fn read_at<R: Read>(input: &mut R, buffer: &mut [u8], at: usize) -> Result<usize, InputFault>
     requires { at < length buffer.old }
-    ensures front { take at buffer.new ≡ take at buffer.old }
+    ensures prefix_kept { take at buffer.new ≡ take at buffer.old }
     ensures len { length buffer.new ≡ length buffer.old }
     ensures within { IfOk result (λ n. at + n ≤ length buffer.new) }
     ensures consumed { IfOk result (λ n. Consumes (R.remaining input.old) (R.remaining input.new) (take n (drop at buffer.new))) }

@@ -27,28 +27,28 @@ use Rattle.script_grammar.specs.Samples.{kind, loop_after_word, looped, points_o
 pub record Gives {X : Type 0} (p : Parser X) (x : X) (line : List TokenValue) (more : List Operand) : Type 0 where
   pub rest : List TokenValue
   pub is : p line ≡ Ok (record { value = x; rest = rest })
-  pub says : AllEncode rest more
+  pub encoding : AllEncode rest more
 
 pub then : {X Y : Type 0} {p : Parser X} (f : X → Parser Y) {x : X} {y : Y} {line : List TokenValue}
     {between more : List Operand}
     → Gives p x line between
     → ((rest : List TokenValue) → AllEncode rest between → Gives (f x) y rest more) → Gives (p >>= f) y line more
-then f g h = let k = h g.rest g.says in record { rest = k.rest; is = ap (λ r. and_then r f) g.is ∙ k.is; says = k.says }
+then f g h = let k = h g.rest g.encoding in record { rest = k.rest; is = ap (λ r. and_then r f) g.is ∙ k.is; encoding = k.encoding }
 
 pub gives_pure : {X : Type 0} (x : X) (line : List TokenValue) (more : List Operand) → AllEncode line more
     → Gives (pure x) x line more
-gives_pure x line more h = record { rest = line; is = refl; says = h }
+gives_pure x line more h = record { rest = line; is = refl; encoding = h }
 
 gives_some : {X : Type 0} (x : X) (o : Option X) (line : List TokenValue) (more : List Operand) → o ≡ Some x
     → AllEncode line more → Gives (or_fault faults.Syntax o) x line more
 gives_some x o line more e h =
-    record { rest = line; is = ap (λ (p : Option _). or_fault faults.Syntax p line) e; says = h }
+    record { rest = line; is = ap (λ (p : Option _). or_fault faults.Syntax p line) e; encoding = h }
 
 pub gives_word : (w : List ℕ) (line : List TokenValue) (more : List Operand) → AllEncode line (Fixed w ∷ more)
     → Gives word w line more
 gives_word w [] more h = absurd h
 gives_word w (s ∷ line) more h =
-    record { rest = line; is = ap (λ (t : TokenValue). word (t ∷ line)) h.0 ∙ tokens.word_read w line; says = h.1 }
+    record { rest = line; is = ap (λ (t : TokenValue). word (t ∷ line)) h.0 ∙ tokens.word_read w line; encoding = h.1 }
 
 same_bytes : (text : List ℕ) → bytes_eq text text ≡ true
 same_bytes text = (bytes_eq-Decides text text).1 refl
@@ -78,7 +78,7 @@ gives_number limit n (s ∷ line) more h =
           line;
       is =
           ap (λ (t : TokenValue). number limit (t ∷ line)) h.0.1 ∙ tokens.number_read limit n h.0.0 line h.0.2;
-      says =
+      encoding =
           h.1;
     }
 
@@ -91,7 +91,7 @@ gives_signed limit z (s ∷ line) more h =
           line;
       is =
           ap (λ (t : TokenValue). signed limit (t ∷ line)) h.0.1 ∙ tokens.signed_read limit z h.0.0 line h.0.2;
-      says =
+      encoding =
           h.1;
     }
 
@@ -99,14 +99,14 @@ pub gives_name : (n : List ℕ) (line : List TokenValue) (more : List Operand) �
     → Gives name n line more
 gives_name n [] more h = absurd h
 gives_name n (s ∷ line) more h =
-    record { rest = line; is = ap (λ (t : TokenValue). name (t ∷ line)) h.0.0 ∙ tokens.name_read n line h.0.1; says = h.1 }
+    record { rest = line; is = ap (λ (t : TokenValue). name (t ∷ line)) h.0.0 ∙ tokens.name_read n line h.0.1; encoding = h.1 }
 
 pub gives_text : (bytes : List ℕ) (line : List TokenValue) (more : List Operand) → AllEncode line (Text bytes ∷ more)
     → Gives literal bytes line more
 gives_text bytes [] more h = absurd h
 gives_text bytes (s ∷ line) more h =
     record
-    { rest = line; is = ap (λ (t : TokenValue). literal (t ∷ line)) h.0.0 ∙ tokens.literal_read bytes line; says = h.1 }
+    { rest = line; is = ap (λ (t : TokenValue). literal (t ∷ line)) h.0.0 ∙ tokens.literal_read bytes line; encoding = h.1 }
 
 points_read : (bytes ps : List ℕ) (line : List TokenValue) → length bytes % 2 ≡ 0 → ps ≡ words bytes
     → points (Literal bytes ∷ line) ≡ Ok (record { value = ps; rest = line })
@@ -121,7 +121,7 @@ gives_points ps (s ∷ line) more h =
       rest =
           line;
       is = ap (λ (t : TokenValue). points (t ∷ line)) h.0.1 ∙ points_read h.0.0 ps line h.0.3 h.0.4;
-      says = h.1;
+      encoding = h.1;
     }
 
 -- ---- samples

@@ -69,11 +69,11 @@ ranged s (Points ps) h = subst (AllByRecursion (λ p. p < 2 ^ 16)) (sym h.4) (wo
 abbrev pub AllRanged : List Operand → Type 0
 AllRanged os = AllByRecursion Ranged os
 
-pub all_ranged : (said : List TokenValue) (os : List Operand) → AllEncode said os → AllRanged os
+pub all_ranged : (token_values : List TokenValue) (os : List Operand) → AllEncode token_values os → AllRanged os
 all_ranged [] [] h = tt
 all_ranged [] (o ∷ os) h = absurd h
-all_ranged (s ∷ said) [] h = absurd h
-all_ranged (s ∷ said) (o ∷ os) h = (ranged s o h.0, all_ranged said os h.1)
+all_ranged (s ∷ token_values) [] h = absurd h
+all_ranged (s ∷ token_values) (o ∷ os) h = (ranged s o h.0, all_ranged token_values os h.1)
 
 pub following : (os more : List Operand) → AllRanged (os ++ more) → AllRanged os × AllRanged more
 following [] more h = (tt, h)

@@ -49,16 +49,16 @@ modulator_keeps =
     then_keeps (number most_word) _ (number_keeps most_word) (λ amount_source.
     then_keeps (number most_word) _ (number_keeps most_word) (λ transform. pure_keeps _)))))
 
-behind_keeps : (w : List ℕ) → Keeps (item_after_word w)
+item_after_word_keeps : (w : List ℕ) → Keeps (item_after_word w)
 unfolding item_after_word
-behind_keeps w =
+item_after_word_keeps w =
     either_keeps (bytes_eq w (codes "g")) _ _ (then_keeps generator _ generator_keeps (λ e. pure_keeps _))
     (either_keeps (bytes_eq w (codes "m")) _ _ (then_keeps modulator _ modulator_keeps (λ m. pure_keeps _))
     (fault_keeps faults.Syntax None))
 
 pub item_shortens : Shortens an_item
 unfolding an_item
-item_shortens = then_shortens word item_after_word word_shortens behind_keeps
+item_shortens = then_shortens word item_after_word word_shortens item_after_word_keeps
 
 closed_keeps : (content : GlobalZone) → Keeps (closed content)
 unfolding closed
@@ -78,15 +78,15 @@ fixed_shortens text =
     either_keeps (bytes_eq w text) (pure tt) (or_fault faults.Syntax None) (pure_keeps tt)
     (fault_keeps faults.Syntax None))
 
-pub zone_behind_keeps : Keeps zone_after_brace
+pub zone_after_brace_keeps : Keeps zone_after_brace
 unfolding zone_after_brace
-zone_behind_keeps =
+zone_after_brace_keeps =
     then_keeps (number most_word) _ (number_keeps most_word)
     (λ target. then_keeps items _ items_keeps (λ content. pure_keeps _))
 
 pub zone_shortens : Shortens zone
 unfolding zone
-zone_shortens = then_shortens opened _ (fixed_shortens (codes "{")) (λ o. zone_behind_keeps)
+zone_shortens = then_shortens opened _ (fixed_shortens (codes "{")) (λ o. zone_after_brace_keeps)
 
 -- ---- a list of items
 
@@ -132,10 +132,10 @@ pub zone_first : (line : List TokenValue) → is_next (codes "global") line ≡ 
 unfolding zones_after_brace
 zone_first line e = rw e refl
 
-pub none_said : (line : List TokenValue) → is_end line ≡ true → zones line ≡ pure (no_content, []) line
+pub zones_none : (line : List TokenValue) → is_end line ≡ true → zones line ≡ pure (no_content, []) line
 unfolding zones
-none_said line e = rw e refl
+zones_none line e = rw e refl
 
-pub some_said : (line : List TokenValue) → is_end line ≡ false → zones line ≡ (opened >>= λ o. zones_after_brace) line
+pub zones_some : (line : List TokenValue) → is_end line ≡ false → zones line ≡ (opened >>= λ o. zones_after_brace) line
 unfolding zones
-some_said line e = rw e refl
+zones_some line e = rw e refl

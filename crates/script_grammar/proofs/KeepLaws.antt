@@ -14,9 +14,9 @@ use Rattle.script_grammar.specs.Zones.{opened, zone_after_brace, zone, is_end, w
 use Rattle.script_grammar.specs.Zones.{global_after_brace, first_zone_after_brace, zones_after_brace, zones}
 use Rattle.script_grammar.proofs.RepeatedLaws.{Keeps, shortens_keeps, pure_keeps, fault_keeps, then_keeps}
 use Rattle.script_grammar.proofs.RepeatedLaws.{either_keeps, word_shortens, repeated_keeps}
-use Rattle.script_grammar.proofs.ItemLaws.{number_keeps, signed_keeps, items_keeps, zone_behind_keeps}
-use Rattle.script_grammar.proofs.ItemLaws.{fixed_shortens, zone_shortens, global_first, zone_first, none_said}
-use Rattle.script_grammar.proofs.ItemLaws.{some_said}
+use Rattle.script_grammar.proofs.ItemLaws.{number_keeps, signed_keeps, items_keeps, zone_after_brace_keeps}
+use Rattle.script_grammar.proofs.ItemLaws.{fixed_shortens, zone_shortens, global_first, zone_first, zones_none}
+use Rattle.script_grammar.proofs.ItemLaws.{zones_some}
 
 word_keeps : Keeps word
 word_keeps = shortens_keeps word word_shortens
@@ -38,9 +38,9 @@ pub points_keep : Keeps points
 unfolding points
 points_keep = then_keeps literal _ literal_keeps (λ bytes. fault_keeps _ _)
 
-kind_behind_keeps : (w : List ℕ) → Keeps (kind_after_word w)
+kind_after_word_keeps : (w : List ℕ) → Keeps (kind_after_word w)
 unfolding kind_after_word
-kind_behind_keeps w =
+kind_after_word_keeps w =
     either_keeps (bytes_eq w (codes "mono")) _ _ (pure_keeps _)
     (either_keeps (bytes_eq w (codes "right")) _ _ (then_keeps _ _ (number_keeps most_word) (λ link. pure_keeps _))
     (either_keeps (bytes_eq w (codes "left")) _ _ (then_keeps _ _ (number_keeps most_word) (λ link. pure_keeps _))
@@ -49,11 +49,11 @@ kind_behind_keeps w =
 
 pub kind_keeps : Keeps kind
 unfolding kind
-kind_keeps = then_keeps word kind_after_word word_keeps kind_behind_keeps
+kind_keeps = then_keeps word kind_after_word word_keeps kind_after_word_keeps
 
-loop_behind_keeps : (w : List ℕ) → Keeps (loop_after_word w)
+loop_after_word_keeps : (w : List ℕ) → Keeps (loop_after_word w)
 unfolding loop_after_word
-loop_behind_keeps w =
+loop_after_word_keeps w =
     either_keeps (bytes_eq w (codes "noloop")) _ _ (pure_keeps _)
     (either_keeps (bytes_eq w (codes "loop")) _ _
     (then_keeps _ _ (number_keeps most_double_word)
@@ -62,7 +62,7 @@ loop_behind_keeps w =
 
 pub looped_keeps : Keeps looped
 unfolding looped
-looped_keeps = then_keeps word loop_after_word word_keeps loop_behind_keeps
+looped_keeps = then_keeps word loop_after_word word_keeps loop_after_word_keeps
 
 pub tune_keeps : Keeps tune
 unfolding tune
@@ -104,22 +104,22 @@ global_keeps =
 first_keeps : Keeps first_zone_after_brace
 unfolding first_zone_after_brace
 first_keeps =
-    then_keeps zone_after_brace _ zone_behind_keeps
+    then_keeps zone_after_brace _ zone_after_brace_keeps
     (λ z. then_keeps (remaining_zones (z ∷ [])) _ (left_keep (z ∷ [])) (λ zs. pure_keeps _))
 
-behind_keeps : Keeps zones_after_brace
-behind_keeps line t e = from (is_next (codes "global") line) refl
+zones_after_brace_keeps : Keeps zones_after_brace
+zones_after_brace_keeps line t e = from (is_next (codes "global") line) refl
   where
     from : (b : Bool) → is_next (codes "global") line ≡ b → length t.rest ≤ length line
     from true k = global_keeps line t (sym (global_first line k) ∙ e)
     from false k = first_keeps line t (sym (zone_first line k) ∙ e)
 
 some_keep : Keeps (opened >>= λ o. zones_after_brace)
-some_keep = then_keeps opened _ (shortens_keeps opened (fixed_shortens (codes "{"))) (λ o. behind_keeps)
+some_keep = then_keeps opened _ (shortens_keeps opened (fixed_shortens (codes "{"))) (λ o. zones_after_brace_keeps)
 
 pub zones_keep : Keeps zones
 zones_keep line t e = from (is_end line) refl
   where
     from : (b : Bool) → is_end line ≡ b → length t.rest ≤ length line
-    from true k = pure_keeps (no_content, []) line t (sym (none_said line k) ∙ e)
-    from false k = some_keep line t (sym (some_said line k) ∙ e)
+    from true k = pure_keeps (no_content, []) line t (sym (zones_none line k) ∙ e)
+    from false k = some_keep line t (sym (zones_some line k) ∙ e)

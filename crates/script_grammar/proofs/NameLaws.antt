@@ -42,12 +42,12 @@ named_here word_of xs x i w text whole s h e t k =
     let on = named_on word_of xs x i w h e in
     let same : bytes_eq w (word_of x) ≡ true = rw (sym t) k in sym s ∙ on ∙ rw same refl
 
-pub named_behind : {X : Type 0} (word_of : X → List ℕ) (xs : List X) (x : X) (i : ℕ) (w text : List ℕ)
+pub named_later : {X : Type 0} (word_of : X → List ℕ) (xs : List X) (x : X) (i : ℕ) (w text : List ℕ)
     (whole : Option X)
     → named word_of (drop i xs) w ≡ whole → i < length xs → x ≡ get_or xs i x → text ≡ word_of x
     → bytes_eq w text ≡ false
     → named word_of (drop (i + 1) xs) w ≡ whole
-named_behind word_of xs x i w text whole s h e t k =
+named_later word_of xs x i w text whole s h e t k =
     let on = named_on word_of xs x i w h e in
     let same : bytes_eq w (word_of x) ≡ false = rw (sym t) k in (let m = rw same at on in sym m ∙ s)
 

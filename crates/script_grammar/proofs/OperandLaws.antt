@@ -12,9 +12,9 @@ use Rattle.sample_view.proofs.WordLaws.{words_of_bytes}
 use Rattle.bank_parts.specs.Fits.{FitsText}
 use Rattle.script_tokens.specs.TextForm.{is_word, IsWithin}
 use Rattle.script_tokens.proofs.TestLaws.{not_feed}
-use Rattle.script_tokens.proofs.PieceLaws.{meant, Spoken, AllSpoken, writes, writes_signed, writes_range, range_text}
-use Rattle.script_tokens.proofs.PieceLaws.{spoken_number, spoken_signed, spoken_range, spoken_word, spoken_name}
-use Rattle.script_tokens.proofs.PieceLaws.{spoken_bytes, spoken_hex, are_bytes}
+use Rattle.script_tokens.proofs.PieceLaws.{piece_value, IsPrintable, AllPrintable, writes, writes_signed, writes_range, range_text}
+use Rattle.script_tokens.proofs.PieceLaws.{printable_number, printable_signed, printable_range, printable_word, printable_name}
+use Rattle.script_tokens.proofs.PieceLaws.{printable_bytes, printable_hex, are_bytes}
 use Rattle.script_grammar.specs.Operands.{Operand, Fixed, Number, Signed, Amount, Range, Name, Text, Points, Encodes}
 use Rattle.script_grammar.specs.Operands.{AllEncode, piece_of, pieces_of}
 
@@ -59,42 +59,42 @@ amount_within amount h = within (cast_signed w16 amount) (sfits_to_z (record { f
 
 -- ---- one operand
 
-pub operand_spoken : (o : Operand) → FitsOperand o → Spoken (piece_of o)
-operand_spoken (Fixed w) h = spoken_word w h.0 h.1
-operand_spoken (Number limit n) h = spoken_number n (let a = h.0 in let b = h.1 in omega (arith, a, b))
-operand_spoken (Signed limit z) h = spoken_signed limit z h.0 h.1
-operand_spoken (Amount amount) h = spoken_signed 32767 (cast_signed w16 amount) (amount_within amount h) (lit< tt)
-operand_spoken (Range low high) h = spoken_range low high h.0 h.1
-operand_spoken (Name bytes) h = spoken_name bytes h
-operand_spoken (Text bytes) h = spoken_bytes bytes (are_bytes bytes h)
-operand_spoken (Points ps) h =
-    spoken_hex (flat_map word_bytes ps) (are_bytes (flat_map word_bytes ps) (points_text ps h))
+pub operand_printable : (o : Operand) → FitsOperand o → IsPrintable (piece_of o)
+operand_printable (Fixed w) h = printable_word w h.0 h.1
+operand_printable (Number limit n) h = printable_number n (let a = h.0 in let b = h.1 in omega (arith, a, b))
+operand_printable (Signed limit z) h = printable_signed limit z h.0 h.1
+operand_printable (Amount amount) h = printable_signed 32767 (cast_signed w16 amount) (amount_within amount h) (lit< tt)
+operand_printable (Range low high) h = printable_range low high h.0 h.1
+operand_printable (Name bytes) h = printable_name bytes h
+operand_printable (Text bytes) h = printable_bytes bytes (are_bytes bytes h)
+operand_printable (Points ps) h =
+    printable_hex (flat_map word_bytes ps) (are_bytes (flat_map word_bytes ps) (points_text ps h))
 
-operand_says : (o : Operand) → FitsOperand o → Encodes (meant (piece_of o)) o
-operand_says (Fixed w) h = refl
-operand_says (Number limit n) h = (decimal n, refl, writes limit n h.0 h.1)
-operand_says (Signed limit z) h = (signed_decimal z, refl, writes_signed limit z h.0 h.1)
-operand_says (Amount amount) h = (
+operand_encoded : (o : Operand) → FitsOperand o → Encodes (piece_value (piece_of o)) o
+operand_encoded (Fixed w) h = refl
+operand_encoded (Number limit n) h = (decimal n, refl, writes limit n h.0 h.1)
+operand_encoded (Signed limit z) h = (signed_decimal z, refl, writes_signed limit z h.0 h.1)
+operand_encoded (Amount amount) h = (
   signed_decimal (cast_signed w16 amount),
   cast_signed w16 amount,
   refl,
   writes_signed 32767 (cast_signed w16 amount) (amount_within amount h) (lit< tt),
   sym (of_z-to_z w16 amount h),
 )
-operand_says (Range low high) h = (range_text low high, refl, writes_range low high h.0 h.1)
-operand_says (Name bytes) h = (refl, h)
-operand_says (Text bytes) h = (refl, h)
-operand_says (Points ps) h = (flat_map word_bytes ps, refl, points_text ps h, length-points ps, sym (words_of_bytes ps))
+operand_encoded (Range low high) h = (range_text low high, refl, writes_range low high h.0 h.1)
+operand_encoded (Name bytes) h = (refl, h)
+operand_encoded (Text bytes) h = (refl, h)
+operand_encoded (Points ps) h = (flat_map word_bytes ps, refl, points_text ps h, length-points ps, sym (words_of_bytes ps))
 
 -- ---- all of them
 
-pub all_spoken : (os : List Operand) → AllFit os → AllSpoken (pieces_of os)
-all_spoken [] h = tt
-all_spoken (o ∷ os) h = (operand_spoken o h.0, all_spoken os h.1)
+pub all_printable : (os : List Operand) → AllFit os → AllPrintable (pieces_of os)
+all_printable [] h = tt
+all_printable (o ∷ os) h = (operand_printable o h.0, all_printable os h.1)
 
-pub all_say : (os : List Operand) → AllFit os → AllEncode (map meant (pieces_of os)) os
+pub all_say : (os : List Operand) → AllFit os → AllEncode (map piece_value (pieces_of os)) os
 all_say [] h = tt
-all_say (o ∷ os) h = (operand_says o h.0, all_say os h.1)
+all_say (o ∷ os) h = (operand_encoded o h.0, all_say os h.1)
 
 pub both_fit : (os more : List Operand) → AllFit os → AllFit more → AllFit (os ++ more)
 both_fit [] more h k = k

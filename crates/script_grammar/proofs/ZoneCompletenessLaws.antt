@@ -26,7 +26,7 @@ use Rattle.script_grammar.specs.Zones.{remaining_zones, global_zones, global_aft
 use Rattle.script_grammar.proofs.CompletenessLaws.{Gives, then, gives_pure, gives_word, gives_fixed, gives_number}
 use Rattle.script_grammar.proofs.CompletenessLaws.{gives_signed}
 use Rattle.script_grammar.proofs.ItemLaws.{items_end, items_go_on, zones_end, zones_go_on, global_first, zone_first}
-use Rattle.script_grammar.proofs.ItemLaws.{none_said, some_said}
+use Rattle.script_grammar.proofs.ItemLaws.{zones_none, zones_some}
 
 -- ---- an amount
 
@@ -39,7 +39,7 @@ gives_range low high (s ∷ line) more h =
           line;
       is =
           ap (λ (t : TokenValue). range (t ∷ line)) h.0.1 ∙ tokens.range_read low high h.0.0 line h.0.2;
-      says = h.1;
+      encoding = h.1;
     }
 
 -- a signed number that this word encodes
@@ -55,7 +55,7 @@ gives_word_of a (s ∷ line) more h =
       is =
           ap (λ r. and_then r (λ z. pure (cast_unsigned w16 z))) read
           ∙ ap (λ (n : ℕ). Ok (record { value = n; rest = line })) (sym h.0.4);
-      says = h.1;
+      encoding = h.1;
     }
 
 both_ends : (a : ℕ) → a % 256 + 256 * (a / 256) ≡ a
@@ -134,20 +134,20 @@ unfolding closed
 gives_items_on [] content line more h =
     let g = gives_word (codes "}") line more h in
     record
-    { rest = g.rest; is = items_end content line (next_word (codes "}") (codes "}") line more h) ∙ ap (λ r. and_then r (λ w. pure content)) g.is; says = g.says }
+    { rest = g.rest; is = items_end content line (next_word (codes "}") (codes "}") line more h) ∙ ap (λ r. and_then r (λ w. pure content)) g.is; encoding = g.encoding }
 gives_items_on (i ∷ is) content line more h =
-    let says : AllEncode line (item_operands i ++ (flat_map item_operands is ++ closing more)) =
+    let encoding : AllEncode line (item_operands i ++ (flat_map item_operands is ++ closing more)) =
     subst (AllEncode line) (append_assoc (item_operands i) (flat_map item_operands is) (closing more)) h in
-    let g = gives_item i line (flat_map item_operands is ++ closing more) says in
-    let k = gives_items_on is (with_item content i) g.rest more g.says in
+    let g = gives_item i line (flat_map item_operands is ++ closing more) encoding in
+    let k = gives_items_on is (with_item content i) g.rest more g.encoding in
     record {
       rest =
           k.rest;
       is =
-          items_go_on content line _ (not_closed i line (flat_map item_operands is ++ closing more) says) g.is
+          items_go_on content line _ (not_closed i line (flat_map item_operands is ++ closing more) encoding) g.is
           ∙ k.is;
-      says =
-          k.says;
+      encoding =
+          k.encoding;
     }
 
 pub gives_items : (is : List Item) (line : List TokenValue) (more : List Operand) → AllEncode line (items_operands is ++ more)
@@ -159,13 +159,13 @@ gives_items is line more h =
 
 -- ---- zones
 
-abbrev behind_brace : WrittenZone → List Operand
-behind_brace z = Number most_word z.target ∷ items_operands z.items
+abbrev operands_after_brace : WrittenZone → List Operand
+operands_after_brace z = Number most_word z.target ∷ items_operands z.items
 
-pub gives_zone_behind : (z : WrittenZone) (line : List TokenValue) (more : List Operand)
-    → AllEncode line (behind_brace z ++ more) → Gives zone_after_brace (zone_in z) line more
+pub gives_zone_after_brace : (z : WrittenZone) (line : List TokenValue) (more : List Operand)
+    → AllEncode line (operands_after_brace z ++ more) → Gives zone_after_brace (zone_in z) line more
 unfolding zone_after_brace
-gives_zone_behind z line more h =
+gives_zone_after_brace z line more h =
     then _ (gives_number most_word z.target line (items_operands z.items ++ more) h) (λ rest k.
     then _ (gives_items z.items rest more k) (λ rest k. gives_pure (zone_in z) rest more k))
 
@@ -173,7 +173,7 @@ pub gives_zone : (z : WrittenZone) (line : List TokenValue) (more : List Operand
     → Gives zone (zone_in z) line more
 unfolding zone
 gives_zone z line more h =
-    then _ (gives_fixed (codes "{") line (behind_brace z ++ more) h) (λ rest k. gives_zone_behind z rest more k)
+    then _ (gives_fixed (codes "{") line (operands_after_brace z ++ more) h) (λ rest k. gives_zone_after_brace z rest more k)
 
 not_end : (line : List TokenValue) (more : List Operand) → AllEncode line (Fixed (codes "{") ∷ more) → is_end line ≡ false
 not_end [] more h = absurd h
@@ -200,22 +200,22 @@ gives_zones_left [] zs line more end h =
       is =
           zones_end zs line (end line h)
           ∙ ap (λ (all : List Zone). Ok (record { value = all; rest = line })) (sym (append-nil zs));
-      says =
+      encoding =
           h;
     }
 gives_zones_left (w ∷ ws) zs line more end h =
-    let says : AllEncode line (zone_operands w ++ (flat_map zone_operands ws ++ more)) =
+    let encoding : AllEncode line (zone_operands w ++ (flat_map zone_operands ws ++ more)) =
     subst (AllEncode line) (append_assoc (zone_operands w) (flat_map zone_operands ws) more) h in
-    let g = gives_zone w line (flat_map zone_operands ws ++ more) says in
-    let k = gives_zones_left ws (with_zone zs (zone_in w)) g.rest more end g.says in
+    let g = gives_zone w line (flat_map zone_operands ws ++ more) encoding in
+    let k = gives_zones_left ws (with_zone zs (zone_in w)) g.rest more end g.encoding in
     record {
       rest = k.rest;
       is =
-          zones_go_on zs line _ (not_end line (behind_brace w ++ (flat_map zone_operands ws ++ more)) says) g.is
+          zones_go_on zs line _ (not_end line (operands_after_brace w ++ (flat_map zone_operands ws ++ more)) encoding) g.is
           ∙ k.is
           ∙ ap (λ (all : List Zone). Ok (record { value = all; rest = k.rest }))
           (append_assoc zs (zone_in w ∷ []) (map zone_in ws));
-      says = k.says;
+      encoding = k.encoding;
     }
 
 -- a number is no word of letters
@@ -243,28 +243,28 @@ gives_global_zones is ws line more end h =
     then _ (gives_items is line (flat_map zone_operands ws ++ more) h) (λ rest k.
     then _ (gives_zones_left ws [] rest more end k) (λ rest k. gives_pure (content_of is, map zone_in ws) rest more k))
 
-gives_global_behind : (is : List Item) (ws : List WrittenZone) (line : List TokenValue) (more : List Operand)
+gives_global_after_brace : (is : List Item) (ws : List WrittenZone) (line : List TokenValue) (more : List Operand)
     → EndsZones more
     → AllEncode line (Fixed (codes "global") ∷ items_operands is ++ (flat_map zone_operands ws ++ more))
     → Gives global_after_brace (content_of is, map zone_in ws) line more
 unfolding global_after_brace
-gives_global_behind is ws line more end h =
+gives_global_after_brace is ws line more end h =
     then _ (gives_word (codes "global") line (items_operands is ++ (flat_map zone_operands ws ++ more)) h)
     (λ rest k. gives_global_zones is ws rest more end k)
 
-gives_first_behind : (w : WrittenZone) (ws : List WrittenZone) (line : List TokenValue) (more : List Operand)
-    → EndsZones more → AllEncode line (behind_brace w ++ (flat_map zone_operands ws ++ more))
+gives_first_after_brace : (w : WrittenZone) (ws : List WrittenZone) (line : List TokenValue) (more : List Operand)
+    → EndsZones more → AllEncode line (operands_after_brace w ++ (flat_map zone_operands ws ++ more))
     → Gives first_zone_after_brace (no_content, map zone_in (w ∷ ws)) line more
 unfolding first_zone_after_brace
-gives_first_behind w ws line more end h =
-    then _ (gives_zone_behind w line (flat_map zone_operands ws ++ more) h) (λ rest k.
+gives_first_after_brace w ws line more end h =
+    then _ (gives_zone_after_brace w line (flat_map zone_operands ws ++ more) h) (λ rest k.
     then _ (gives_zones_left ws (zone_in w ∷ []) rest more end k)
     (λ rest k. gives_pure (no_content, map zone_in (w ∷ ws)) rest more k))
 
 -- a parser with the result of another
 pub as_other : {X : Type 0} (p q : Parser X) (x : X) (line : List TokenValue) (more : List Operand) → q line ≡ p line
     → Gives p x line more → Gives q x line more
-as_other p q x line more e g = record { rest = g.rest; is = e ∙ g.is; says = g.says }
+as_other p q x line more e g = record { rest = g.rest; is = e ∙ g.is; encoding = g.encoding }
 
 -- `GLOBAL? ZONE*`, where the tokens after them end them
 module _ (more : List Operand) (end : EndsZones more) where
@@ -272,24 +272,24 @@ module _ (more : List Operand) (end : EndsZones more) where
       → AllEncode line (global_operands g ++ (flat_map zone_operands ws ++ more))
       → Gives zones (global_in g, map zone_in ws) line more
   gives_parts None [] line h =
-      as_other (pure (no_content, [])) zones (no_content, []) line more (none_said line (end line h))
+      as_other (pure (no_content, [])) zones (no_content, []) line more (zones_none line (end line h))
       (gives_pure (no_content, []) line more h)
   gives_parts None (w ∷ ws) line h =
-      let says : AllEncode line (zone_operands w ++ (flat_map zone_operands ws ++ more)) =
+      let encoding : AllEncode line (zone_operands w ++ (flat_map zone_operands ws ++ more)) =
       subst (AllEncode line) (append_assoc (zone_operands w) (flat_map zone_operands ws) more) h in
       as_other (opened >>= λ o. zones_after_brace) zones (no_content, map zone_in (w ∷ ws)) line more
-      (some_said line (not_end line (behind_brace w ++ (flat_map zone_operands ws ++ more)) says))
-      (then _ (gives_fixed (codes "{") line (behind_brace w ++ (flat_map zone_operands ws ++ more)) says) (λ rest k.
-      as_other first_zone_after_brace zones_after_brace (no_content, map zone_in (w ∷ ws)) rest more (zone_first rest (not_global most_word w.target rest (items_operands w.items ++ (flat_map zone_operands ws ++ more)) k)) (gives_first_behind w ws rest more end k)))
+      (zones_some line (not_end line (operands_after_brace w ++ (flat_map zone_operands ws ++ more)) encoding))
+      (then _ (gives_fixed (codes "{") line (operands_after_brace w ++ (flat_map zone_operands ws ++ more)) encoding) (λ rest k.
+      as_other first_zone_after_brace zones_after_brace (no_content, map zone_in (w ∷ ws)) rest more (zone_first rest (not_global most_word w.target rest (items_operands w.items ++ (flat_map zone_operands ws ++ more)) k)) (gives_first_after_brace w ws rest more end k)))
   gives_parts (Some is) ws line h =
       as_other (opened >>= λ o. zones_after_brace) zones (content_of is, map zone_in ws) line more
-      (some_said line
+      (zones_some line
       (not_end line (Fixed (codes "global") ∷ items_operands is ++ (flat_map zone_operands ws ++ more)) h))
       (then _ (gives_fixed (codes "{") line
       (Fixed (codes "global") ∷ items_operands is ++ (flat_map zone_operands ws ++ more)) h) (λ rest k.
       as_other global_after_brace zones_after_brace (content_of is, map zone_in ws) rest more (global_first rest (next_word
       (codes "global") (codes "global") rest (items_operands is ++ (flat_map zone_operands ws ++ more))
-      k)) (gives_global_behind is ws rest more end k)))
+      k)) (gives_global_after_brace is ws rest more end k)))
 
   pub gives_zones : (w : Written) (line : List TokenValue) → AllEncode line (written_operands w ++ more)
       → Gives zones (zones_in w) line more

@@ -197,70 +197,70 @@ zones_ranged w h =
 
 -- ---- zones that fit can be encoded
 
-amount_said : (operator a : ℕ) → a < 2 ^ 16 → FitsOperand (amount_operand operator a)
-amount_said operator a h = from (is_range_operator operator)
+amount_operand_fits : (operator a : ℕ) → a < 2 ^ 16 → FitsOperand (amount_operand operator a)
+amount_operand_fits operator a h = from (is_range_operator operator)
   where
     from : (b : Bool) → FitsOperand (cond b (Range (a % 256) (a / 256)) (Amount a))
     from true = (omega arith, omega (arith, h))
     from false = h
 
-within_said : (z : ℤ) → FitsSigned w16 z → IsWithin 32767 z
-within_said (pos n) v = let h : n < 2 ^ 15 = v.sfits in omega (arith, h)
-within_said (negsuc n) v = let h : n < 2 ^ 15 = v.sfits in omega (arith, h)
+fits_within : (z : ℤ) → FitsSigned w16 z → IsWithin 32767 z
+fits_within (pos n) v = let h : n < 2 ^ 15 = v.sfits in omega (arith, h)
+fits_within (negsuc n) v = let h : n < 2 ^ 15 = v.sfits in omega (arith, h)
 
-pub generator_said : (operator a : ℕ) → FitsEntry (operator, a) → AllFit (generator_operands operator a)
-generator_said operator a h = (word16 operator h.0, (amount_said operator a h.1, tt))
+pub generator_operands_fit : (operator a : ℕ) → FitsEntry (operator, a) → AllFit (generator_operands operator a)
+generator_operands_fit operator a h = (word16 operator h.0, (amount_operand_fits operator a h.1, tt))
 
-pub modulator_said : (m : Modulator) → FitsModulator m → AllFit (modulator_operands m)
-modulator_said m h = (
+pub modulator_operands_fit : (m : Modulator) → FitsModulator m → AllFit (modulator_operands m)
+modulator_operands_fit m h = (
   word16 m.source h.source,
   (
     word16 m.dest h.dest,
     (
-      (within_said m.amount h.amount, omega arith),
+      (fits_within m.amount h.amount, omega arith),
       (word16 m.amount_source h.amount_source, (word16 m.transform h.transform, tt)),
     ),
   ),
 )
 
-generators_said : (es : List (ℕ × ℕ)) (more : List Item) → FitEntries es → AllFit (flat_map item_operands more)
+generator_items_fit : (es : List (ℕ × ℕ)) (more : List Item) → FitEntries es → AllFit (flat_map item_operands more)
     → AllFit (flat_map item_operands (generator_items es ++ more))
-generators_said [] more h k = k
-generators_said (e ∷ es) more h k =
+generator_items_fit [] more h k = k
+generator_items_fit (e ∷ es) more h k =
     both_fit (item_operands (item.Generator e.0 e.1)) (flat_map item_operands (generator_items es ++ more))
-    ((refl, refl), generator_said e.0 e.1 h.0) (generators_said es more h.1 k)
+    ((refl, refl), generator_operands_fit e.0 e.1 h.0) (generator_items_fit es more h.1 k)
 
-modulators_said : (ms : List Modulator) → AllByRecursion FitsModulator ms
+modulator_items_fit : (ms : List Modulator) → AllByRecursion FitsModulator ms
     → AllFit (flat_map item_operands (modulator_items ms))
-modulators_said [] h = tt
-modulators_said (m ∷ ms) h =
+modulator_items_fit [] h = tt
+modulator_items_fit (m ∷ ms) h =
     both_fit (item_operands (item.Modulator m)) (flat_map item_operands (modulator_items ms))
-    ((refl, refl), modulator_said m h.0) (modulators_said ms h.1)
+    ((refl, refl), modulator_operands_fit m h.0) (modulator_items_fit ms h.1)
 
-content_said : (gens : Gens) (mods : List Modulator) → FitGens gens → AllByRecursion FitsModulator mods
+content_operands_fit : (gens : Gens) (mods : List Modulator) → FitGens gens → AllByRecursion FitsModulator mods
     → AllFit (items_operands (items_of gens mods))
-content_said gens mods h k =
+content_operands_fit gens mods h k =
     both_fit (flat_map item_operands (items_of gens mods)) _
-    (generators_said (entries gens) (modulator_items mods) h (modulators_said mods k)) ((refl, refl), tt)
+    (generator_items_fit (entries gens) (modulator_items mods) h (modulator_items_fit mods k)) ((refl, refl), tt)
 
-pub zone_said : (z : Zone) → FitsZone z → AllFit (zone_operands (written_zone z))
-zone_said z h = ((refl, refl), (word16 z.target h.target, content_said z.gens z.mods h.gens h.mods))
+pub zone_operands_fit : (z : Zone) → FitsZone z → AllFit (zone_operands (written_zone z))
+zone_operands_fit z h = ((refl, refl), (word16 z.target h.target, content_operands_fit z.gens z.mods h.gens h.mods))
 
-all_said : (zs : List Zone) → AllByRecursion FitsZone zs → AllFit (flat_map zone_operands (map written_zone zs))
-all_said [] h = tt
-all_said (z ∷ zs) h =
-    both_fit (zone_operands (written_zone z)) (flat_map zone_operands (map written_zone zs)) (zone_said z h.0)
-    (all_said zs h.1)
+zones_operands_fit : (zs : List Zone) → AllByRecursion FitsZone zs → AllFit (flat_map zone_operands (map written_zone zs))
+zones_operands_fit [] h = tt
+zones_operands_fit (z ∷ zs) h =
+    both_fit (zone_operands (written_zone z)) (flat_map zone_operands (map written_zone zs)) (zone_operands_fit z h.0)
+    (zones_operands_fit zs h.1)
 
-global_said : (g : GlobalZone) → FitsGlobal g → AllFit (global_operands (global_of g))
-global_said g h = from (len g.gens + length g.mods == 0)
+global_operands_fit : (g : GlobalZone) → FitsGlobal g → AllFit (global_operands (global_of g))
+global_operands_fit g h = from (len g.gens + length g.mods == 0)
   where
     from : (b : Bool) → AllFit (global_operands (cond b None (Some (items_of g.gens g.mods))))
     from true = tt
-    from false = ((refl, refl), ((refl, refl), content_said g.gens g.mods h.gens h.mods))
+    from false = ((refl, refl), ((refl, refl), content_operands_fit g.gens g.mods h.gens h.mods))
 
 pub zones_fit : (g : GlobalZone) (zs : List Zone) → FitsGlobal g → AllByRecursion FitsZone zs
     → AllFit (written_operands (written_of g zs))
 zones_fit g zs h k =
-    both_fit (global_operands (global_of g)) (flat_map zone_operands (map written_zone zs)) (global_said g h)
-    (all_said zs k)
+    both_fit (global_operands (global_of g)) (flat_map zone_operands (map written_zone zs)) (global_operands_fit g h)
+    (zones_operands_fit zs k)

@@ -29,12 +29,12 @@ abbrev pub modulator_text : Modulator → List ℕ
 modulator_text m = spaced_out (item_operands (item.Modulator m))
 
 -- writing each member writes the whole list
-spaced_all : {X Y : Type 0} (says : Y → List Operand) (of : X → Y) (xs : List X)
-    → flat_map (λ (x : X). spaced_out (says (of x))) xs ≡ spaced_out (flat_map says (map of xs))
-spaced_all says of [] = refl
-spaced_all says of (x ∷ xs) =
-    ap (λ (t : List ℕ). spaced_out (says (of x)) ++ t) (spaced_all says of xs)
-    ∙ sym (spaced_both (says (of x)) (flat_map says (map of xs)))
+spaced_all : {X Y : Type 0} (encoding : Y → List Operand) (of : X → Y) (xs : List X)
+    → flat_map (λ (x : X). spaced_out (encoding (of x))) xs ≡ spaced_out (flat_map encoding (map of xs))
+spaced_all encoding of [] = refl
+spaced_all encoding of (x ∷ xs) =
+    ap (λ (t : List ℕ). spaced_out (encoding (of x)) ++ t) (spaced_all encoding of xs)
+    ∙ sym (spaced_both (encoding (of x)) (flat_map encoding (map of xs)))
 
 -- the operands of two lists of items
 both_lists : (is js : List Item)

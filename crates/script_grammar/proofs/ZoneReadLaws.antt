@@ -24,10 +24,10 @@ use Rattle.script_grammar.specs.Items.{modulator_of, modulator, item_after_word,
 use Rattle.script_grammar.specs.Zones.{Written, WrittenZone, zone_operands, written_operands, zone_of, zone_in}
 use Rattle.script_grammar.specs.Zones.{zones_in, opened, zone_after_brace, zone, is_end, with_zone, remaining_zones}
 use Rattle.script_grammar.specs.Zones.{global_zones, global_after_brace, first_zone_after_brace, zones_after_brace, zones}
-use Rattle.script_grammar.proofs.ReadLaws.{Fronts, front, then, made, word_front, fixed_front, number_front}
+use Rattle.script_grammar.proofs.ReadLaws.{PrefixEncodes, one_operand, then, made, word_front, fixed_front, number_front}
 use Rattle.script_grammar.proofs.ReadLaws.{signed_front}
 use Rattle.script_grammar.proofs.RepeatedLaws.{repeated_reads}
-use Rattle.script_grammar.proofs.ItemLaws.{global_first, zone_first, none_said, some_said}
+use Rattle.script_grammar.proofs.ItemLaws.{global_first, zone_first, zones_none, zones_some}
 
 -- ---- an amount
 
@@ -38,7 +38,7 @@ high_of : (low high : ℕ) → low ≤ 255 → (low + 256 * high) / 256 ≡ high
 high_of low high h = omega (arith, h)
 
 amount_front : (operator : ℕ) (line : List TokenValue) (t : Parsed ℕ) → AllHoldBytes line → amount operator line ≡ Ok t
-    → Fronts line t.rest (amount_operand operator t.value ∷ [])
+    → PrefixEncodes line t.rest (amount_operand operator t.value ∷ [])
 unfolding amount
 amount_front operator line t h e = from (is_range_operator operator) e
   where
@@ -46,7 +46,7 @@ amount_front operator line t h e = from (is_range_operator operator) e
         → cond b (range >>= λ ends. pure (ends.0 + 256 * ends.1)) (signed 32767 >>= λ z. pure (cast_unsigned w16 z))
         line
         ≡ Ok t
-        → Fronts line t.rest (cond b (Range (t.value % 256) (t.value / 256)) (Amount t.value) ∷ [])
+        → PrefixEncodes line t.rest (cond b (Range (t.value % 256) (t.value / 256)) (Amount t.value) ∷ [])
     from true k =
         let r = both (range line) (λ ends. pure (ends.0 + 256 * ends.1)) t k in
         let f = range_is line r.first r.is in
@@ -54,24 +54,24 @@ amount_front operator line t h e = from (is_range_operator operator) e
         let high = r.first.value.1 in
         let within = f.writes.writes_low.within in
         let same : record { value = low + 256 * high; rest = r.first.rest } ≡ t = made _ r.first.rest t r.second in
-        subst (λ (u : Parsed ℕ). Fronts line u.rest (Range (u.value % 256) (u.value / 256) ∷ [])) same
-        (subst (λ (n : ℕ). Fronts line r.first.rest (Range n ((low + 256 * high) / 256) ∷ []))
+        subst (λ (u : Parsed ℕ). PrefixEncodes line u.rest (Range (u.value % 256) (u.value / 256) ∷ [])) same
+        (subst (λ (n : ℕ). PrefixEncodes line r.first.rest (Range n ((low + 256 * high) / 256) ∷ []))
         (sym (low_of low high within))
-        (subst (λ (n : ℕ). Fronts line r.first.rest (Range low n ∷ [])) (sym (high_of low high within))
-        (front line r.first.rest (Word f.digits) (Range low high) h f.parts (f.digits, refl, f.writes))))
+        (subst (λ (n : ℕ). PrefixEncodes line r.first.rest (Range low n ∷ [])) (sym (high_of low high within))
+        (one_operand line r.first.rest (Word f.digits) (Range low high) h f.parts (f.digits, refl, f.writes))))
     from false k =
         let z = both (signed 32767 line) (λ z. pure (cast_unsigned w16 z)) t k in
         let f = signed_is 32767 line z.first z.is in
         let same : record { value = cast_unsigned w16 z.first.value; rest = z.first.rest } ≡ t =
         made _ z.first.rest t z.second in
-        subst (λ (u : Parsed ℕ). Fronts line u.rest (Amount u.value ∷ [])) same
-        (front line z.first.rest (Word f.digits) (Amount (cast_unsigned w16 z.first.value)) h f.parts
+        subst (λ (u : Parsed ℕ). PrefixEncodes line u.rest (Amount u.value ∷ [])) same
+        (one_operand line z.first.rest (Word f.digits) (Amount (cast_unsigned w16 z.first.value)) h f.parts
         (f.digits, z.first.value, refl, f.writes, refl))
 
 -- ---- items
 
 pub generator_front : (line : List TokenValue) (t : Parsed (ℕ × ℕ)) → AllHoldBytes line → generator line ≡ Ok t
-    → Fronts line t.rest (generator_operands t.value.0 t.value.1)
+    → PrefixEncodes line t.rest (generator_operands t.value.0 t.value.1)
 unfolding generator
 generator_front line t h e =
     let o = both (number most_word line) (λ operator. amount operator >>= λ a. pure (operator, a)) t e in
@@ -80,11 +80,11 @@ generator_front line t h e =
     let g = amount_front o.first.value o.first.rest a.first f.holds a.is in
     let same : record { value = (o.first.value, a.first.value); rest = a.first.rest } ≡ t =
     made _ a.first.rest t a.second in
-    subst (λ (u : Parsed (ℕ × ℕ)). Fronts line u.rest (generator_operands u.value.0 u.value.1)) same
+    subst (λ (u : Parsed (ℕ × ℕ)). PrefixEncodes line u.rest (generator_operands u.value.0 u.value.1)) same
     (then (Number most_word o.first.value ∷ []) (amount_operand o.first.value a.first.value ∷ []) f g)
 
 pub modulator_front : (line : List TokenValue) (t : Parsed Modulator) → AllHoldBytes line → modulator line ≡ Ok t
-    → Fronts line t.rest (modulator_operands t.value)
+    → PrefixEncodes line t.rest (modulator_operands t.value)
 unfolding modulator
 modulator_front line t h e =
     let s =
@@ -130,11 +130,11 @@ modulator_front line t h e =
     }
     ≡ t =
     made _ y.first.rest t y.second in
-    subst (λ (u : Parsed Modulator). Fronts line u.rest (modulator_operands u.value)) same
+    subst (λ (u : Parsed Modulator). PrefixEncodes line u.rest (modulator_operands u.value)) same
     (then ss (ds ++ (ms ++ (xs ++ ys))) sf (then ds (ms ++ (xs ++ ys)) df (then ms (xs ++ ys) af (then xs ys xf yf))))
 
 pub item_front : (line : List TokenValue) (t : Parsed Item) → AllHoldBytes line → an_item line ≡ Ok t
-    → Fronts line t.rest (item_operands t.value)
+    → PrefixEncodes line t.rest (item_operands t.value)
 unfolding an_item item_after_word
 item_front line t h e =
     let w = both (word line) item_after_word t e in
@@ -142,45 +142,45 @@ item_front line t h e =
     from w.first.value w.first.rest g (bytes_eq w.first.value (codes "g")) (bytes_eq w.first.value (codes "m")) refl
     refl w.second
   where
-    at : (v c : List ℕ) (rest : List TokenValue) → Fronts line rest (Fixed v ∷ []) → bytes_eq v c ≡ true
-        → Fronts line rest (Fixed c ∷ [])
-    at v c rest g k = subst (λ (x : List ℕ). Fronts line rest (Fixed x ∷ [])) ((bytes_eq-Decides v c).0 k) g
+    at : (v c : List ℕ) (rest : List TokenValue) → PrefixEncodes line rest (Fixed v ∷ []) → bytes_eq v c ≡ true
+        → PrefixEncodes line rest (Fixed c ∷ [])
+    at v c rest g k = subst (λ (x : List ℕ). PrefixEncodes line rest (Fixed x ∷ [])) ((bytes_eq-Decides v c).0 k) g
 
-    set : (rest : List TokenValue) → Fronts line rest (Fixed (codes "g") ∷ [])
-        → (generator >>= λ e. pure (item.Generator e.0 e.1)) rest ≡ Ok t → Fronts line t.rest (item_operands t.value)
+    set : (rest : List TokenValue) → PrefixEncodes line rest (Fixed (codes "g") ∷ [])
+        → (generator >>= λ e. pure (item.Generator e.0 e.1)) rest ≡ Ok t → PrefixEncodes line t.rest (item_operands t.value)
     set rest g k =
         let x = both (generator rest) (λ e. pure (item.Generator e.0 e.1)) t k in
         let f = generator_front rest x.first g.holds x.is in
         let same : record { value = item.Generator x.first.value.0 x.first.value.1; rest = x.first.rest } ≡ t =
         made _ x.first.rest t x.second in
-        subst (λ (u : Parsed Item). Fronts line u.rest (item_operands u.value)) same
+        subst (λ (u : Parsed Item). PrefixEncodes line u.rest (item_operands u.value)) same
         (then (Fixed (codes "g") ∷ []) (generator_operands x.first.value.0 x.first.value.1) g f)
 
-    added : (rest : List TokenValue) → Fronts line rest (Fixed (codes "m") ∷ [])
-        → (modulator >>= λ m. pure (item.Modulator m)) rest ≡ Ok t → Fronts line t.rest (item_operands t.value)
+    added : (rest : List TokenValue) → PrefixEncodes line rest (Fixed (codes "m") ∷ [])
+        → (modulator >>= λ m. pure (item.Modulator m)) rest ≡ Ok t → PrefixEncodes line t.rest (item_operands t.value)
     added rest g k =
         let x = both (modulator rest) (λ m. pure (item.Modulator m)) t k in
         let f = modulator_front rest x.first g.holds x.is in
         let same : record { value = item.Modulator x.first.value; rest = x.first.rest } ≡ t =
         made _ x.first.rest t x.second in
-        subst (λ (u : Parsed Item). Fronts line u.rest (item_operands u.value)) same
+        subst (λ (u : Parsed Item). PrefixEncodes line u.rest (item_operands u.value)) same
         (then (Fixed (codes "m") ∷ []) (modulator_operands x.first.value) g f)
 
-    from : (v : List ℕ) (rest : List TokenValue) → Fronts line rest (Fixed v ∷ []) → (a b : Bool)
+    from : (v : List ℕ) (rest : List TokenValue) → PrefixEncodes line rest (Fixed v ∷ []) → (a b : Bool)
         → bytes_eq v (codes "g") ≡ a → bytes_eq v (codes "m") ≡ b
         → cond a (generator >>= λ e. pure (item.Generator e.0 e.1))
         (cond b (modulator >>= λ m. pure (item.Modulator m)) (or_fault faults.Syntax None)) rest
         ≡ Ok t
-        → Fronts line t.rest (item_operands t.value)
+        → PrefixEncodes line t.rest (item_operands t.value)
     from v rest g true b p q k = set rest (at v (codes "g") rest g p) k
     from v rest g false true p q k = added rest (at v (codes "m") rest g q) k
     from v rest g false false p q k = cc
 
 -- items on a line, and the content to which they are added
-pub record SaidItems (content : GlobalZone) (line : List TokenValue) (t : Parsed GlobalZone) : Type 0 where
-  pub said : List Item
-  pub fronts : Fronts line t.rest (items_operands said)
-  pub stands : with_items content said ≡ t.value
+pub record ItemsRead (content : GlobalZone) (line : List TokenValue) (t : Parsed GlobalZone) : Type 0 where
+  pub encoded : List Item
+  pub prefix : PrefixEncodes line t.rest (items_operands encoded)
+  pub has_value : with_items content encoded ≡ t.value
 
 -- the next word
 pub next_is : (c : List ℕ) (line : List TokenValue) (t : Parsed (List ℕ)) → word line ≡ Ok t → is_next c line ≡ true
@@ -188,135 +188,135 @@ pub next_is : (c : List ℕ) (line : List TokenValue) (t : Parsed (List ℕ)) �
 next_is c line t e k = (bytes_eq-Decides t.value c).0 (sym (ap (is_next c) (word_is line t e)) ∙ k)
 
 closed_front : (content : GlobalZone) (line : List TokenValue) (t : Parsed GlobalZone) → AllHoldBytes line
-    → is_next (codes "}") line ≡ true → closed content line ≡ Ok t → SaidItems content line t
+    → is_next (codes "}") line ≡ true → closed content line ≡ Ok t → ItemsRead content line t
 unfolding closed
 closed_front content line t h k e =
     let w = both (word line) (λ w. pure content) t e in
     let g = word_front line w.first h w.is in
     let same : record { value = content; rest = w.first.rest } ≡ t = made content w.first.rest t w.second in
-    subst (SaidItems content line) same
+    subst (ItemsRead content line) same
     (record {
-      said =
+      encoded =
           [];
-      fronts =
-          subst (λ (v : List ℕ). Fronts line w.first.rest (Fixed v ∷ []))
+      prefix =
+          subst (λ (v : List ℕ). PrefixEncodes line w.first.rest (Fixed v ∷ []))
           (next_is (codes "}") line w.first w.is k) g;
-      stands = refl;
+      has_value = refl;
     })
 
 more_items : (content : GlobalZone) (line : List TokenValue) (x : Parsed Item) (t : Parsed GlobalZone)
-    → Fronts line x.rest (item_operands x.value) → SaidItems (with_item content x.value) x.rest t
-    → SaidItems content line t
+    → PrefixEncodes line x.rest (item_operands x.value) → ItemsRead (with_item content x.value) x.rest t
+    → ItemsRead content line t
 more_items content line x t f s = record {
-  said = x.value ∷ s.said;
-  fronts =
-      subst (Fronts line t.rest)
-      (sym (append_assoc (item_operands x.value) (flat_map item_operands s.said) (Fixed (codes "}") ∷ [])))
-      (then (item_operands x.value) (items_operands s.said) f s.fronts);
-  stands = s.stands;
+  encoded = x.value ∷ s.encoded;
+  prefix =
+      subst (PrefixEncodes line t.rest)
+      (sym (append_assoc (item_operands x.value) (flat_map item_operands s.encoded) (Fixed (codes "}") ∷ [])))
+      (then (item_operands x.value) (items_operands s.encoded) f s.prefix);
+  has_value = s.has_value;
 }
 
 pub items_front : (line : List TokenValue) (t : Parsed GlobalZone) → AllHoldBytes line → items line ≡ Ok t
-    → SaidItems no_content line t
+    → ItemsRead no_content line t
 unfolding items items_on
 items_front line t h e =
-    repeated_reads (is_next (codes "}")) closed an_item with_item SaidItems closed_front
+    repeated_reads (is_next (codes "}")) closed an_item with_item ItemsRead closed_front
     (λ content line x t h e on. let f = item_front line x h e in more_items content line x t f (on f.holds))
     no_content line t h e
 
 -- ---- zones
 
 -- the operands of a zone after its brace
-record SaidBehind (line : List TokenValue) (t : Parsed Zone) : Type 0 where
-  pub said : WrittenZone
-  pub fronts : Fronts line t.rest (Number most_word said.target ∷ items_operands said.items)
-  pub stands : zone_in said ≡ t.value
+record ZoneReadAfterBrace (line : List TokenValue) (t : Parsed Zone) : Type 0 where
+  pub encoded : WrittenZone
+  pub prefix : PrefixEncodes line t.rest (Number most_word encoded.target ∷ items_operands encoded.items)
+  pub has_value : zone_in encoded ≡ t.value
 
 -- the operands of a zone
-pub record SaidZone (line : List TokenValue) (t : Parsed Zone) : Type 0 where
-  pub said : WrittenZone
-  pub fronts : Fronts line t.rest (zone_operands said)
-  pub stands : zone_in said ≡ t.value
+pub record ZoneRead (line : List TokenValue) (t : Parsed Zone) : Type 0 where
+  pub encoded : WrittenZone
+  pub prefix : PrefixEncodes line t.rest (zone_operands encoded)
+  pub has_value : zone_in encoded ≡ t.value
 
-zone_behind_front : (line : List TokenValue) (t : Parsed Zone) → AllHoldBytes line → zone_after_brace line ≡ Ok t → SaidBehind line t
+zone_after_brace_prefix : (line : List TokenValue) (t : Parsed Zone) → AllHoldBytes line → zone_after_brace line ≡ Ok t → ZoneReadAfterBrace line t
 unfolding zone_after_brace
-zone_behind_front line t h e =
+zone_after_brace_prefix line t h e =
     let n = both (number most_word line) (λ target. items >>= λ content. pure (zone_of target content)) t e in
     let f = number_front most_word line n.first h n.is in
     let c = both (items n.first.rest) (λ content. pure (zone_of n.first.value content)) t n.second in
     let s = items_front n.first.rest c.first f.holds c.is in
     let same : record { value = zone_of n.first.value c.first.value; rest = c.first.rest } ≡ t =
     made _ c.first.rest t c.second in
-    subst (SaidBehind line) same (record {
-      said = record { target = n.first.value; items = s.said };
-      fronts = then (Number most_word n.first.value ∷ []) (items_operands s.said) f s.fronts;
-      stands = ap (zone_of n.first.value) s.stands;
+    subst (ZoneReadAfterBrace line) same (record {
+      encoded = record { target = n.first.value; items = s.encoded };
+      prefix = then (Number most_word n.first.value ∷ []) (items_operands s.encoded) f s.prefix;
+      has_value = ap (zone_of n.first.value) s.has_value;
     })
 
-pub zone_front : (line : List TokenValue) (t : Parsed Zone) → AllHoldBytes line → zone line ≡ Ok t → SaidZone line t
+pub zone_front : (line : List TokenValue) (t : Parsed Zone) → AllHoldBytes line → zone line ≡ Ok t → ZoneRead line t
 unfolding zone
 zone_front line t h e =
     let o = both (opened line) (λ o. zone_after_brace) t e in
     let f = fixed_front (codes "{") line o.first h o.is in
-    let s = zone_behind_front o.first.rest t f.holds o.second in
+    let s = zone_after_brace_prefix o.first.rest t f.holds o.second in
     record {
-      said =
-          s.said;
-      fronts =
-          then (Fixed (codes "{") ∷ []) (Number most_word s.said.target ∷ items_operands s.said.items) f
-          s.fronts;
-      stands =
-          s.stands;
+      encoded =
+          s.encoded;
+      prefix =
+          then (Fixed (codes "{") ∷ []) (Number most_word s.encoded.target ∷ items_operands s.encoded.items) f
+          s.prefix;
+      has_value =
+          s.has_value;
     }
 
 -- the remaining zones
-record SaidLeft (zs : List Zone) (line : List TokenValue) (t : Parsed (List Zone)) : Type 0 where
-  pub said : List WrittenZone
-  pub fronts : Fronts line t.rest (flat_map zone_operands said)
-  pub stands : zs ++ map zone_in said ≡ t.value
+record RemainingZonesRead (zs : List Zone) (line : List TokenValue) (t : Parsed (List Zone)) : Type 0 where
+  pub encoded : List WrittenZone
+  pub prefix : PrefixEncodes line t.rest (flat_map zone_operands encoded)
+  pub has_value : zs ++ map zone_in encoded ≡ t.value
 
 no_more : (zs : List Zone) (line : List TokenValue) (t : Parsed (List Zone)) → AllHoldBytes line → pure zs line ≡ Ok t
-    → SaidLeft zs line t
+    → RemainingZonesRead zs line t
 no_more zs line t h e =
     let same : record { value = zs; rest = line } ≡ t = made zs line t e in
-    subst (SaidLeft zs line) same
-    (record { said = []; fronts = record { says = λ more k. k; holds = h }; stands = append-nil zs })
+    subst (RemainingZonesRead zs line) same
+    (record { encoded = []; prefix = record { encoding = λ more k. k; holds = h }; has_value = append-nil zs })
 
-more_zones : (zs : List Zone) (line : List TokenValue) (x : Parsed Zone) (t : Parsed (List Zone)) → SaidZone line x
-    → SaidLeft (with_zone zs x.value) x.rest t → SaidLeft zs line t
+more_zones : (zs : List Zone) (line : List TokenValue) (x : Parsed Zone) (t : Parsed (List Zone)) → ZoneRead line x
+    → RemainingZonesRead (with_zone zs x.value) x.rest t → RemainingZonesRead zs line t
 more_zones zs line x t z s = record {
-  said = z.said ∷ s.said;
-  fronts = then (zone_operands z.said) (flat_map zone_operands s.said) z.fronts s.fronts;
-  stands =
-      ap (λ (y : Zone). zs ++ (y ∷ map zone_in s.said)) z.stands
-      ∙ sym (append_assoc zs (x.value ∷ []) (map zone_in s.said)) ∙ s.stands;
+  encoded = z.encoded ∷ s.encoded;
+  prefix = then (zone_operands z.encoded) (flat_map zone_operands s.encoded) z.prefix s.prefix;
+  has_value =
+      ap (λ (y : Zone). zs ++ (y ∷ map zone_in s.encoded)) z.has_value
+      ∙ sym (append_assoc zs (x.value ∷ []) (map zone_in s.encoded)) ∙ s.has_value;
 }
 
 left_front : (zs : List Zone) (line : List TokenValue) (t : Parsed (List Zone)) → AllHoldBytes line
-    → remaining_zones zs line ≡ Ok t → SaidLeft zs line t
+    → remaining_zones zs line ≡ Ok t → RemainingZonesRead zs line t
 unfolding remaining_zones
 left_front zs line t h e =
-    repeated_reads is_end pure zone with_zone SaidLeft (λ zs line t h over e. no_more zs line t h e)
-    (λ zs line x t h e on. let f = zone_front line x h e in more_zones zs line x t f (on f.fronts.holds)) zs line t h e
+    repeated_reads is_end pure zone with_zone RemainingZonesRead (λ zs line t h over e. no_more zs line t h e)
+    (λ zs line x t h e on. let f = zone_front line x h e in more_zones zs line x t f (on f.prefix.holds)) zs line t h e
 
 -- ---- all of them
 
 -- the operands of zones on a line
-pub record SaidZones (line : List TokenValue) (t : Parsed (GlobalZone × List Zone)) : Type 0 where
+pub record ZonesRead (line : List TokenValue) (t : Parsed (GlobalZone × List Zone)) : Type 0 where
   pub written : Written
-  pub fronts : Fronts line t.rest (written_operands written)
-  pub stands : zones_in written ≡ t.value
+  pub prefix : PrefixEncodes line t.rest (written_operands written)
+  pub has_value : zones_in written ≡ t.value
 
 -- the same after the first brace
-record SaidAfter (line : List TokenValue) (t : Parsed (GlobalZone × List Zone)) : Type 0 where
+record ZonesReadAfterBrace (line : List TokenValue) (t : Parsed (GlobalZone × List Zone)) : Type 0 where
   pub written : Written
   pub after : List Operand
   pub parts : written_operands written ≡ Fixed (codes "{") ∷ after
-  pub fronts : Fronts line t.rest after
-  pub stands : zones_in written ≡ t.value
+  pub prefix : PrefixEncodes line t.rest after
+  pub has_value : zones_in written ≡ t.value
 
 global_front : (line : List TokenValue) (t : Parsed (GlobalZone × List Zone)) → AllHoldBytes line
-    → is_next (codes "global") line ≡ true → global_after_brace line ≡ Ok t → SaidAfter line t
+    → is_next (codes "global") line ≡ true → global_after_brace line ≡ Ok t → ZonesReadAfterBrace line t
 unfolding global_after_brace global_zones
 global_front line t h k e =
     let w = both (word line) (λ w. items >>= λ g. remaining_zones [] >>= λ zs. pure (g, zs)) t e in
@@ -324,84 +324,84 @@ global_front line t h k e =
     let g = both (items w.first.rest) (λ g. remaining_zones [] >>= λ zs. pure (g, zs)) t w.second in
     let gs = items_front w.first.rest g.first wf.holds g.is in
     let z = both (remaining_zones [] g.first.rest) (λ zs. pure (g.first.value, zs)) t g.second in
-    let zs = left_front [] g.first.rest z.first gs.fronts.holds z.is in
+    let zs = left_front [] g.first.rest z.first gs.prefix.holds z.is in
     let same : record { value = (g.first.value, z.first.value); rest = z.first.rest } ≡ t =
     made _ z.first.rest t z.second in
-    let word : Fronts line w.first.rest (Fixed (codes "global") ∷ []) =
-    subst (λ (v : List ℕ). Fronts line w.first.rest (Fixed v ∷ []))
+    let word : PrefixEncodes line w.first.rest (Fixed (codes "global") ∷ []) =
+    subst (λ (v : List ℕ). PrefixEncodes line w.first.rest (Fixed v ∷ []))
     (next_is (codes "global") line w.first w.is k) wf in
-    subst (SaidAfter line) same (record {
-      written = record { global = Some gs.said; zones = zs.said };
-      after = Fixed (codes "global") ∷ items_operands gs.said ++ flat_map zone_operands zs.said;
+    subst (ZonesReadAfterBrace line) same (record {
+      written = record { global = Some gs.encoded; zones = zs.encoded };
+      after = Fixed (codes "global") ∷ items_operands gs.encoded ++ flat_map zone_operands zs.encoded;
       parts = refl;
-      fronts =
-          then (Fixed (codes "global") ∷ []) (items_operands gs.said ++ flat_map zone_operands zs.said) word
-          (then (items_operands gs.said) (flat_map zone_operands zs.said) gs.fronts zs.fronts);
-      stands = cc (gs.stands, zs.stands);
+      prefix =
+          then (Fixed (codes "global") ∷ []) (items_operands gs.encoded ++ flat_map zone_operands zs.encoded) word
+          (then (items_operands gs.encoded) (flat_map zone_operands zs.encoded) gs.prefix zs.prefix);
+      has_value = cc (gs.has_value, zs.has_value);
     })
 
 first_front : (line : List TokenValue) (t : Parsed (GlobalZone × List Zone)) → AllHoldBytes line → first_zone_after_brace line ≡ Ok t
-    → SaidAfter line t
+    → ZonesReadAfterBrace line t
 unfolding first_zone_after_brace
 first_front line t h e =
     let x = both (zone_after_brace line) (λ z. remaining_zones (z ∷ []) >>= λ zs. pure (no_content, zs)) t e in
-    let xs = zone_behind_front line x.first h x.is in
+    let xs = zone_after_brace_prefix line x.first h x.is in
     let z = both (remaining_zones (x.first.value ∷ []) x.first.rest) (λ zs. pure (no_content, zs)) t x.second in
-    let zs = left_front (x.first.value ∷ []) x.first.rest z.first xs.fronts.holds z.is in
+    let zs = left_front (x.first.value ∷ []) x.first.rest z.first xs.prefix.holds z.is in
     let same : record { value = (no_content, z.first.value); rest = z.first.rest } ≡ t =
     made _ z.first.rest t z.second in
-    subst (SaidAfter line) same (record {
-      written = record { global = None; zones = xs.said ∷ zs.said };
-      after = (Number most_word xs.said.target ∷ items_operands xs.said.items) ++ flat_map zone_operands zs.said;
+    subst (ZonesReadAfterBrace line) same (record {
+      written = record { global = None; zones = xs.encoded ∷ zs.encoded };
+      after = (Number most_word xs.encoded.target ∷ items_operands xs.encoded.items) ++ flat_map zone_operands zs.encoded;
       parts = refl;
-      fronts =
-          then (Number most_word xs.said.target ∷ items_operands xs.said.items) (flat_map zone_operands zs.said)
-          xs.fronts zs.fronts;
-      stands =
+      prefix =
+          then (Number most_word xs.encoded.target ∷ items_operands xs.encoded.items) (flat_map zone_operands zs.encoded)
+          xs.prefix zs.prefix;
+      has_value =
           ap (λ (ys : List Zone). (no_content, ys))
-          (ap (λ (y : Zone). y ∷ map zone_in zs.said) xs.stands ∙ zs.stands);
+          (ap (λ (y : Zone). y ∷ map zone_in zs.encoded) xs.has_value ∙ zs.has_value);
     })
 
-behind_front : (line : List TokenValue) (t : Parsed (GlobalZone × List Zone)) → AllHoldBytes line → zones_after_brace line ≡ Ok t
-    → SaidAfter line t
-behind_front line t h e = from (is_next (codes "global") line) refl
+zones_after_brace_prefix : (line : List TokenValue) (t : Parsed (GlobalZone × List Zone)) → AllHoldBytes line → zones_after_brace line ≡ Ok t
+    → ZonesReadAfterBrace line t
+zones_after_brace_prefix line t h e = from (is_next (codes "global") line) refl
   where
-    from : (b : Bool) → is_next (codes "global") line ≡ b → SaidAfter line t
+    from : (b : Bool) → is_next (codes "global") line ≡ b → ZonesReadAfterBrace line t
     from true k = global_front line t h k (sym (global_first line k) ∙ e)
     from false k = first_front line t h (sym (zone_first line k) ∙ e)
 
 some_front : (line : List TokenValue) (t : Parsed (GlobalZone × List Zone)) → AllHoldBytes line
-    → (opened >>= λ o. zones_after_brace) line ≡ Ok t → SaidZones line t
+    → (opened >>= λ o. zones_after_brace) line ≡ Ok t → ZonesRead line t
 some_front line t h e =
     let o = both (opened line) (λ o. zones_after_brace) t e in
     let f = fixed_front (codes "{") line o.first h o.is in
-    let s = behind_front o.first.rest t f.holds o.second in
+    let s = zones_after_brace_prefix o.first.rest t f.holds o.second in
     record {
       written =
           s.written;
-      fronts =
-          subst (Fronts line t.rest) (sym s.parts) (then (Fixed (codes "{") ∷ []) s.after f s.fronts);
-      stands =
-          s.stands;
+      prefix =
+          subst (PrefixEncodes line t.rest) (sym s.parts) (then (Fixed (codes "{") ∷ []) s.after f s.prefix);
+      has_value =
+          s.has_value;
     }
 
 none_front : (line : List TokenValue) (t : Parsed (GlobalZone × List Zone)) → AllHoldBytes line
-    → pure (no_content, []) line ≡ Ok t → SaidZones line t
+    → pure (no_content, []) line ≡ Ok t → ZonesRead line t
 none_front line t h e =
     let same : record { value = (no_content, []); rest = line } ≡ t = made (no_content, []) line t e in
-    subst (SaidZones line) same
+    subst (ZonesRead line) same
     (record {
       written =
           record { global = None; zones = [] };
-      fronts =
-          record { says = λ more k. k; holds = h };
-      stands = refl;
+      prefix =
+          record { encoding = λ more k. k; holds = h };
+      has_value = refl;
     })
 
 pub zones_front : (line : List TokenValue) (t : Parsed (GlobalZone × List Zone)) → AllHoldBytes line → zones line ≡ Ok t
-    → SaidZones line t
+    → ZonesRead line t
 zones_front line t h e = from (is_end line) refl
   where
-    from : (b : Bool) → is_end line ≡ b → SaidZones line t
-    from true k = none_front line t h (sym (none_said line k) ∙ e)
-    from false k = some_front line t h (sym (some_said line k) ∙ e)
+    from : (b : Bool) → is_end line ≡ b → ZonesRead line t
+    from true k = none_front line t h (sym (zones_none line k) ∙ e)
+    from false k = some_front line t h (sym (zones_some line k) ∙ e)

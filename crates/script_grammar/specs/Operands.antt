@@ -40,8 +40,8 @@ Encodes s (Points ps) =
 abbrev pub AllEncode : List TokenValue → List Operand → Type 0
 AllEncode [] [] = Unit {0}
 AllEncode [] (o ∷ os) = ⊥
-AllEncode (s ∷ said) [] = ⊥
-AllEncode (s ∷ said) (o ∷ os) = Encodes s o × AllEncode said os
+AllEncode (s ∷ token_values) [] = ⊥
+AllEncode (s ∷ token_values) (o ∷ os) = Encodes s o × AllEncode token_values os
 
 -- the piece that is printed for an operand
 abbrev pub piece_of : Operand → Piece

@@ -4,7 +4,7 @@ ghost use Rattle.script_tokens.specs.Parsers.{Reads};
 ghost use Rattle.script_grammar.specs.Items.{an_item, item_after_word, amount, generator, modulator, items, with_item, no_content};
 ghost use Rattle.script_grammar.specs.Memory.{ReadsOrOutOfMemory};
 
-use crate::names::says;
+use crate::names::word_is;
 use bank_parts::GlobalZone;
 use base_numbered_lists::NumberedList;
 use generators::{GenMap, Range, is_range_operator};
@@ -70,10 +70,10 @@ fn an_item(line: &mut Cursor<'_, '_>) -> Result<Item, LineFault>
     ensures { Reads (λ i. i) an_item line.old line.new result }
 {
     let word = line.word()?;
-    if says(word, b"g") {
+    if word_is(word, b"g") {
         let (operator, amount) = generator(line)?;
         Ok(Item::Generator(operator, amount))
-    } else if says(word, b"m") {
+    } else if word_is(word, b"m") {
         Ok(Item::Modulator(modulator(line)?))
     } else {
         Err(LineFault::Syntax)

@@ -45,7 +45,7 @@ pub fn fixed(line: &mut Cursor<'_, '_>, text: &[u8]) -> Result<(), LineFault>
     ensures { Reads (λ u. u) (fixed text.now) line.old line.new result }
 {
     let word = line.word()?;
-    if says(word, text) {
+    if word_is(word, text) {
         Ok(())
     } else {
         Err(LineFault::Syntax)
@@ -57,7 +57,7 @@ fn first_named<T: HasWord>(items: &[T], word: &[u8]) -> Option<T>
     ensures { result ≡ named T.word_of items.now word.now }
 {
     for item in items {
-        if says(word, item.word()) {
+        if word_is(word, item.word()) {
             return Some(*item);
         }
     }
@@ -65,7 +65,7 @@ fn first_named<T: HasWord>(items: &[T], word: &[u8]) -> Option<T>
 }
 
 /// Whether a word is this text.
-pub(crate) fn says(word: &[u8], text: &[u8]) -> bool
+pub(crate) fn word_is(word: &[u8], text: &[u8]) -> bool
     ensures { result ≡ bytes_eq word.now text.now }
 {
     word == text

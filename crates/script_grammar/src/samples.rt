@@ -8,7 +8,7 @@ ghost use Rattle.script_grammar.specs.Operands as operand;
 ghost use Rattle.script_grammar.specs.Operands.{pieces_of};
 ghost use Rattle.script_grammar.specs.Samples.{kind_operands, loop_operands, tune_operands, head_operands, body_operands, kind, looped, points_of, points, tune, body};
 
-use crate::names::says;
+use crate::names::word_is;
 use bank_parts::{Kind, Sample};
 use base_outputs::Output;
 use sample_view::Points;
@@ -59,13 +59,13 @@ pub fn kind(line: &mut Cursor<'_, '_>) -> Result<Kind, LineFault>
     ensures { Reads (λ k. k) kind line.old line.new result }
 {
     let word = line.word()?;
-    if says(word, b"mono") {
+    if word_is(word, b"mono") {
         Ok(Kind::Mono)
-    } else if says(word, b"right") {
+    } else if word_is(word, b"right") {
         Ok(Kind::Right(line.number(u32::from(u16::MAX))? as u16))
-    } else if says(word, b"left") {
+    } else if word_is(word, b"left") {
         Ok(Kind::Left(line.number(u32::from(u16::MAX))? as u16))
-    } else if says(word, b"linked") {
+    } else if word_is(word, b"linked") {
         Ok(Kind::Linked(line.number(u32::from(u16::MAX))? as u16))
     } else {
         Err(LineFault::Syntax)
@@ -79,9 +79,9 @@ pub fn looped(line: &mut Cursor<'_, '_>) -> Result<Option<(u32, u32)>, LineFault
     ensures { Reads (λ l. l) looped line.old line.new result }
 {
     let word = line.word()?;
-    if says(word, b"noloop") {
+    if word_is(word, b"noloop") {
         Ok(None)
-    } else if says(word, b"loop") {
+    } else if word_is(word, b"loop") {
         let start = line.number(u32::MAX)?;
         let end = line.number(u32::MAX)?;
         Ok(Some((start, end)))

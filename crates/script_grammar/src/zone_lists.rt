@@ -118,7 +118,7 @@ fn zone_after_brace(alloc: Global, line: &mut Cursor<'_, '_>) -> Result<Zone, Fa
 
 // Whether the zones end here: no token remains, or the next token closes the braces around them.
 fn is_end(line: &Cursor<'_, '_>) -> bool
-    ensures { result ≡ is_end line.now.said }
+    ensures { result ≡ is_end line.now.token_values }
 {
     line.is_empty() || line.is_next(b"}")
 }

@@ -8,7 +8,7 @@ use Rattle.script_tokens.specs.declared.cursor.TokenValue.{TokenValue}
 use Rattle.script_tokens.specs.declared.cursor.TokenValue.TheVariants.{Word, Literal, Malformed}
 use Rattle.script_tokens.specs.declared.fault.LineFault.{LineFault}
 use Rattle.script_tokens.specs.declared.fault.LineFault.TheVariants as faults
-use Rattle.script_tokens.specs.TokenValue.{is_plain, is_hex, decoded, said, size_of, value_over, values_over}
+use Rattle.script_tokens.specs.TokenValue.{is_plain, is_hex, decoded, token_value, size_of, value_over, values_over}
 use Rattle.script_tokens.specs.Parsers.{Parsed, Parser, and_then, pure, or_fault, number_word, number_of, number, ended}
 use Rattle.script_tokens.specs.Parsers.{most_word, most_double_word}
 use Rattle.script_notes.specs.declared.limits.TheConstants.{HIGHEST_KEY, HIGHEST_VELOCITY}
@@ -31,8 +31,8 @@ AreAlike (Malformed ∷ xs) (Literal b ∷ ys) = AreAlike xs ys
 AreAlike (Malformed ∷ xs) (Malformed ∷ ys) = AreAlike xs ys
 
 plain_alike : (pool w : List ℕ) (xs ys : List TokenValue) → AreAlike xs ys
-    → AreAlike (value_over pool (Plain w) ∷ xs) (said (Plain w) ∷ ys)
-unfolding said value_over
+    → AreAlike (value_over pool (Plain w) ∷ xs) (token_value (Plain w) ∷ ys)
+unfolding token_value value_over
 plain_alike pool w xs ys h = from (is_hex w) _
   where
     from : {E : Type 0} (t : Bool) (r : Result (List ℕ) E)
@@ -43,8 +43,8 @@ plain_alike pool w xs ys h = from (is_hex w) _
     from true (Err e) = h
 
 quoted_alike : (pool i : List ℕ) (xs ys : List TokenValue) → AreAlike xs ys
-    → AreAlike (value_over pool (Quoted i) ∷ xs) (said (Quoted i) ∷ ys)
-unfolding said value_over
+    → AreAlike (value_over pool (Quoted i) ∷ xs) (token_value (Quoted i) ∷ ys)
+unfolding token_value value_over
 quoted_alike pool i xs ys h = from (list_all is_plain i)
   where
     from : (t : Bool) → AreAlike (Literal (take (size_of (Quoted i)) pool) ∷ xs) (cond t (Literal i) Malformed ∷ ys)
@@ -52,11 +52,11 @@ quoted_alike pool i xs ys h = from (list_all is_plain i)
     from false = h
 
 broken_alike : (pool : List ℕ) (xs ys : List TokenValue) → AreAlike xs ys
-    → AreAlike (value_over pool Broken ∷ xs) (said Broken ∷ ys)
-unfolding said value_over
+    → AreAlike (value_over pool Broken ∷ xs) (token_value Broken ∷ ys)
+unfolding token_value value_over
 broken_alike pool xs ys h = h
 
-tokens_alike : (pool : List ℕ) (ts : List Token) → AreAlike (values_over pool ts) (map said ts)
+tokens_alike : (pool : List ℕ) (ts : List Token) → AreAlike (values_over pool ts) (map token_value ts)
 tokens_alike pool [] = tt
 tokens_alike pool (Plain w ∷ ts) = plain_alike pool w _ _ (tokens_alike (drop (size_of (Plain w)) pool) ts)
 tokens_alike pool (Quoted i ∷ ts) = quoted_alike pool i _ _ (tokens_alike (drop (size_of (Quoted i)) pool) ts)
@@ -133,13 +133,13 @@ agree_judged k n (Err d) (Ok b) h = absurd h
 agree_judged k n (Err d) (Err e) h = refl
 
 pub judged_alike : (k n : ℕ) (pool : List ℕ) (ts : List Token)
-    → note_of_line k n (note (values_over pool ts)) ≡ note_of_line k n (note (map said ts))
+    → note_of_line k n (note (values_over pool ts)) ≡ note_of_line k n (note (map token_value ts))
 judged_alike k n pool ts = agree_judged k n _ _ (note_alike _ _ (tokens_alike pool ts))
 
-pub nothing_alike : (pool : List ℕ) (ts : List Token) → values_over pool ts ≡ [] → map said ts ≡ []
+pub nothing_alike : (pool : List ℕ) (ts : List Token) → values_over pool ts ≡ [] → map token_value ts ≡ []
 nothing_alike pool [] e = refl
 nothing_alike pool (t ∷ ts) e = cc
 
-pub something_alike : (pool : List ℕ) (ts : List Token) → (values_over pool ts ≡ [] → ⊥) → map said ts ≡ [] → ⊥
+pub something_alike : (pool : List ℕ) (ts : List Token) → (values_over pool ts ≡ [] → ⊥) → map token_value ts ≡ [] → ⊥
 something_alike pool [] some e = some refl
 something_alike pool (t ∷ ts) some e = cc

@@ -4,7 +4,7 @@ use Rattle.std.proofs.Common.{Err, refl, sym, ap, ◌∙◌, append_assoc, arith
 use Rattle.std.proofs.lemmas.List.{append-nil, length-append}
 use Rattle.script_tokens.specs.declared.cursor.TokenValue.{TokenValue}
 use Rattle.script_tokens.specs.declared.tokens.Token.{Token}
-use Rattle.script_tokens.specs.TokenValue.{said, values_of_lines, values_over}
+use Rattle.script_tokens.specs.TokenValue.{token_value, values_of_lines, values_over}
 use Rattle.script_tokens.specs.Pool.{and_then, gather}
 use Rattle.script_tokens.proofs.GatherLaws.{gather_none, gather_on}
 use Rattle.script_notes.specs.declared.limits.TheConstants.{MOST_NOTES}
@@ -15,25 +15,25 @@ use Rattle.script_notes.proofs.BareLaws.{judged_alike, nothing_alike, something_
 
 -- ---- the line of a note or of its fault
 
-pub says_nothing : (n : ℕ) (said : List TokenValue) (notes : List Numbers) → said ≡ [] → with_note n said notes ≡ Ok notes
-says_nothing n [] notes e = refl
-says_nothing n (s ∷ said) notes e = cc
+pub line_without_tokens : (n : ℕ) (token_values : List TokenValue) (notes : List Numbers) → token_values ≡ [] → with_note n token_values notes ≡ Ok notes
+line_without_tokens n [] notes e = refl
+line_without_tokens n (s ∷ token_values) notes e = cc
 
-pub says_more : (n : ℕ) (said : List TokenValue) (notes : List Numbers) (r : NoteResult Numbers) → (said ≡ [] → ⊥)
-    → note_of_line (length notes) n (note said) ≡ r
-    → with_note n said notes ≡ and_then r (λ x. Ok (notes ++ x ∷ []))
-says_more n [] notes r some e = absurd (some refl)
-says_more n (s ∷ said) notes r some e = rw e refl
+pub line_with_tokens : (n : ℕ) (token_values : List TokenValue) (notes : List Numbers) (r : NoteResult Numbers) → (token_values ≡ [] → ⊥)
+    → note_of_line (length notes) n (note token_values) ≡ r
+    → with_note n token_values notes ≡ and_then r (λ x. Ok (notes ++ x ∷ []))
+line_with_tokens n [] notes r some e = absurd (some refl)
+line_with_tokens n (s ∷ token_values) notes r some e = rw e refl
 
 pub line_is_empty : (n : ℕ) (left : List TokenValue) (ts : List Token) (notes : List Numbers) → left ≡ values_over [] ts
-    → left ≡ [] → with_note n (map said ts) notes ≡ Ok notes
-line_is_empty n left ts notes e none = says_nothing n (map said ts) notes (nothing_alike [] ts (sym e ∙ none))
+    → left ≡ [] → with_note n (map token_value ts) notes ≡ Ok notes
+line_is_empty n left ts notes e none = line_without_tokens n (map token_value ts) notes (nothing_alike [] ts (sym e ∙ none))
 
 pub line_is_read : (n : ℕ) (left : List TokenValue) (ts : List Token) (notes : List Numbers) (r : NoteResult Numbers)
     → left ≡ values_over [] ts → (left ≡ [] → ⊥) → note_of_line (length notes) n (note left) ≡ r
-    → with_note n (map said ts) notes ≡ and_then r (λ x. Ok (notes ++ x ∷ []))
+    → with_note n (map token_value ts) notes ≡ and_then r (λ x. Ok (notes ++ x ∷ []))
 line_is_read n left ts notes r e some j =
-    says_more n (map said ts) notes r (something_alike [] ts (λ none. some (e ∙ none)))
+    line_with_tokens n (map token_value ts) notes r (something_alike [] ts (λ none. some (e ∙ none)))
     (sym (judged_alike (length notes) n [] ts)
     ∙ ap (λ (xs : List TokenValue). note_of_line (length notes) n (note xs)) (sym e) ∙ j)
 

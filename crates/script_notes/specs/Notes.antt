@@ -67,19 +67,19 @@ note_of_line k n (Ok t) = in_time k n t.value
 -- a line with tokens, and its number
 pub record TokenLine : Type 0 where
   pub line : ℕ
-  pub said : List TokenValue
+  pub token_values : List TokenValue
 
 -- the lines with tokens, of which the first line has the number n
 unfoldable pub token_lines : ℕ → List (List TokenValue) → List TokenLine
 token_lines n [] = []
 token_lines n ([] ∷ lines) = token_lines (suc n) lines
-token_lines n ((s ∷ said) ∷ lines) = record { line = n; said = s ∷ said } ∷ token_lines (suc n) lines
+token_lines n ((s ∷ token_values) ∷ lines) = record { line = n; token_values = s ∷ token_values } ∷ token_lines (suc n) lines
 
 -- the notes of such lines, after k notes, or the first fault
 unfoldable pub notes_after : ℕ → List TokenLine → NoteResult (List Numbers)
 notes_after k [] = Ok []
 notes_after k (s ∷ lines) =
-    and_then (note_of_line k s.line (note s.said)) (λ x. and_then (notes_after (suc k) lines) (λ xs. Ok (x ∷ xs)))
+    and_then (note_of_line k s.line (note s.token_values)) (λ x. and_then (notes_after (suc k) lines) (λ xs. Ok (x ∷ xs)))
 
 -- the notes of a text, one for each line with tokens, or the first fault
 unfoldable pub notes_of : List ℕ → NoteResult (List Numbers)
@@ -90,4 +90,4 @@ notes_of text = notes_after 0 (token_lines 1 (values_of_lines text))
 -- the notes, and the note of line n if the line has tokens
 abbrev pub with_note : ℕ → List TokenValue → List Numbers → NoteResult (List Numbers)
 with_note n [] notes = Ok notes
-with_note n (s ∷ said) notes = and_then (note_of_line (length notes) n (note (s ∷ said))) (λ x. Ok (notes ++ x ∷ []))
+with_note n (s ∷ token_values) notes = and_then (note_of_line (length notes) n (note (s ∷ token_values))) (λ x. Ok (notes ++ x ∷ []))

@@ -17,7 +17,7 @@ use std::alloc::Global;
 /// `OutOfMemory`. If a line has several faults, `BadNote` precedes `TooLong`, and `TooLong` precedes
 /// `TooManyNotes`.
 pub fn parse_notes(alloc: Global, text: &[u8]) -> Result<Vec<Note>, Failure<NoteFault>>
-    ensures answers { Answers (λ notes. notes.items) result (notes_of text.now) }
+    ensures parsed { Answers (λ notes. notes.items) result (notes_of text.now) }
     ensures few { IfOk result (λ notes. length notes.items ≤ MOST_NOTES) }
 {
     let mut notes = Vec::new(alloc);

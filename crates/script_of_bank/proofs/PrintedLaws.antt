@@ -12,11 +12,11 @@ use Rattle.script_tokens.specs.declared.printing.Piece.TheVariants.{Number}
 use Rattle.script_tokens.specs.Lines.{lines_of}
 use Rattle.script_tokens.specs.Parsers.{digits_value}
 use Rattle.script_tokens.specs.Printing.{piece_text}
-use Rattle.script_tokens.proofs.PieceLaws.{line_first, spoken_number, writes}
+use Rattle.script_tokens.proofs.PieceLaws.{line_first, printable_number, writes}
 use Rattle.edit_script.specs.declared.parsing.Line.{Line}
 use Rattle.edit_script.specs.Script.{script_of}
 use Rattle.edit_script.specs.Printing.{AllFit, texts_of, numbered}
-use Rattle.edit_script.proofs.LineLaws.{printed_spell, printed_behind, edits_numbered}
+use Rattle.edit_script.proofs.LineLaws.{printed_is_read, printed_after_comment, edits_numbered}
 use Rattle.script_of_bank.specs.declared.samples.SamplePoints.TheVariants.{Kept}
 use Rattle.script_of_bank.specs.BankEdits.{empty, edits_of_bank}
 use Rattle.script_of_bank.specs.LeadsTo.{Leads, edits_between}
@@ -35,8 +35,8 @@ small b s = let h = s.fits.minor in omega (arith, h)
 pub text_read : (b : Parts) → IsSound b → script_of (bank_script Kept b) ≡ Ok (numbered 2 (edits_of_bank b))
 unfolding bank_script first_line
 text_read b s =
-    printed_behind (drop 1 (codes "# sfbank new --minor")) (Number b.minor ∷ []) (edits_of_bank b) refl
-    (spoken_number b.minor (small b s), tt)
+    printed_after_comment (drop 1 (codes "# sfbank new --minor")) (Number b.minor ∷ []) (edits_of_bank b) refl
+    (printable_number b.minor (small b s), tt)
     (accepted_fit (empty b.minor) (edits_of_bank b) (whole b s).is_accepted)
 
 pub text_gives : TextGivesBank
@@ -77,7 +77,7 @@ unfolding minor_read first_or bank_script first_line piece_text
 minor_of_text b s =
     ap (λ (ls : List (List ℕ)). digits_value (drop 21 (first_or ls)))
     (line_first (codes "# sfbank new --minor") (Number b.minor ∷ []) (texts_of (edits_of_bank b)) refl
-    (spoken_number b.minor (small b s), tt))
+    (printable_number b.minor (small b s), tt))
     ∙ (ap digits_value (append-nil (decimal b.minor))
     ∙ (let h = s.fits.minor in writes 65535 b.minor (omega (arith, h)) (omega arith)).value)
 
@@ -95,6 +95,6 @@ replaces a b s r m =
     let leads = anywhere a b s r m in
     record {
       lines = numbered 1 es;
-      read = printed_spell es (accepted_fit a es leads.is_accepted);
+      read = printed_is_read es (accepted_fit a es leads.is_accepted);
       leads = subst (λ (es : List Edit). Leads a es b) (sym (edits_numbered 1 es)) leads;
     }

@@ -5,7 +5,7 @@ use Rattle.std.specs.Str.{bytes_eq}
 use Rattle.sf_base.specs.declared.memory.Failure.{Failure}
 use Rattle.edit_forms.specs.declared.step.Step.{Step}
 use Rattle.script_tokens.specs.declared.fault.LineFault.{LineFault}
-use Rattle.script_tokens.specs.TokenValue as saying
+use Rattle.script_tokens.specs.TokenValue as cursors
 use Rattle.script_steps.specs.Forms.{Form, form_word, form_in, ReadsForm}
 
 -- a form in the first of two lists is found in both; else the second is searched
@@ -36,7 +36,7 @@ in_first xs ys w e = from (form_in xs w) refl e
     from None k e = cc
     from (Some f) k e = found_in_first xs ys w f k ∙ sym k
 
-module _ (form : Option Form) (old new : saying.Left) where
+module _ (form : Option Form) (old new : cursors.CursorState) where
   -- a result is the result of a form that is found
   pub found : (read : Result Step (Failure LineFault)) → ReadsForm form old new (Some read) → is_some form ≡ true
   unfolding ReadsForm

@@ -19,12 +19,12 @@ use Rattle.script_grammar.specs.Samples.{points, tune, body}
 use Rattle.script_grammar.specs.Texts.{id_word, ids, info_id}
 use Rattle.script_grammar.specs.Items.{generator_operands, modulator_operands, generator, modulator}
 use Rattle.script_grammar.proofs.NameLaws.{id_named, axis_named, keep_named}
-use Rattle.script_grammar.proofs.CompletenessLaws as spell
+use Rattle.script_grammar.proofs.CompletenessLaws as complete
 use Rattle.script_grammar.proofs.CompletenessLaws.{Gives, gives_pure, gives_named, gives_number, gives_name, gives_text}
 use Rattle.script_grammar.proofs.CompletenessLaws.{gives_points, gives_kind, gives_loop, gives_tune, gives_body}
 use Rattle.script_grammar.proofs.ZoneCompletenessLaws.{gives_generator, gives_modulator, as_other}
 use Rattle.script_grammar.proofs.ReadLaws as read
-use Rattle.script_grammar.proofs.ReadLaws.{Fronts, made, number_front, name_front, text_front, points_front}
+use Rattle.script_grammar.proofs.ReadLaws.{PrefixEncodes, made, number_front, name_front, text_front, points_front}
 use Rattle.script_grammar.proofs.ReadLaws.{kind_front, loop_front, tune_front, body_front, next_named_front}
 use Rattle.script_grammar.proofs.ZoneReadLaws.{generator_front, modulator_front}
 use Rattle.script_grammar.proofs.RepeatedLaws.{Keeps, pure_keeps, then_keeps}
@@ -34,7 +34,7 @@ use Rattle.script_grammar.proofs.KeepLaws.{looped_keeps, tune_keeps, body_keeps}
 use Rattle.script_grammar.proofs.FitLaws.{AllRanged, following, kind_fits, loop_fits, tune_fits, sample_fits, word32}
 use Rattle.script_grammar.proofs.FitLaws.{word16, kind_fit, loop_fit, tune_fit, body_fit, id_fixed, axis_fixed}
 use Rattle.script_grammar.proofs.FitLaws.{keep_fixed}
-use Rattle.script_grammar.proofs.ZoneFitLaws.{generator_fits, modulator_fits, generator_said, modulator_said}
+use Rattle.script_grammar.proofs.ZoneFitLaws.{generator_fits, modulator_fits, generator_operands_fit, modulator_operands_fit}
 use Rattle.script_grammar.proofs.OperandLaws.{IsFixed, AllFit, both_fit}
 use Rattle.script_steps.specs.Members.{place}
 
@@ -44,8 +44,8 @@ pub record IsLawful {X : Type 0} (part : Parser X) (operands : X → List Operan
   pub gives : (x : X) (line : List TokenValue) (more : List Operand) → AllEncode line (operands x ++ more)
       → Gives part x line more
   -- a value that is read has its operands on the line
-  pub fronts : (line : List TokenValue) (t : Parsed X) → AllHoldBytes line → part line ≡ Ok t
-      → Fronts line t.rest (operands t.value)
+  pub prefix : (line : List TokenValue) (t : Parsed X) → AllHoldBytes line → part line ≡ Ok t
+      → PrefixEncodes line t.rest (operands t.value)
   -- no more tokens remain than there were
   pub keeps : Keeps part
   -- a value on a line fits, and a value that fits can be encoded
@@ -63,16 +63,16 @@ module _ {X Y : Type 0} {p : Parser X} {q : Parser Y} {o : X → List Operand} {
   pub ◌&◌ : IsLawful p o F → IsLawful q r G → IsLawful (pair_part p q) (λ a. o a.0 ++ r a.1) (λ a. F a.0 × G a.1)
   l & m = record {
     gives = λ a line more h.
-        spell.then _ (l.gives a.0 line (r a.1 ++ more)
+        complete.then _ (l.gives a.0 line (r a.1 ++ more)
         (subst (AllEncode line) (append_assoc (o a.0) (r a.1) more) h)) (λ rest k.
-        spell.then _ (m.gives a.1 rest more k) (λ rest k. gives_pure (a.0, a.1) rest more k));
-    fronts = λ line t h e.
+        complete.then _ (m.gives a.1 rest more k) (λ rest k. gives_pure (a.0, a.1) rest more k));
+    prefix = λ line t h e.
         let u = both (p line) (λ x. q >>= λ y. pure (x, y)) t e in
-        let k = l.fronts line u.first h u.is in
+        let k = l.prefix line u.first h u.is in
         let v = both (q u.first.rest) (λ y. pure (u.first.value, y)) t u.second in
-        subst (λ (t : Parsed (X × Y)). Fronts line t.rest (o t.value.0 ++ r t.value.1))
+        subst (λ (t : Parsed (X × Y)). PrefixEncodes line t.rest (o t.value.0 ++ r t.value.1))
         (made (u.first.value, v.first.value) v.first.rest t v.second)
-        (read.then (o u.first.value) (r v.first.value) k (m.fronts u.first.rest v.first k.holds v.is));
+        (read.then (o u.first.value) (r v.first.value) k (m.prefix u.first.rest v.first k.holds v.is));
     keeps = then_keeps p _ l.keeps (λ x. then_keeps q _ m.keeps (λ y. pure_keeps (x, y)));
     fits = λ a h. let k = following (o a.0) (r a.1) h in (l.fits a.0 k.0, m.fits a.1 k.1);
     fit = λ a h. both_fit (o a.0) (r a.1) (l.fit a.0 h.0) (m.fit a.1 h.1);
@@ -84,10 +84,10 @@ pub regrouped : {X Y Z : Type 0} (s : Result (Parsed X) LineFault) (f : X → Pa
 regrouped (Err e) f g = refl
 regrouped (Ok t) f g = refl
 
-pub same_behind : {X Z : Type 0} {f g : X → Parser Z} (s : Result (Parsed X) LineFault)
+pub same_after : {X Z : Type 0} {f g : X → Parser Z} (s : Result (Parsed X) LineFault)
     → ((x : X) (line : List TokenValue) → f x line ≡ g x line) → and_then s f ≡ and_then s g
-same_behind (Err e) h = refl
-same_behind (Ok t) h = h t.value t.rest
+same_after (Err e) h = refl
+same_after (Ok t) h = h t.value t.rest
 
 -- a function of two values is a function of their pair
 module _ {X Y Z : Type 0} (p : Parser X) (q : Parser Y) (make : X → Y → Z) where
@@ -96,14 +96,14 @@ module _ {X Y Z : Type 0} (p : Parser X) (q : Parser Y) (make : X → Y → Z) w
   of_two line =
       sym
       (regrouped (p line) (λ x. q >>= λ y. pure (x, y)) (λ a. pure (make a.0 a.1))
-      ∙ same_behind (p line) (λ x line. regrouped (q line) (λ y. pure (x, y)) (λ a. pure (make a.0 a.1))))
+      ∙ same_after (p line) (λ x line. regrouped (q line) (λ y. pure (x, y)) (λ a. pure (make a.0 a.1))))
 
 -- the same, where the second value is a pair itself, with laws of its own
 module _ {X Y Z : Type 0} (p : Parser X) {q : Parser Y} {r : Y → List Operand} {G : Y → Type 0} where
   pub of_more : IsLawful q r G → (make : X → Y → Z) → {f : X → Parser Z}
       → ((x : X) (line : List TokenValue) → f x line ≡ (q >>= λ y. pure (make x y)) line) → (line : List TokenValue)
       → (p >>= f) line ≡ (pair_part p q >>= λ a. pure (make a.0 a.1)) line
-  of_more m make h line = same_behind (p line) h ∙ of_two p q make line
+  of_more m make h line = same_after (p line) h ∙ of_two p q make line
 
 -- the image of a value under a function with a right inverse
 module _ {X Y : Type 0} {p : Parser X} {o : X → List Operand} {F : X → Type 0} (l : IsLawful p o F) {q : Parser Y}
@@ -115,10 +115,10 @@ module _ {X Y : Type 0} {p : Parser X} {o : X → List Operand} {F : X → Type 
         λ y line more h.
         subst (λ (y : Y). AllEncode line (r y ++ more) → Gives q y line more) (whole y)
         (λ h. of (back y) line more h) h;
-    fronts = λ line t h e.
+    prefix = λ line t h e.
         let u = both (p line) (λ x. pure (make x)) t (sym (reads line) ∙ e) in
-        subst (λ (t : Parsed Y). Fronts line t.rest (r t.value)) (made (make u.first.value) u.first.rest t u.second)
-        (subst (Fronts line u.first.rest) (same u.first.value) (l.fronts line u.first h u.is));
+        subst (λ (t : Parsed Y). PrefixEncodes line t.rest (r t.value)) (made (make u.first.value) u.first.rest t u.second)
+        (subst (PrefixEncodes line u.first.rest) (same u.first.value) (l.prefix line u.first h u.is));
     keeps = λ line t e. then_keeps p _ l.keeps (λ x. pure_keeps (make x)) line t (sym (reads line) ∙ e);
     fits =
         λ y.
@@ -134,7 +134,7 @@ module _ {X Y : Type 0} {p : Parser X} {o : X → List Operand} {F : X → Type 
           → Gives q (make x) line more
       of x line more h =
           as_other (p >>= λ x. pure (make x)) q (make x) line more (reads line)
-          (spell.then _
+          (complete.then _
           (l.gives x line more (subst (λ (os : List Operand). AllEncode line (os ++ more)) (sym (same x)) h))
           (λ rest k. gives_pure (make x) rest more k))
 
@@ -146,7 +146,7 @@ number_lawful limit F within fit =
     record {
       gives =
           gives_number limit;
-      fronts =
+      prefix =
           number_front limit;
       keeps =
           number_keeps limit;
@@ -173,7 +173,7 @@ named_lawful word_of xs is fixed =
     record {
       gives =
           λ x. gives_named word_of xs x (is x);
-      fronts =
+      prefix =
           next_named_front word_of xs;
       keeps =
           named_keeps word_of xs;
@@ -194,32 +194,32 @@ an_id = named_lawful id_word ids id_named id_fixed
 -- ---- names, texts and points
 
 pub a_name : IsLawful name (λ n. Name n ∷ []) IsName
-a_name = record { gives = gives_name; fronts = name_front; keeps = name_keeps; fits = λ n h. h.0; fit = λ n h. (h, tt) }
+a_name = record { gives = gives_name; prefix = name_front; keeps = name_keeps; fits = λ n h. h.0; fit = λ n h. (h, tt) }
 
 pub a_text : IsLawful literal (λ t. Text t ∷ []) FitsText
 a_text =
     record
-    { gives = gives_text; fronts = text_front; keeps = literal_keeps; fits = λ t h. h.0; fit = λ t h. (h, tt) }
+    { gives = gives_text; prefix = text_front; keeps = literal_keeps; fits = λ t h. h.0; fit = λ t h. (h, tt) }
 
 pub some_points : IsLawful points (λ ps. Points ps ∷ []) (AllByRecursion (λ p. p < 2 ^ 16))
 some_points =
     record
-    { gives = gives_points; fronts = points_front; keeps = points_keep; fits = λ ps h. h.0; fit = λ ps h. (h, tt) }
+    { gives = gives_points; prefix = points_front; keeps = points_keep; fits = λ ps h. h.0; fit = λ ps h. (h, tt) }
 
 -- ---- parts of a sample
 
 pub a_kind : IsLawful kind kind_operands FitsKind
-a_kind = record { gives = gives_kind; fronts = kind_front; keeps = kind_keeps; fits = kind_fits; fit = kind_fit }
+a_kind = record { gives = gives_kind; prefix = kind_front; keeps = kind_keeps; fits = kind_fits; fit = kind_fit }
 
 pub a_loop : IsLawful looped loop_operands FitsLoop
-a_loop = record { gives = gives_loop; fronts = loop_front; keeps = looped_keeps; fits = loop_fits; fit = loop_fit }
+a_loop = record { gives = gives_loop; prefix = loop_front; keeps = looped_keeps; fits = loop_fits; fit = loop_fit }
 
 pub a_tune : IsLawful tune (λ t. tune_operands t.0 t.1 t.2) (λ t. (t.0 < 2 ^ 32) × (t.1 < 2 ^ 8) × FitsSigned w8 t.2)
 a_tune =
     record {
       gives =
           λ t. gives_tune t.0 t.1 t.2;
-      fronts =
+      prefix =
           tune_front;
       keeps =
           tune_keeps;
@@ -228,7 +228,7 @@ a_tune =
     }
 
 pub a_body : IsLawful body body_operands FitsSample
-a_body = record { gives = gives_body; fronts = body_front; keeps = body_keeps; fits = sample_fits; fit = body_fit }
+a_body = record { gives = gives_body; prefix = body_front; keeps = body_keeps; fits = sample_fits; fit = body_fit }
 
 -- ---- settings
 
@@ -237,12 +237,12 @@ a_generator =
     record {
       gives =
           λ g. gives_generator g.0 g.1;
-      fronts =
+      prefix =
           generator_front;
       keeps =
           generator_keeps;
       fits = λ g. generator_fits g.0 g.1;
-      fit = λ g. generator_said g.0 g.1;
+      fit = λ g. generator_operands_fit g.0 g.1;
     }
 
 pub a_modulator : IsLawful modulator modulator_operands FitsModulator
@@ -250,9 +250,9 @@ a_modulator =
     record {
       gives =
           gives_modulator;
-      fronts =
+      prefix =
           modulator_front;
       keeps = modulator_keeps;
       fits = modulator_fits;
-      fit = modulator_said;
+      fit = modulator_operands_fit;
     }

@@ -1,5 +1,5 @@
 pub mod PutLaws
-pub mod FrontLaws
+pub mod PrefixLaws
 pub mod Lawful
 pub mod OwnerLaws
 pub mod TextFormLaws

@@ -13,10 +13,10 @@ use Rattle.script_tokens.specs.Parsers.{Parser, Parsed, ◌>>=◌, pure, is_next
 use Rattle.script_tokens.proofs.ReadLaws.{AllHoldBytes, both}
 use Rattle.script_grammar.specs.Operands.{Operand, Fixed, AllEncode}
 use Rattle.script_grammar.specs.Names.{named, next_named}
-use Rattle.script_grammar.proofs.CompletenessLaws as spell
+use Rattle.script_grammar.proofs.CompletenessLaws as complete
 use Rattle.script_grammar.proofs.CompletenessLaws.{Gives, gives_pure, gives_word, gives_number}
 use Rattle.script_grammar.proofs.ZoneCompletenessLaws.{next_word, not_global, as_other}
-use Rattle.script_grammar.proofs.ReadLaws.{Fronts, made, word_front, number_front}
+use Rattle.script_grammar.proofs.ReadLaws.{PrefixEncodes, made, word_front, number_front}
 use Rattle.script_grammar.proofs.ZoneReadLaws.{next_is}
 use Rattle.script_grammar.proofs.RepeatedLaws.{shortens_keeps, pure_keeps, then_keeps, word_shortens}
 use Rattle.script_grammar.proofs.ItemLaws.{number_keeps}
@@ -89,9 +89,9 @@ owner_is : (o : Owner) → owner_with (kind_of o) (number_in o) ≡ o
 owner_is (owner.Preset p) = refl
 owner_is (owner.Inst i) = refl
 
-owner_said : (k : OwnerKind) (n : ℕ) → Fixed (kind_word k) ∷ place n ∷ [] ≡ of_owner (owner_with k n)
-owner_said kind.Preset n = refl
-owner_said kind.Instrument n = refl
+owner_operands_same : (k : OwnerKind) (n : ℕ) → Fixed (kind_word k) ∷ place n ∷ [] ≡ of_owner (owner_with k n)
+owner_operands_same kind.Preset n = refl
+owner_operands_same kind.Instrument n = refl
 
 owner_fits : (k : OwnerKind) (n : ℕ)
     → (Unit {0} × (n < 2 ^ 32) → FitsOwnerNumber (owner_with k n))
@@ -104,7 +104,7 @@ unfolding an_owner
 owners =
     made_lawful (named_lawful kind_word kinds kind_named kind_fixed & index) (λ a. owner_with a.0 a.1)
     (λ o. (kind_of o, number_in o)) (of_two (next_named kind_word kinds) (number most_double_word) owner_with)
-    owner_is (λ a. owner_said a.0 a.1) (λ a. owner_fits a.0 a.1)
+    owner_is (λ a. owner_operands_same a.0 a.1) (λ a. owner_fits a.0 a.1)
 
 -- ---- a place in an owner
 
@@ -120,8 +120,8 @@ places =
     record {
       gives =
           gives;
-      fronts =
-          λ line t h e. fronts line t h (is_next (codes "global") line) refl e;
+      prefix =
+          λ line t h e. prefix line t h (is_next (codes "global") line) refl e;
       keeps =
           λ line t e. keeps line t (is_next (codes "global") line) e;
       fits = fits;
@@ -133,22 +133,22 @@ places =
     gives there.Global line more h =
         as_other global a_place there.Global line more
         (rw (next_word (codes "global") (codes "global") line more h) refl)
-        (spell.then _ (gives_word (codes "global") line more h) (λ rest k. gives_pure there.Global rest more k))
+        (complete.then _ (gives_word (codes "global") line more h) (λ rest k. gives_pure there.Global rest more k))
     gives (there.Zone z) line more h =
         as_other zone a_place (there.Zone z) line more (rw (not_global most_double_word z line more h) refl)
-        (spell.then _ (gives_number most_double_word z line more h) (λ rest k. gives_pure (there.Zone z) rest more k))
+        (complete.then _ (gives_number most_double_word z line more h) (λ rest k. gives_pure (there.Zone z) rest more k))
 
-    fronts : (line : List TokenValue) (t : Parsed Place) → AllHoldBytes line → (b : Bool) → is_next (codes "global") line ≡ b
-        → cond b (global line) (zone line) ≡ Ok t → Fronts line t.rest (at_place t.value ∷ [])
-    fronts line t h true k e =
+    prefix : (line : List TokenValue) (t : Parsed Place) → AllHoldBytes line → (b : Bool) → is_next (codes "global") line ≡ b
+        → cond b (global line) (zone line) ≡ Ok t → PrefixEncodes line t.rest (at_place t.value ∷ [])
+    prefix line t h true k e =
         let w = both (word line) (λ w. pure there.Global) t e in
-        subst (λ (t : Parsed Place). Fronts line t.rest (at_place t.value ∷ []))
+        subst (λ (t : Parsed Place). PrefixEncodes line t.rest (at_place t.value ∷ []))
         (made there.Global w.first.rest t w.second)
-        (subst (λ (v : List ℕ). Fronts line w.first.rest (Fixed v ∷ []))
+        (subst (λ (v : List ℕ). PrefixEncodes line w.first.rest (Fixed v ∷ []))
         (next_is (codes "global") line w.first w.is k) (word_front line w.first h w.is))
-    fronts line t h false k e =
+    prefix line t h false k e =
         let n = both (number most_double_word line) (λ k. pure (there.Zone k)) t e in
-        subst (λ (t : Parsed Place). Fronts line t.rest (at_place t.value ∷ []))
+        subst (λ (t : Parsed Place). PrefixEncodes line t.rest (at_place t.value ∷ []))
         (made (there.Zone n.first.value) n.first.rest t n.second)
         (number_front most_double_word line n.first h n.is)
 

@@ -33,7 +33,7 @@ use Rattle.script_steps.specs.Texts as texts
 use Rattle.script_steps.specs.Forms.{Form, form_word, form_in}
 use Rattle.script_steps.specs.Grammar.{forms, word_of, operands, EncodesStep, a_form, step}
 use Rattle.script_steps.specs.TextForm.{EncodesWholeStep}
-use Rattle.script_steps.proofs.FrontLaws.{SaidFront, IsSaid}
+use Rattle.script_steps.proofs.PrefixLaws.{EncodedPrefix, IsEncoded}
 use Rattle.script_steps.proofs.Rows.{Row, RowOf, ValueOf, rows, at, values}
 
 -- ---- the form of a step
@@ -109,19 +109,19 @@ record IsStepLawful (f : Form) (s : Step) : Type 0 where
   printed : EncodesStep s (operands s)
 
 module _ {f : Form} (r : Row f) where
-  operands_said : IsSaid Step f.1 (StepOf f)
-  operands_said line t g e =
+  operands_encoded : IsEncoded Step f.1 (StepOf f)
+  operands_encoded line t g e =
       let u = both (r.part line) (λ x. pure (r.make x)) t (sym (r.reads line) ∙ e) in
-      let k = r.lawful.said line u.first g u.is in
+      let k = r.lawful.encoded line u.first g u.is in
       let is = r.is u.first.value in
-      subst (SaidFront (StepOf f) line) (made (r.make u.first.value) u.first.rest t u.second)
+      subst (EncodedPrefix (StepOf f) line) (made (r.make u.first.value) u.first.rest t u.second)
       (record {
         operands =
             k.operands;
-        says =
-            (subst (λ (Encodes : List Operand → Type 0). Encodes k.operands) (sym is.1) k.says, is.0);
-        fronts =
-            k.fronts;
+        encoding =
+            (subst (λ (Encodes : List Operand → Type 0). Encodes k.operands) (sym is.1) k.encoding, is.0);
+        prefix =
+            k.prefix;
       })
 
   operands_keep : Keeps f.1
@@ -139,7 +139,7 @@ module _ {f : Form} (r : Row f) where
         fit = λ h. subst AllFit (sym is.2) (r.lawful.fit x (is.4 h));
         printed =
             subst (λ (Encodes : List Operand → Type 0). Encodes (operands (r.make x))) (sym is.1)
-            (subst (r.Encodes x) (sym is.2) (r.lawful.is_said x));
+            (subst (r.Encodes x) (sym is.2) (r.lawful.printed_encodes x));
       }
 
 step_lawful : (s : Step) → IsStepLawful (of_step s).form s
@@ -157,24 +157,24 @@ read_row line t e =
     subst RowOf found.0 (at forms rows.rows w.first.value)
 
 -- a step that is read has its operands on the line
-pub step_said : IsSaid Step step EncodesWholeStep
+pub step_encoded : IsEncoded Step step EncodesWholeStep
 unfolding step
-step_said line t g e =
+step_encoded line t g e =
     let u = both (a_form line) (λ f. f.1) t e in
     let f = u.first.value in
     let front = next_named_front form_word forms line u.first g u.is in
-    let k = operands_said (read_row line u.first u.is) u.first.rest t front.holds u.second in
+    let k = operands_encoded (read_row line u.first u.is) u.first.rest t front.holds u.second in
     record {
       operands =
           Fixed (form_word f) ∷ k.operands;
-      says =
+      encoding =
           record {
             operands =
                 k.operands;
-            parts = ap (λ (w : List ℕ). Fixed w ∷ k.operands) (sym k.says.1);
-            says = k.says.0;
+            parts = ap (λ (w : List ℕ). Fixed w ∷ k.operands) (sym k.encoding.1);
+            encoding = k.encoding.0;
           };
-      fronts = read.then (Fixed (form_word f) ∷ []) k.operands front k.fronts;
+      prefix = read.then (Fixed (form_word f) ∷ []) k.operands front k.prefix;
     }
 
 -- operands that encode a step are read as it
@@ -190,7 +190,7 @@ gives_step s os more end h line k =
     (gives_named form_word forms o.form found line (h.operands ++ more)
     (subst (λ (w : List ℕ). AllEncode line (Fixed w ∷ h.operands ++ more)) (sym word)
     (subst (λ (os : List Operand). AllEncode line (os ++ more)) h.parts k)))
-    (λ rest k. (step_lawful s).gives h.operands more end h.says rest k)
+    (λ rest k. (step_lawful s).gives h.operands more end h.encoding rest k)
 
 -- it leaves no more tokens than there were
 pub step_keeps : Keeps step

@@ -12,7 +12,7 @@ use Rattle.script_tokens.specs.Parsers.{Parser, ◌>>=◌, pure, and_then}
 use Rattle.script_grammar.specs.Operands.{Operand, AllEncode}
 use Rattle.script_grammar.specs.Zones.{Written, WrittenZone, zone_operands, written_operands, written_zone}
 use Rattle.script_grammar.specs.Zones.{written_of, zone_in, zones_in, zone, zones}
-use Rattle.script_grammar.proofs.CompletenessLaws as spell
+use Rattle.script_grammar.proofs.CompletenessLaws as complete
 use Rattle.script_grammar.proofs.CompletenessLaws.{Gives, gives_pure}
 use Rattle.script_grammar.proofs.ZoneCompletenessLaws.{EndsZones, gives_zone, gives_zones}
 use Rattle.script_grammar.proofs.ZoneReadLaws.{zone_front, zones_front}
@@ -26,8 +26,8 @@ use Rattle.script_grammar.proofs.OperandLaws.{AllFit, both_fit}
 use Rattle.script_steps.specs.Members.{place, printed_owner, EncodesOwner, owner_of, zones_of, owner}
 use Rattle.script_steps.specs.Owners.{of_zone, owner_zone}
 use Rattle.script_steps.specs.Zones.{printed_zone, EncodesZone}
-use Rattle.script_steps.proofs.FrontLaws.{IsSaid, following, behind_said, none, said_as}
-use Rattle.script_steps.proofs.Lawful.{IsLawful, pair_part, of_two, regrouped, same_behind}
+use Rattle.script_steps.proofs.PrefixLaws.{IsEncoded, following, encoded_after, none, encoded_as}
+use Rattle.script_steps.proofs.Lawful.{IsLawful, pair_part, of_two, regrouped, same_after}
 use Rattle.script_steps.proofs.OwnerLaws.{owner_zones}
 
 -- the laws of such a part: these operands encode its values, and those are printed
@@ -35,65 +35,65 @@ pub record HasLawfulForms {X : Type 0} (part : Parser X) (Encodes : X → List O
     (Fits : X → Type 0) : Type 0 where
   pub gives : (x : X) (os more : List Operand) → EndsZones more → Encodes x os → (line : List TokenValue)
       → AllEncode line (os ++ more) → Gives part x line more
-  pub said : IsSaid X part Encodes
+  pub encoded : IsEncoded X part Encodes
   pub keeps : Keeps part
   pub fits : (x : X) (os : List Operand) → Encodes x os → AllRanged os → Fits x
   pub fit : (x : X) → Fits x → AllFit (printed x)
-  pub is_said : (x : X) → Encodes x (printed x)
+  pub printed_encodes : (x : X) → Encodes x (printed x)
 
 -- a part with one text form
 pub in_one_way : {X : Type 0} {p : Parser X} {o : X → List Operand} {F : X → Type 0} → IsLawful p o F
     → HasLawfulForms p (λ x os. os ≡ o x) o F
 in_one_way {X} {p} {o} l = record {
   gives = λ x os more end e line h. l.gives x line more (subst (λ (os : List Operand). AllEncode line (os ++ more)) e h);
-  said = λ line t g e. record { operands = o t.value; says = refl; fronts = l.fronts line t g e };
+  encoded = λ line t g e. record { operands = o t.value; encoding = refl; prefix = l.prefix line t g e };
   keeps = l.keeps;
   fits = λ x os e h. l.fits x (subst AllRanged e h);
   fit = l.fit;
-  is_said = λ x. refl;
+  printed_encodes = λ x. refl;
 }
 
 -- after operands with one text form
-pub record SaysBehind {Y : Type 0} (Encodes : Y → List Operand → Type 0) (before : List Operand) (y : Y)
+pub record EncodesAfter {Y : Type 0} (Encodes : Y → List Operand → Type 0) (before : List Operand) (y : Y)
     (os : List Operand) : Type 0 where
   pub following : List Operand
   pub parts : os ≡ before ++ following
-  pub says : Encodes y following
+  pub encoding : Encodes y following
 
 module _ {X Y : Type 0} {p : Parser X} {q : Parser Y} {o : X → List Operand} {F : X → Type 0}
     {S : Y → List Operand → Type 0} {r : Y → List Operand} {G : Y → Type 0} where
-  behind_spelt : IsLawful p o F → HasLawfulForms q S r G
-      → HasLawfulForms (pair_part p q) (λ a. SaysBehind S (o a.0) a.1) (λ a. o a.0 ++ r a.1) (λ a. F a.0 × G a.1)
-  behind_spelt l m = record {
+  forms_after : IsLawful p o F → HasLawfulForms q S r G
+      → HasLawfulForms (pair_part p q) (λ a. EncodesAfter S (o a.0) a.1) (λ a. o a.0 ++ r a.1) (λ a. F a.0 × G a.1)
+  forms_after l m = record {
     gives = λ a os more end s line h.
-        spell.then _ (l.gives a.0 line (s.following ++ more) (subst (AllEncode line) (append_assoc (o a.0) s.following more) (subst (λ (os : List Operand). AllEncode line (os ++ more)) s.parts h))) (λ rest k.
-        spell.then _ (m.gives a.1 s.following more end s.says rest k) (λ rest k. gives_pure (a.0, a.1) rest more k));
-    said =
-        following p _ (λ a. SaysBehind S (o a.0) a.1) o l.fronts (λ x.
-        behind_said q _ (λ (a : X × Y) os. SaysBehind S (o a.0) a.1 (o x ++ os)) {S = S} m.said (λ y os s.
-        none (x, y) (λ (a : X × Y) more. SaysBehind S (o a.0) a.1 (o x ++ (os ++ more)))
-        (record { following = os; parts = ap (λ (os : List Operand). o x ++ os) (append-nil os); says = s })));
+        complete.then _ (l.gives a.0 line (s.following ++ more) (subst (AllEncode line) (append_assoc (o a.0) s.following more) (subst (λ (os : List Operand). AllEncode line (os ++ more)) s.parts h))) (λ rest k.
+        complete.then _ (m.gives a.1 s.following more end s.encoding rest k) (λ rest k. gives_pure (a.0, a.1) rest more k));
+    encoded =
+        following p _ (λ a. EncodesAfter S (o a.0) a.1) o l.prefix (λ x.
+        encoded_after q _ (λ (a : X × Y) os. EncodesAfter S (o a.0) a.1 (o x ++ os)) {S = S} m.encoded (λ y os s.
+        none (x, y) (λ (a : X × Y) more. EncodesAfter S (o a.0) a.1 (o x ++ (os ++ more)))
+        (record { following = os; parts = ap (λ (os : List Operand). o x ++ os) (append-nil os); encoding = s })));
     keeps = then_keeps p _ l.keeps (λ x. then_keeps q _ m.keeps (λ y. pure_keeps (x, y)));
     fits =
         λ a os s h. let k =
         fit.following (o a.0) s.following (subst AllRanged s.parts h) in
-        (l.fits a.0 k.0, m.fits a.1 s.following s.says k.1);
+        (l.fits a.0 k.0, m.fits a.1 s.following s.encoding k.1);
     fit = λ a h. both_fit (o a.0) (r a.1) (l.fit a.0 h.0) (m.fit a.1 h.1);
-    is_said = λ a. record { following = r a.1; parts = refl; says = m.is_said a.1 };
+    printed_encodes = λ a. record { following = r a.1; parts = refl; encoding = m.printed_encodes a.1 };
   }
 
 -- the same for an equivalent relation
 module _ {X : Type 0} {p : Parser X} {S T : X → List Operand → Type 0} {o : X → List Operand} {F G : X → Type 0} where
-  spelt_as : HasLawfulForms p S o F → ((x : X) (os : List Operand) → S x os → T x os)
+  forms_as : HasLawfulForms p S o F → ((x : X) (os : List Operand) → S x os → T x os)
       → ((x : X) (os : List Operand) → T x os → S x os) → ((x : X) → F x → G x) → ((x : X) → G x → F x)
       → HasLawfulForms p T o G
-  spelt_as l to back up down = record {
+  forms_as l to back up down = record {
     gives = λ x os more end s. l.gives x os more end (back x os s);
-    said = said_as T l.said to;
+    encoded = encoded_as T l.encoded to;
     keeps = l.keeps;
     fits = λ x os s h. up x (l.fits x os (back x os s) h);
     fit = λ x h. l.fit x (down x h);
-    is_said = λ x. to x (o x) (l.is_said x);
+    printed_encodes = λ x. to x (o x) (l.printed_encodes x);
   }
 
 -- ---- zones
@@ -106,14 +106,14 @@ a_zone = record {
       λ z os more end s line h.
       subst (λ (z : Zone). Gives zone z line more) s.2
       (gives_zone s.0 line more (subst (λ (os : List Operand). AllEncode line (os ++ more)) s.1 h));
-  said =
+  encoded =
       λ line t h e. let s =
       zone_front line t h e in record
-      { operands = zone_operands s.said; says = (s.said, refl, s.stands); fronts = s.fronts };
+      { operands = zone_operands s.encoded; encoding = (s.encoded, refl, s.has_value); prefix = s.prefix };
   keeps = zone_keeps;
   fits = λ z os s h. subst FitsZone s.2 (zone_fits s.0 (subst AllRanged s.1 h));
-  fit = zone_fit.zone_said;
-  is_said = λ z. (written_zone z, refl, zone_stands z);
+  fit = zone_fit.zone_operands_fit;
+  printed_encodes = λ z. (written_zone z, refl, zone_stands z);
 }
 
 -- `GLOBAL? ZONE*`
@@ -124,17 +124,17 @@ some_zones = record {
       λ z os more end s line h.
       subst (λ (z : GlobalZone × List Zone). Gives zones z line more) s.2
       (gives_zones more end s.0 line (subst (λ (os : List Operand). AllEncode line (os ++ more)) s.1 h));
-  said =
+  encoded =
       λ line t h e. let s =
       zones_front line t h e in record
-      { operands = written_operands s.written; says = (s.written, refl, s.stands); fronts = s.fronts };
+      { operands = written_operands s.written; encoding = (s.written, refl, s.has_value); prefix = s.prefix };
   keeps = zones_keep;
   fits =
       λ z os s h.
       subst (λ (z : GlobalZone × List Zone). FitsGlobal z.0 × AllByRecursion FitsZone z.1) s.2
       (zones_ranged s.0 (subst AllRanged s.1 h));
   fit = λ z h. zones_fit z.0 z.1 h.0 h.1;
-  is_said = λ z. (written_of z.0 z.1, refl, zones_stand z.0 z.1);
+  printed_encodes = λ z. (written_of z.0 z.1, refl, zones_stand z.0 z.1);
 }
 
 -- ---- an owner of zones, and where it is inserted
@@ -142,16 +142,16 @@ some_zones = record {
 pub adds_zone : HasLawfulForms (pair_part owner_zone zone) (λ a. EncodesZone a.0.0 a.0.1 a.1)
     (λ a. printed_zone a.0.0 a.0.1 a.1) (λ a. FitsOwnerNumber a.0.0 × ((a.0.1 < 2 ^ 32) × FitsZone a.1))
 adds_zone =
-    spelt_as (behind_spelt owner_zones a_zone)
+    forms_as (forms_after owner_zones a_zone)
     (λ a os s.
     record {
       written =
-          s.says.0;
+          s.encoding.0;
       operands =
-          s.parts ∙ ap (λ (os : List Operand). of_zone a.0.0 a.0.1 ++ os) s.says.1;
-      stands = s.says.2;
+          s.parts ∙ ap (λ (os : List Operand). of_zone a.0.0 a.0.1 ++ os) s.encoding.1;
+      has_value = s.encoding.2;
     })
-    (λ a os s. record { following = zone_operands s.written; parts = s.operands; says = (s.written, refl, s.stands) })
+    (λ a os s. record { following = zone_operands s.written; parts = s.operands; encoding = (s.written, refl, s.has_value) })
     (λ a h. (h.0.0, (h.0.1, h.1)))
     (λ a h. ((h.0, h.1.0), h.1.1))
 
@@ -164,16 +164,16 @@ module _ {H : Type 0} {p : Parser (ℕ × H)} {o : H → List Operand} {F : H �
       → HasLawfulForms (pair_part p zones) (λ a. EncodesOwner o a.0.0 (added a)) (λ a. printed_owner o a.0.0 (added a))
       (λ a. (a.0.0 < 2 ^ 32) × FitsOwner F (added a))
   adds_owner l =
-      spelt_as (behind_spelt l some_zones)
+      forms_as (forms_after l some_zones)
       (λ a os s.
       record {
         written =
-            s.says.0;
+            s.encoding.0;
         operands =
-            s.parts ∙ ap (λ (os : List Operand). (place a.0.0 ∷ o a.0.1) ++ os) s.says.1;
-        stands = s.says.2;
+            s.parts ∙ ap (λ (os : List Operand). (place a.0.0 ∷ o a.0.1) ++ os) s.encoding.1;
+        has_value = s.encoding.2;
       })
-      (λ a os s. record { following = written_operands s.written; parts = s.operands; says = (s.written, refl, s.stands) })
+      (λ a os s. record { following = written_operands s.written; parts = s.operands; encoding = (s.written, refl, s.has_value) })
       (λ a h. (h.0.0, record { head = h.0.1; global = h.1.0; zones = h.1.1 }))
       (λ a h. ((h.0, h.1.head), (h.1.global, h.1.zones)))
 
@@ -184,7 +184,7 @@ module _ {H : Type 0} (p : Parser (ℕ × H)) where
   unfolding zones_of
   owner_parts make line =
       regrouped (p line) (λ h. zones_of h.1 >>= λ x. pure (h.0, x)) (λ a. pure (make a.0 a.1))
-      ∙ same_behind (p line)
+      ∙ same_after (p line)
       (λ h line.
       regrouped (and_then (zones line) (λ z. pure (owner_of h.1 z))) (λ x. pure (h.0, x))
       (λ a. pure (make a.0 a.1))

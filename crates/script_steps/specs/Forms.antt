@@ -5,7 +5,7 @@ use Rattle.sf_base.specs.declared.memory.Failure.TheVariants.{Fault, OutOfMemory
 use Rattle.edit_forms.specs.declared.step.Step.{Step}
 use Rattle.script_tokens.specs.declared.fault.LineFault.{LineFault}
 use Rattle.script_tokens.specs.declared.fault.LineFault.TheVariants as faults
-use Rattle.script_tokens.specs.TokenValue as saying
+use Rattle.script_tokens.specs.TokenValue as cursors
 use Rattle.script_tokens.specs.Parsers.{Parser, ◌>>=◌, or_fault}
 use Rattle.script_grammar.specs.Memory.{ReadsOrOutOfMemory}
 use Rattle.script_grammar.specs.Names.{named}
@@ -32,11 +32,11 @@ IsNotOutOfMemory (Err (Fault e)) = Unit {0}
 IsNotOutOfMemory (Err OutOfMemory) = ⊥
 
 -- the contract of a parser that allocates nothing and so never returns `OutOfMemory`
-abbrev pub ReadsWithoutAllocation : Parser Step → saying.Left → saying.Left → Result Step (Failure LineFault) → Type 0
+abbrev pub ReadsWithoutAllocation : Parser Step → cursors.CursorState → cursors.CursorState → Result Step (Failure LineFault) → Type 0
 ReadsWithoutAllocation part old new read = ReadsOrOutOfMemory (λ s. s) part old new read × IsNotOutOfMemory read
 
 -- the contract of a function that reads the operands of several forms: `None` if none of them has the word,
 -- and then no token is consumed
-unfoldable pub ReadsForm : Option Form → saying.Left → saying.Left → Option (Result Step (Failure LineFault)) → Type 0
+unfoldable pub ReadsForm : Option Form → cursors.CursorState → cursors.CursorState → Option (Result Step (Failure LineFault)) → Type 0
 ReadsForm form old new None = (form ≡ None) × (new ≡ old)
 ReadsForm form old new (Some read) = IsSome form × ReadsOrOutOfMemory (λ s. s) (following form) old new read

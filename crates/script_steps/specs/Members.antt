@@ -35,7 +35,7 @@ pub record EncodesOwner {H : Type 0} (head : H → List Operand) (at : ℕ) (x :
   where
     pub written : Written
     pub operands : os ≡ owner_operands at (head x.head) written
-    pub stands : zones_in written ≡ (x.global, x.zones)
+    pub has_value : zones_in written ≡ (x.global, x.zones)
 
 -- ---- parsers
 

@@ -8,4 +8,4 @@ use Rattle.script_steps.specs.Grammar.{word_of, EncodesStep}
 pub record EncodesWholeStep (step : Step) (all : List Operand) : Type 0 where
   pub operands : List Operand
   pub parts : all ≡ Fixed (word_of step) ∷ operands
-  pub says : EncodesStep step operands
+  pub encoding : EncodesStep step operands

@@ -30,7 +30,7 @@ printed_zone o k z = zone_at_operands o k (written_zone z)
 pub record EncodesZone (o : Owner) (k : ℕ) (z : Zone) (os : List Operand) : Type 0 where
   pub written : WrittenZone
   pub operands : os ≡ zone_at_operands o k written
-  pub stands : zone_in written ≡ z
+  pub has_value : zone_in written ≡ z
 
 -- ---- the forms
 

@@ -7,8 +7,8 @@ use Rattle.std.proofs.lemmas.List.{length-drop}
 use Rattle.script_tokens.specs.declared.tokens.Token.{Token}
 use Rattle.script_tokens.specs.declared.tokens.Token.TheVariants.{Quoted, Broken}
 use Rattle.script_tokens.specs.Lines.{lines_of, onto, is_feed}
-use Rattle.script_tokens.specs.Tokens.{is_blank, is_quote, after_blanks, Front, quoted_at, plain_at, token_at}
-use Rattle.script_tokens.specs.Tokens.{and_behind, tokens_for, tokens_of, ends_well}
+use Rattle.script_tokens.specs.Tokens.{is_blank, is_quote, after_blanks, FirstToken, quoted_at, plain_at, token_at}
+use Rattle.script_tokens.specs.Tokens.{and_tokens_after, tokens_for, tokens_of, ends_well}
 use Rattle.script_tokens.proofs.TestLaws.{first_yes, first_no}
 
 -- ---- lines
@@ -71,7 +71,7 @@ shorter_quoted line = from (ltb (position_or_len is_quote line) (length line) &&
   where
     from : (t : Bool)
         → length
-        (cond {A = Front} t
+        (cond {A = FirstToken} t
         (record { token = Quoted (before_first is_quote line); after = after_first is_quote line })
         (record { token = Broken; after = [] })).after
         ≤ length line
@@ -82,7 +82,7 @@ shorter_plain : (b : ℕ) (line : List ℕ) → length (plain_at b line).after �
 unfolding plain_at
 shorter_plain b line = omega (arith, length-drop (position_or_len is_blank line) line)
 
-token_shorter : (line : List ℕ) (c : Front) → token_at line ≡ Some c → length c.after < length line
+token_shorter : (line : List ℕ) (c : FirstToken) → token_at line ≡ Some c → length c.after < length line
 unfolding token_at
 token_shorter [] c e = cc
 token_shorter (b ∷ line) c e = from (eqb b 35) (is_quote b) e
@@ -92,20 +92,20 @@ token_shorter (b ∷ line) c e = from (eqb b 35) (is_quote b) e
     from true t e = cc
     from false true e =
         let h : quoted_at line ≡ c = cc in
-        subst (λ (d : Front). length d.after < suc (length line)) h (omega (arith, shorter_quoted line))
+        subst (λ (d : FirstToken). length d.after < suc (length line)) h (omega (arith, shorter_quoted line))
     from false false e =
         let h : plain_at b line ≡ c = cc in
-        subst (λ (d : Front). length d.after < suc (length line)) h (omega (arith, shorter_plain b line))
+        subst (λ (d : FirstToken). length d.after < suc (length line)) h (omega (arith, shorter_plain b line))
 
 length-after_blanks : (line : List ℕ) → length (after_blanks line) ≤ length line
 unfolding after_blanks
 length-after_blanks line = omega (arith, length-drop (prefix_len is_blank line) line)
 
-blank_token_shorter : (line : List ℕ) (c : Front) → token_at (after_blanks line) ≡ Some c → length c.after < length line
+blank_token_shorter : (line : List ℕ) (c : FirstToken) → token_at (after_blanks line) ≡ Some c → length c.after < length line
 blank_token_shorter line c e = omega (arith, token_shorter (after_blanks line) c e, length-after_blanks line)
 
-same_on : (o : Option Front) (f g : List ℕ → List Token) → ((c : Front) → o ≡ Some c → f c.after ≡ g c.after)
-    → and_behind o f ≡ and_behind o g
+same_on : (o : Option FirstToken) (f g : List ℕ → List Token) → ((c : FirstToken) → o ≡ Some c → f c.after ≡ g c.after)
+    → and_tokens_after o f ≡ and_tokens_after o g
 same_on None f g h = refl
 same_on (Some c) f g h = ap (λ (ts : List Token). c.token ∷ ts) (h c refl)
 
@@ -127,11 +127,11 @@ tokens_for_enough (suc n) (suc m) (b ∷ line) p q =
     blank_token_shorter (b ∷ line) c e in tokens_for_enough n m c.after (omega arith) (omega arith))
 
 for_once : (n : ℕ) (line : List ℕ)
-    → tokens_for (suc n) line ≡ and_behind (token_at (after_blanks line)) (λ rest. tokens_for n rest)
+    → tokens_for (suc n) line ≡ and_tokens_after (token_at (after_blanks line)) (λ rest. tokens_for n rest)
 unfolding tokens_for
 for_once n line = refl
 
-pub tokens_once : (line : List ℕ) → tokens_of line ≡ and_behind (token_at (after_blanks line)) tokens_of
+pub tokens_once : (line : List ℕ) → tokens_of line ≡ and_tokens_after (token_at (after_blanks line)) tokens_of
 unfolding tokens_of
 tokens_once line =
     tokens_for_enough (length line) (suc (length line)) line (omega arith) (omega arith)
@@ -143,11 +143,11 @@ tokens_once line =
     (omega arith))
 
 pub tokens_end : (line : List ℕ) → token_at (after_blanks line) ≡ None → tokens_of line ≡ []
-tokens_end line e = tokens_once line ∙ ap (λ (o : Option Front). and_behind o tokens_of) e
+tokens_end line e = tokens_once line ∙ ap (λ (o : Option FirstToken). and_tokens_after o tokens_of) e
 
-pub tokens_front : (line : List ℕ) (c : Front) → token_at (after_blanks line) ≡ Some c
+pub tokens_front : (line : List ℕ) (c : FirstToken) → token_at (after_blanks line) ≡ Some c
     → tokens_of line ≡ c.token ∷ tokens_of c.after
-tokens_front line c e = tokens_once line ∙ ap (λ (o : Option Front). and_behind o tokens_of) e
+tokens_front line c e = tokens_once line ∙ ap (λ (o : Option FirstToken). and_tokens_after o tokens_of) e
 
 pub token_empty : (line : List ℕ) → length line ≡ 0 → token_at line ≡ None
 unfolding token_at

@@ -15,7 +15,7 @@ use Rattle.hex.specs.Hex.{encode_lower, is_hex_digit, IsBytes}
 use Rattle.hex.proofs.HexLemmas.{decode_of-ok, decode_of-encode_lower}
 use Rattle.sf_base.specs.Names.{IsTextByte, IsName}
 use Rattle.script_tokens.specs.declared.cursor.TokenValue.{TokenValue}
-use Rattle.script_tokens.specs.declared.cursor.TokenValue.TheVariants as says
+use Rattle.script_tokens.specs.declared.cursor.TokenValue.TheVariants as variants
 use Rattle.script_tokens.specs.declared.printing.Piece.{Piece}
 use Rattle.script_tokens.specs.declared.printing.Piece.TheVariants.{Number, Signed, Range, Word, Name, Hex}
 use Rattle.script_tokens.specs.Lines.{lines_of, onto, is_feed}
@@ -139,41 +139,41 @@ quotes_feed bytes h =
 -- ---- pieces
 
 -- the value of a piece
-abbrev pub meant : Piece → TokenValue
-meant (Number n) = says.Word (decimal n)
-meant (Name bytes) = says.Literal bytes
-meant (Word bytes) = says.Word bytes
-meant (Signed z) = says.Word (signed_decimal z)
-meant (Range low high) = says.Word (range_text low high)
-meant (Hex bytes) = says.Literal bytes
+abbrev pub piece_value : Piece → TokenValue
+piece_value (Number n) = variants.Word (decimal n)
+piece_value (Name bytes) = variants.Literal bytes
+piece_value (Word bytes) = variants.Word bytes
+piece_value (Signed z) = variants.Word (signed_decimal z)
+piece_value (Range low high) = variants.Word (range_text low high)
+piece_value (Hex bytes) = variants.Literal bytes
 
 -- a piece has its value as a token, and contains no line feed
-pub record Spoken (p : Piece) : Type 0 where
-  pub shows : Shows (piece_text p) (meant p)
+pub record IsPrintable (p : Piece) : Type 0 where
+  pub shows : Shows (piece_text p) (piece_value p)
   pub no_feed : list_all not_feed (piece_text p) ≡ true
 
-pub spoken_number : (n : ℕ) → n < 2 ^ 32 → Spoken (Number n)
+pub printable_number : (n : ℕ) → n < 2 ^ 32 → IsPrintable (Number n)
 unfolding piece_text
-spoken_number n h = record {
+printable_number n h = record {
   shows = (refl, word_of is_digit refl refl refl refl refl refl (decimal n) (some_digits n h) (all_digits n h));
   no_feed = list_all_weaker is_digit not_feed (not_feed_of is_digit refl) (decimal n) (all_digits n h);
 }
 
-spoken_minus : (n : ℕ) → suc n < 2 ^ 32 → Spoken (Signed (negsuc n))
+printable_minus : (n : ℕ) → suc n < 2 ^ 32 → IsPrintable (Signed (negsuc n))
 unfolding piece_text
-spoken_minus n h =
+printable_minus n h =
     let digits = all_digits (suc n) h in
     let blanks = list_all_weaker is_digit not_blank (not_blank_of is_digit refl refl refl) (decimal (suc n)) digits in
     let feeds = list_all_weaker is_digit not_feed (not_feed_of is_digit refl) (decimal (suc n)) digits in
     record { shows = (refl, rw blanks refl); no_feed = rw feeds refl }
 
-spoken_plus : (n : ℕ) → n < 2 ^ 32 → Spoken (Signed (pos n))
+printable_plus : (n : ℕ) → n < 2 ^ 32 → IsPrintable (Signed (pos n))
 unfolding piece_text
-spoken_plus n h = let s = spoken_number n h in record { shows = s.shows; no_feed = s.no_feed }
+printable_plus n h = let s = printable_number n h in record { shows = s.shows; no_feed = s.no_feed }
 
-pub spoken_signed : (limit : ℕ) (z : ℤ) → IsWithin limit z → limit < 2 ^ 16 → Spoken (Signed z)
-spoken_signed limit (pos n) h l = spoken_plus n (omega (arith, h, l))
-spoken_signed limit (negsuc n) h l = spoken_minus n (omega (arith, h, l))
+pub printable_signed : (limit : ℕ) (z : ℤ) → IsWithin limit z → limit < 2 ^ 16 → IsPrintable (Signed z)
+printable_signed limit (pos n) h l = printable_plus n (omega (arith, h, l))
+printable_signed limit (negsuc n) h l = printable_minus n (omega (arith, h, l))
 
 -- a digit or a dot
 abbrev in_range : ℕ → Bool
@@ -188,9 +188,9 @@ range_in_range low high h k =
     ∙ and_from _ _ (list_all_weaker is_digit in_range digit_in_range (decimal low) (all_digits low h))
     (list_all_weaker is_digit in_range digit_in_range (decimal high) (all_digits high k))
 
-pub spoken_range : (low high : ℕ) → low ≤ 255 → high ≤ 255 → Spoken (Range low high)
+pub printable_range : (low high : ℕ) → low ≤ 255 → high ≤ 255 → IsPrintable (Range low high)
 unfolding piece_text
-spoken_range low high h k =
+printable_range low high h k =
     let all = range_in_range low high (omega (arith, h)) (omega (arith, k)) in
     let some : 0 < length (range_text low high) = omega (arith, length-append (decimal low) (46 ∷ 46 ∷ decimal high)) in
     record {
@@ -198,9 +198,9 @@ spoken_range low high h k =
       no_feed = list_all_weaker in_range not_feed (not_feed_of in_range refl) (range_text low high) all;
     }
 
-pub spoken_hex : (bytes : List ℕ) → IsBytes bytes → Spoken (Hex bytes)
+pub printable_hex : (bytes : List ℕ) → IsBytes bytes → IsPrintable (Hex bytes)
 unfolding piece_text
-spoken_hex bytes h =
+printable_hex bytes h =
     record {
       shows =
           inr (record { digits = encode_lower bytes; parts = refl; value = decode_of-encode_lower bytes h });
@@ -212,17 +212,17 @@ name_quoted : (bytes : List ℕ) → list_all is_quotable bytes ≡ true → 34 
 unfolding name_text
 name_quoted bytes e = rw e refl
 
-bytes_spoken : (bytes : List ℕ) (t : Bool) → list_all is_quotable bytes ≡ t → IsBytes bytes → Spoken (Name bytes)
+bytes_printable : (bytes : List ℕ) (t : Bool) → list_all is_quotable bytes ≡ t → IsBytes bytes → IsPrintable (Name bytes)
 unfolding piece_text name_text
-bytes_spoken bytes true e h =
+bytes_printable bytes true e h =
     record {
       shows =
           let q : IsQuoted (34 ∷ bytes ++ 34 ∷ []) bytes = (refl, e) in
-          subst (λ (t : List ℕ). Shows t (says.Literal bytes)) (name_quoted bytes e) (inl q);
+          subst (λ (t : List ℕ). Shows t (variants.Literal bytes)) (name_quoted bytes e) (inl q);
       no_feed =
           rw e (quotes_feed bytes e);
     }
-bytes_spoken bytes false e h =
+bytes_printable bytes false e h =
     record {
       shows =
           rw e
@@ -231,18 +231,18 @@ bytes_spoken bytes false e h =
           rw e (hex_feed bytes h);
     }
 
-pub spoken_bytes : (bytes : List ℕ) → IsBytes bytes → Spoken (Name bytes)
-spoken_bytes bytes h = bytes_spoken bytes (list_all is_quotable bytes) refl h
+pub printable_bytes : (bytes : List ℕ) → IsBytes bytes → IsPrintable (Name bytes)
+printable_bytes bytes h = bytes_printable bytes (list_all is_quotable bytes) refl h
 
-pub spoken_name : (bytes : List ℕ) → IsName bytes → Spoken (Name bytes)
-spoken_name bytes h = spoken_bytes bytes (name_bytes bytes h.1)
+pub printable_name : (bytes : List ℕ) → IsName bytes → IsPrintable (Name bytes)
+printable_name bytes h = printable_bytes bytes (name_bytes bytes h.1)
 
-abbrev pub AllSpoken : List Piece → Type 0
-AllSpoken ps = AllByRecursion Spoken ps
+abbrev pub AllPrintable : List Piece → Type 0
+AllPrintable ps = AllByRecursion IsPrintable ps
 
-pub spoken_word : (w : List ℕ) → is_word w ≡ true → list_all not_feed w ≡ true → Spoken (Word w)
+pub printable_word : (w : List ℕ) → is_word w ≡ true → list_all not_feed w ≡ true → IsPrintable (Word w)
 unfolding piece_text
-spoken_word w h f = record { shows = (refl, h); no_feed = f }
+printable_word w h f = record { shows = (refl, h); no_feed = f }
 
 -- ---- lines
 
@@ -250,16 +250,16 @@ spaced_ends : (ps : List Piece) → ends_well (flat_map spaced ps) ≡ true
 spaced_ends [] = refl
 spaced_ends (p ∷ ps) = refl
 
-spaced_said : (ps : List Piece) → AllSpoken ps → LineHasValues (flat_map spaced ps) (map meant ps)
-spaced_said [] h = record { blanks = []; rest = []; parts = refl; blank = refl; silent = refl }
-spaced_said (p ∷ ps) h = (
+spaced_has_values : (ps : List Piece) → AllPrintable ps → LineHasValues (flat_map spaced ps) (map piece_value ps)
+spaced_has_values [] h = record { blanks = []; rest = []; parts = refl; blank = refl; silent = refl }
+spaced_has_values (p ∷ ps) h = (
   flat_map spaced ps,
   record
       { blanks = 32 ∷ []; token = piece_text p; parts = refl; blank = refl; shows = h.0.shows; apart = spaced_ends ps },
-  spaced_said ps h.1,
+  spaced_has_values ps h.1,
 )
 
-spaced_feed : (ps : List Piece) → AllSpoken ps → list_all not_feed (flat_map spaced ps) ≡ true
+spaced_feed : (ps : List Piece) → AllPrintable ps → list_all not_feed (flat_map spaced ps) ≡ true
 spaced_feed [] h = refl
 spaced_feed (p ∷ ps) h =
     list_all-append not_feed (spaced p) (flat_map spaced ps) ∙ and_from _ _ h.0.no_feed (spaced_feed ps h.1)
@@ -268,12 +268,12 @@ spaced_feed (p ∷ ps) h =
 abbrev pub line : List ℕ → List Piece → List ℕ
 line w ps = w ++ flat_map spaced ps
 
-pub line_says : (w : List ℕ) (ps : List Piece) → is_word w ≡ true → AllSpoken ps
-    → LineHasValues (line w ps) (says.Word w ∷ map meant ps)
-line_says w ps h s = (
+pub line_has_values : (w : List ℕ) (ps : List Piece) → is_word w ≡ true → AllPrintable ps
+    → LineHasValues (line w ps) (variants.Word w ∷ map piece_value ps)
+line_has_values w ps h s = (
   flat_map spaced ps,
   record { blanks = []; token = w; parts = refl; blank = refl; shows = (refl, h); apart = spaced_ends ps },
-  spaced_said ps s,
+  spaced_has_values ps s,
 )
 
 fed : (l rest : List ℕ) → list_all not_feed l ≡ true → lines_of (l ++ 10 ∷ rest) ≡ l ∷ lines_of rest
@@ -282,7 +282,7 @@ fed (b ∷ l) rest h =
     let g = and_parts (not_feed b) (list_all not_feed l) h in
     lines_no b (l ++ 10 ∷ rest) (not_true (is_feed b) g.0) ∙ ap (onto b) (fed l rest g.1)
 
-pub line_first : (w : List ℕ) (ps : List Piece) (rest : List ℕ) → list_all not_feed w ≡ true → AllSpoken ps
+pub line_first : (w : List ℕ) (ps : List Piece) (rest : List ℕ) → list_all not_feed w ≡ true → AllPrintable ps
     → lines_of (line_text w ps ++ rest) ≡ line w ps ∷ lines_of rest
 line_first w ps rest h s =
     ap (λ (t : List ℕ). lines_of (t ++ rest)) (line_spaced w ps)

@@ -12,7 +12,7 @@ use Rattle.script_tokens.specs.declared.cursor.TokenValue.{TokenValue}
 use Rattle.script_tokens.specs.declared.cursor.TokenValue.TheVariants.{Word, Literal, Malformed}
 use Rattle.script_tokens.specs.Lines.{lines_of}
 use Rattle.script_tokens.specs.Tokens.{tokens_of}
-use Rattle.script_tokens.specs.TokenValue.{is_plain, is_hex, decoded, said, values_in, values_of_lines, size_of, value_over}
+use Rattle.script_tokens.specs.TokenValue.{is_plain, is_hex, decoded, token_value, values_in, values_of_lines, size_of, value_over}
 use Rattle.script_tokens.specs.TokenValue.{values_over, pool_after, line_values_over}
 use Rattle.script_tokens.specs.Pool.{ListOrFault, and_then, gather, literal_of, literals_of, pool_bytes}
 
@@ -22,13 +22,13 @@ pub pool_at_end : (pool : List ℕ) (ts : List Token) → values_over pool ts �
 pool_at_end pool [] e = refl
 pool_at_end pool (t ∷ ts) e = cc
 
-pub lines_said_on : (pool bytes_after : List ℕ) (l : List ℕ) (ls all : List (List ℕ))
+pub lines_values_step : (pool bytes_after : List ℕ) (l : List ℕ) (ls all : List (List ℕ))
     → bytes_after ≡ pool_after pool (tokens_of l) → all ≡ l ∷ ls
     → line_values_over pool all ≡ values_over pool (tokens_of l) ∷ line_values_over bytes_after ls
-lines_said_on pool bytes_after l ls all b e = rw (e, b) refl
+lines_values_step pool bytes_after l ls all b e = rw (e, b) refl
 
-pub lines_said_end : (pool : List ℕ) (all : List (List ℕ)) → all ≡ [] → line_values_over pool all ≡ []
-lines_said_end pool all e = rw e refl
+pub lines_values_end : (pool : List ℕ) (all : List (List ℕ)) → all ≡ [] → line_values_over pool all ≡ []
+lines_values_end pool all e = rw e refl
 
 -- ---- both results are values
 
@@ -43,11 +43,11 @@ through (Err d) f ys e = cc
 
 -- ---- a token's literal is at the front of the pool
 
-pub record Lends (t : Token) (pool more : List ℕ) : Type 0 where
+pub record LiteralInPool (t : Token) (pool more : List ℕ) : Type 0 where
   pub bytes : List ℕ
   pub parts : more ≡ pool ++ bytes
   pub size : size_of t ≡ length bytes
-  pub same : (rest : List ℕ) → value_over (bytes ++ rest) t ≡ said t
+  pub same : (rest : List ℕ) → value_over (bytes ++ rest) t ≡ token_value t
 
 taken : (n : ℕ) (bytes pool more : List ℕ) → literal_of n (Literal bytes) pool ≡ Ok more → more ≡ pool ++ bytes
 unfolding literal_of
@@ -61,26 +61,26 @@ never : (n : ℕ) (pool more : List ℕ) → literal_of n Malformed pool ≡ Ok 
 unfolding literal_of
 never n pool more e = cc
 
-said_word : (w : List ℕ) → is_hex w ≡ false → said (Plain w) ≡ Word w
-unfolding said
-said_word w x = rw x refl
+value_of_word : (w : List ℕ) → is_hex w ≡ false → token_value (Plain w) ≡ Word w
+unfolding token_value
+value_of_word w x = rw x refl
 
-said_digits : (w : List ℕ) → is_hex w ≡ true → said (Plain w) ≡ decoded (decode_of (drop 1 w))
-unfolding said
-said_digits w x = rw x refl
+value_of_digits : (w : List ℕ) → is_hex w ≡ true → token_value (Plain w) ≡ decoded (decode_of (drop 1 w))
+unfolding token_value
+value_of_digits w x = rw x refl
 
-said_quoted : (i : List ℕ) → list_all is_plain i ≡ true → said (Quoted i) ≡ Literal i
-unfolding said
-said_quoted i x = rw x refl
+value_of_quoted : (i : List ℕ) → list_all is_plain i ≡ true → token_value (Quoted i) ≡ Literal i
+unfolding token_value
+value_of_quoted i x = rw x refl
 
-said_unquoted : (i : List ℕ) → list_all is_plain i ≡ false → said (Quoted i) ≡ Malformed
-unfolding said
-said_unquoted i x = rw x refl
+value_of_unquoted : (i : List ℕ) → list_all is_plain i ≡ false → token_value (Quoted i) ≡ Malformed
+unfolding token_value
+value_of_unquoted i x = rw x refl
 
-lends_digits : (n : ℕ) (w pool more : List ℕ) (r : Result (List ℕ) FromHexError) → is_hex w ≡ true
-    → decode_of (drop 1 w) ≡ r → literal_of n (decoded r) pool ≡ Ok more → Lends (Plain w) pool more
+digits_in_pool : (n : ℕ) (w pool more : List ℕ) (r : Result (List ℕ) FromHexError) → is_hex w ≡ true
+    → decode_of (drop 1 w) ≡ r → literal_of n (decoded r) pool ≡ Ok more → LiteralInPool (Plain w) pool more
 unfolding size_of value_over
-lends_digits n w pool more (Ok bytes) x d e =
+digits_in_pool n w pool more (Ok bytes) x d e =
     let h = decode_of-ok (drop 1 w) bytes d in
     let len : (length w - 1) / 2 ≡ length bytes = (let a = h.2 in omega (arith, a, length-drop 1 w)) in
     record {
@@ -89,54 +89,54 @@ lends_digits n w pool more (Ok bytes) x d e =
       size = rw (x, len) refl;
       same =
           λ rest.
-          rw (said_digits w x, d, x, len)
+          rw (value_of_digits w x, d, x, len)
           (ap (λ (b : List ℕ). Literal b) (take_at bytes rest (length bytes) refl));
     }
-lends_digits n w pool more (Err f) x d e = absurd (never n pool more e)
+digits_in_pool n w pool more (Err f) x d e = absurd (never n pool more e)
 
-lends_plain : (n : ℕ) (w pool more : List ℕ) (t : Bool) → is_hex w ≡ t → literal_of n (said (Plain w)) pool ≡ Ok more
-    → Lends (Plain w) pool more
+plain_in_pool : (n : ℕ) (w pool more : List ℕ) (t : Bool) → is_hex w ≡ t → literal_of n (token_value (Plain w)) pool ≡ Ok more
+    → LiteralInPool (Plain w) pool more
 unfolding size_of value_over
-lends_plain n w pool more true x e =
-    lends_digits n w pool more (decode_of (drop 1 w)) x refl (rw (said_digits w x) at e)
-lends_plain n w pool more false x e = record {
+plain_in_pool n w pool more true x e =
+    digits_in_pool n w pool more (decode_of (drop 1 w)) x refl (rw (value_of_digits w x) at e)
+plain_in_pool n w pool more false x e = record {
   bytes = [];
-  parts = not_taken n w pool more (rw (said_word w x) at e);
+  parts = not_taken n w pool more (rw (value_of_word w x) at e);
   size = rw x refl;
-  same = λ rest. rw (said_word w x, x) refl;
+  same = λ rest. rw (value_of_word w x, x) refl;
 }
 
-lends_quoted : (n : ℕ) (i pool more : List ℕ) (t : Bool) → list_all is_plain i ≡ t
-    → literal_of n (said (Quoted i)) pool ≡ Ok more → Lends (Quoted i) pool more
+quoted_in_pool : (n : ℕ) (i pool more : List ℕ) (t : Bool) → list_all is_plain i ≡ t
+    → literal_of n (token_value (Quoted i)) pool ≡ Ok more → LiteralInPool (Quoted i) pool more
 unfolding size_of value_over
-lends_quoted n i pool more true x e = record {
+quoted_in_pool n i pool more true x e = record {
   bytes = i;
-  parts = taken n i pool more (rw (said_quoted i x) at e);
+  parts = taken n i pool more (rw (value_of_quoted i x) at e);
   size = refl;
-  same = λ rest. rw (said_quoted i x) (ap (λ (b : List ℕ). Literal b) (take_at i rest (length i) refl));
+  same = λ rest. rw (value_of_quoted i x) (ap (λ (b : List ℕ). Literal b) (take_at i rest (length i) refl));
 }
-lends_quoted n i pool more false x e = absurd (never n pool more (rw (said_unquoted i x) at e))
+quoted_in_pool n i pool more false x e = absurd (never n pool more (rw (value_of_unquoted i x) at e))
 
-said_broken : said Broken ≡ Malformed
-unfolding said
-said_broken = refl
+value_of_broken : token_value Broken ≡ Malformed
+unfolding token_value
+value_of_broken = refl
 
-pub lends : (n : ℕ) (t : Token) (pool more : List ℕ) → literal_of n (said t) pool ≡ Ok more → Lends t pool more
-lends n (Plain w) pool more e = lends_plain n w pool more (is_hex w) refl e
-lends n (Quoted i) pool more e = lends_quoted n i pool more (list_all is_plain i) refl e
-lends n Broken pool more e = absurd (never n pool more (rw said_broken at e))
+pub literal_in_pool : (n : ℕ) (t : Token) (pool more : List ℕ) → literal_of n (token_value t) pool ≡ Ok more → LiteralInPool t pool more
+literal_in_pool n (Plain w) pool more e = plain_in_pool n w pool more (is_hex w) refl e
+literal_in_pool n (Quoted i) pool more e = quoted_in_pool n i pool more (list_all is_plain i) refl e
+literal_in_pool n Broken pool more e = absurd (never n pool more (rw value_of_broken at e))
 
 -- ---- the literals of a line are at the front of the pool
 
-pub record Serves (ts : List Token) (pool more : List ℕ) : Type 0 where
+pub record LiteralsInPool (ts : List Token) (pool more : List ℕ) : Type 0 where
   pub bytes : List ℕ
   pub parts : more ≡ pool ++ bytes
-  pub same : (rest : List ℕ) → values_over (bytes ++ rest) ts ≡ map said ts
+  pub same : (rest : List ℕ) → values_over (bytes ++ rest) ts ≡ map token_value ts
   pub bytes_after : (rest : List ℕ) → pool_after (bytes ++ rest) ts ≡ rest
 
-serves_none : (n : ℕ) (pool more : List ℕ) → literals_of n [] pool ≡ Ok more → Serves [] pool more
+no_literals_in_pool : (n : ℕ) (pool more : List ℕ) → literals_of n [] pool ≡ Ok more → LiteralsInPool [] pool more
 unfolding literals_of
-serves_none n pool more e =
+no_literals_in_pool n pool more e =
     let same : pool ≡ more = cc in
     record { bytes = []; parts = sym same ∙ sym (append-nil pool); same = λ rest. refl; bytes_after = λ rest. refl }
 
@@ -145,13 +145,13 @@ pub literals_through : (n : ℕ) (s : TokenValue) (line : List TokenValue) (pool
 unfolding literals_of
 literals_through n s line pool more e = through (literal_of n s pool) (λ p. literals_of n line p) more e
 
-pub serves : (n : ℕ) (ts : List Token) (pool more : List ℕ) → literals_of n (map said ts) pool ≡ Ok more
-    → Serves ts pool more
-serves n [] pool more e = serves_none n pool more e
-serves n (t ∷ ts) pool more e =
-    let b = literals_through n (said t) (map said ts) pool more e in
-    let l = lends n t pool b.between b.first in
-    let s = serves n ts b.between more b.second in
+pub literals_in_pool : (n : ℕ) (ts : List Token) (pool more : List ℕ) → literals_of n (map token_value ts) pool ≡ Ok more
+    → LiteralsInPool ts pool more
+literals_in_pool n [] pool more e = no_literals_in_pool n pool more e
+literals_in_pool n (t ∷ ts) pool more e =
+    let b = literals_through n (token_value t) (map token_value ts) pool more e in
+    let l = literal_in_pool n t pool b.between b.first in
+    let s = literals_in_pool n ts b.between more b.second in
     let split = λ (rest : List ℕ). append_assoc l.bytes s.bytes rest in
     let left =
     λ (rest : List ℕ).
@@ -162,21 +162,21 @@ serves n (t ∷ ts) pool more e =
       same = λ rest.
           ap (λ (x : TokenValue). x ∷ values_over (drop (size_of t) ((l.bytes ++ s.bytes) ++ rest)) ts)
           (ap (λ (x : List ℕ). value_over x t) (split rest) ∙ l.same (s.bytes ++ rest))
-          ∙ ap (λ (x : List ℕ). said t ∷ values_over x ts) (left rest)
-          ∙ ap (λ (x : List TokenValue). said t ∷ x) (s.same rest);
+          ∙ ap (λ (x : List ℕ). token_value t ∷ values_over x ts) (left rest)
+          ∙ ap (λ (x : List TokenValue). token_value t ∷ x) (s.same rest);
       bytes_after = λ rest. ap (λ (x : List ℕ). pool_after x ts) (left rest) ∙ s.bytes_after rest;
     }
 
 -- ---- the literals of all lines are in the pool
 
-pub record LinesServe (ls : List (List ℕ)) (pool more : List ℕ) : Type 0 where
+pub record LinesInPool (ls : List (List ℕ)) (pool more : List ℕ) : Type 0 where
   pub bytes : List ℕ
   pub parts : more ≡ pool ++ bytes
   pub same : line_values_over bytes ls ≡ map values_in ls
 
-lines_serve_none : (n : ℕ) (pool more : List ℕ) → gather literals_of n [] pool ≡ Ok more → LinesServe [] pool more
+no_lines_in_pool : (n : ℕ) (pool more : List ℕ) → gather literals_of n [] pool ≡ Ok more → LinesInPool [] pool more
 unfolding gather
-lines_serve_none n pool more e =
+no_lines_in_pool n pool more e =
     let same : pool ≡ more = cc in
     record { bytes = []; parts = sym same ∙ sym (append-nil pool); same = refl }
 
@@ -186,13 +186,13 @@ pub lines_through : (n : ℕ) (l : List TokenValue) (ls : List (List TokenValue)
 unfolding gather
 lines_through n l ls pool more e = through (literals_of n l pool) (λ p. gather literals_of (suc n) ls p) more e
 
-lines_serve : (n : ℕ) (ls : List (List ℕ)) (pool more : List ℕ)
-    → gather literals_of n (map values_in ls) pool ≡ Ok more → LinesServe ls pool more
-lines_serve n [] pool more e = lines_serve_none n pool more e
-lines_serve n (l ∷ ls) pool more e =
+lines_in_pool : (n : ℕ) (ls : List (List ℕ)) (pool more : List ℕ)
+    → gather literals_of n (map values_in ls) pool ≡ Ok more → LinesInPool ls pool more
+lines_in_pool n [] pool more e = no_lines_in_pool n pool more e
+lines_in_pool n (l ∷ ls) pool more e =
     let b = lines_through n (values_in l) (map values_in ls) pool more e in
-    let s = serves n (tokens_of l) pool b.between b.first in
-    let r = lines_serve (suc n) ls b.between more b.second in
+    let s = literals_in_pool n (tokens_of l) pool b.between b.first in
+    let r = lines_in_pool (suc n) ls b.between more b.second in
     record {
       bytes = s.bytes ++ r.bytes;
       parts = r.parts ∙ ap (λ (x : List ℕ). x ++ r.bytes) s.parts ∙ append_assoc pool s.bytes r.bytes;
@@ -207,5 +207,5 @@ pub over_pool : (text pool : List ℕ) → pool_bytes text ≡ Ok pool
     → line_values_over pool (lines_of text) ≡ values_of_lines text
 unfolding pool_bytes
 over_pool text pool e =
-    let s = lines_serve 1 (lines_of text) [] pool e in
+    let s = lines_in_pool 1 (lines_of text) [] pool e in
     ap (λ (p : List ℕ). line_values_over p (lines_of text)) s.parts ∙ s.same

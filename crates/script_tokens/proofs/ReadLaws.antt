@@ -17,9 +17,9 @@ use Rattle.script_tokens.specs.declared.cursor.TokenValue.{TokenValue}
 use Rattle.script_tokens.specs.declared.cursor.TokenValue.TheVariants.{Word, Literal, Malformed}
 use Rattle.script_tokens.specs.declared.fault.LineFault.{LineFault}
 use Rattle.script_tokens.specs.declared.fault.LineFault.TheVariants as faults
-use Rattle.script_tokens.specs.Tokens.{is_blank, is_quote, after_blanks, ends_well, Front, quoted_at, plain_at}
-use Rattle.script_tokens.specs.Tokens.{token_at, and_behind, tokens_of}
-use Rattle.script_tokens.specs.TokenValue.{is_plain, is_hex, decoded, said, values_in}
+use Rattle.script_tokens.specs.Tokens.{is_blank, is_quote, after_blanks, ends_well, FirstToken, quoted_at, plain_at}
+use Rattle.script_tokens.specs.Tokens.{token_at, and_tokens_after, tokens_of}
+use Rattle.script_tokens.specs.TokenValue.{is_plain, is_hex, decoded, token_value, values_in}
 use Rattle.script_tokens.specs.Parsers.{Parsed, Parser, and_then, or_fault, word, literal, number, number_of, signed}
 use Rattle.script_tokens.specs.Parsers.{signed_of, dots_at, both_of, number_word, numeral, range, range_of, digits_value}
 use Rattle.script_tokens.specs.Parsers.{is_digit, is_name, name_of, name, ended}
@@ -96,17 +96,17 @@ pub record Shown (rest : List ℕ) (s : TokenValue) (after : List ℕ) : Type 0 
   pub shows : Shows token s
   pub apart : ends_well after ≡ true
 
-said_quoted : (i : List ℕ) (t : Bool) → list_all is_plain i ≡ t → said (Quoted i) ≡ cond t (Literal i) Malformed
-unfolding said
-said_quoted i t e = rw e refl
+value_of_quoted : (i : List ℕ) (t : Bool) → list_all is_plain i ≡ t → token_value (Quoted i) ≡ cond t (Literal i) Malformed
+unfolding token_value
+value_of_quoted i t e = rw e refl
 
-said_broken : said Broken ≡ Malformed
-unfolding said
-said_broken = refl
+value_of_broken : token_value Broken ≡ Malformed
+unfolding token_value
+value_of_broken = refl
 
-said_plain : (w : List ℕ) (t : Bool) → is_hex w ≡ t → said (Plain w) ≡ cond t (decoded (decode_of (drop 1 w))) (Word w)
-unfolding said
-said_plain w t e = rw e refl
+value_of_plain : (w : List ℕ) (t : Bool) → is_hex w ≡ t → token_value (Plain w) ≡ cond t (decoded (decode_of (drop 1 w))) (Word w)
+unfolding token_value
+value_of_plain w t e = rw e refl
 
 both_pass : (p q : ℕ → Bool) (xs : List ℕ) → list_all p xs ≡ true → list_all q xs ≡ true
     → list_all (λ x. p x && q x) xs ≡ true
@@ -127,13 +127,13 @@ quoted_parts r lt =
 
 quoted_good : (r : List ℕ) (t : Bool) → list_all is_plain (before_first is_quote r) ≡ t
     → position_or_len is_quote r < length r → ends_well (after_first is_quote r) ≡ true
-    → Good (said (Quoted (before_first is_quote r)))
-    → Shown (34 ∷ r) (said (Quoted (before_first is_quote r))) (after_first is_quote r)
+    → Good (token_value (Quoted (before_first is_quote r)))
+    → Shown (34 ∷ r) (token_value (Quoted (before_first is_quote r))) (after_first is_quote r)
 quoted_good r true e lt w g = record {
   token = 34 ∷ before_first is_quote r ++ 34 ∷ [];
   parts = quoted_parts r lt;
   shows =
-      rw (said_quoted (before_first is_quote r) true e)
+      rw (value_of_quoted (before_first is_quote r) true e)
       (inl (
         refl,
         both_pass is_plain (λ b. not (is_quote b)) (before_first is_quote r) e
@@ -141,25 +141,25 @@ quoted_good r true e lt w g = record {
       ));
   apart = w;
 }
-quoted_good r false e lt w g = absurd (rw (said_quoted (before_first is_quote r) false e) at g)
+quoted_good r false e lt w g = absurd (rw (value_of_quoted (before_first is_quote r) false e) at g)
 
-quoted_shown : (r : List ℕ) (f : Front) → quoted_at r ≡ f → Good (said f.token) → Shown (34 ∷ r) (said f.token) f.after
+quoted_shown : (r : List ℕ) (f : FirstToken) → quoted_at r ≡ f → Good (token_value f.token) → Shown (34 ∷ r) (token_value f.token) f.after
 unfolding quoted_at
 quoted_shown r f e g =
     from (nat_lt (position_or_len is_quote r) (length r)) (ends_well (after_first is_quote r)) refl refl e
   where
     from : (s t : Bool) → nat_lt (position_or_len is_quote r) (length r) ≡ s → ends_well (after_first is_quote r) ≡ t
-        → cond {A = Front} (s && t)
+        → cond {A = FirstToken} (s && t)
         (record { token = Quoted (before_first is_quote r); after = after_first is_quote r })
         (record { token = Broken; after = [] })
         ≡ f
-        → Shown (34 ∷ r) (said f.token) f.after
+        → Shown (34 ∷ r) (token_value f.token) f.after
     from true true x y k =
-        subst (λ (h : Front). Shown (34 ∷ r) (said h.token) h.after) k
+        subst (λ (h : FirstToken). Shown (34 ∷ r) (token_value h.token) h.after) k
         (quoted_good r (list_all is_plain (before_first is_quote r)) refl (ltb-true _ _ x) y
-        (subst (λ (h : Front). Good (said h.token)) (sym k) g))
-    from true false x y k = absurd (rw said_broken at (subst (λ (h : Front). Good (said h.token)) (sym k) g))
-    from false t x y k = absurd (rw said_broken at (subst (λ (h : Front). Good (said h.token)) (sym k) g))
+        (subst (λ (h : FirstToken). Good (token_value h.token)) (sym k) g))
+    from true false x y k = absurd (rw value_of_broken at (subst (λ (h : FirstToken). Good (token_value h.token)) (sym k) g))
+    from false t x y k = absurd (rw value_of_broken at (subst (λ (h : FirstToken). Good (token_value h.token)) (sym k) g))
 
 ends_after : (r : List ℕ) → ends_well (drop (position_or_len is_blank r) r) ≡ true
 ends_after [] = refl
@@ -176,42 +176,42 @@ digits_shown b w (Ok bytes) x e g = inr (record { digits = w; parts = ap (λ (c 
 digits_shown b w (Err f) x e g = absurd g
 
 plain_shows : (b : ℕ) (w : List ℕ) (t : Bool) → eqb b 120 ≡ t → is_blank b ≡ false → eqb b 35 ≡ false
-    → is_quote b ≡ false → list_all not_blank w ≡ true → Good (said (Plain (b ∷ w)))
-    → Shows (b ∷ w) (said (Plain (b ∷ w)))
+    → is_quote b ≡ false → list_all not_blank w ≡ true → Good (token_value (Plain (b ∷ w)))
+    → Shows (b ∷ w) (token_value (Plain (b ∷ w)))
 plain_shows b w true e x y z h g =
-    rw (said_plain (b ∷ w) true e)
-    (digits_shown b w (decode_of w) (eqb-true b 120 e) refl (rw (said_plain (b ∷ w) true e) at g))
+    rw (value_of_plain (b ∷ w) true e)
+    (digits_shown b w (decode_of w) (eqb-true b 120 e) refl (rw (value_of_plain (b ∷ w) true e) at g))
 plain_shows b w false e x y z h g =
-    rw (said_plain (b ∷ w) false e) (refl, rw (e, x, y, z, h) refl)
+    rw (value_of_plain (b ∷ w) false e) (refl, rw (e, x, y, z, h) refl)
 
-plain_shown : (b : ℕ) (r : List ℕ) (f : Front) → is_blank b ≡ false → eqb b 35 ≡ false → is_quote b ≡ false
-    → plain_at b r ≡ f → Good (said f.token) → Shown (b ∷ r) (said f.token) f.after
+plain_shown : (b : ℕ) (r : List ℕ) (f : FirstToken) → is_blank b ≡ false → eqb b 35 ≡ false → is_quote b ≡ false
+    → plain_at b r ≡ f → Good (token_value f.token) → Shown (b ∷ r) (token_value f.token) f.after
 unfolding plain_at
 plain_shown b r f x y z e g =
-    subst (λ (h : Front). Shown (b ∷ r) (said h.token) h.after) e (record {
+    subst (λ (h : FirstToken). Shown (b ∷ r) (token_value h.token) h.after) e (record {
       token = b ∷ before_first is_blank r;
       parts = ap (λ (l : List ℕ). b ∷ l) (sym (take-append-drop (position_or_len is_blank r) r));
       shows =
           plain_shows b (before_first is_blank r) (eqb b 120) refl x y z (front_passes not_blank r)
-          (subst (λ (h : Front). Good (said h.token)) (sym e) g);
+          (subst (λ (h : FirstToken). Good (token_value h.token)) (sym e) g);
       apart = ends_after r;
     })
 
-front_shown : (rest : List ℕ) (f : Front) → ((b : ℕ) (r : List ℕ) → rest ≡ b ∷ r → is_blank b ≡ false)
-    → token_at rest ≡ Some f → Good (said f.token) → Shown rest (said f.token) f.after
+front_shown : (rest : List ℕ) (f : FirstToken) → ((b : ℕ) (r : List ℕ) → rest ≡ b ∷ r → is_blank b ≡ false)
+    → token_at rest ≡ Some f → Good (token_value f.token) → Shown rest (token_value f.token) f.after
 unfolding token_at
 front_shown [] f stays e g = cc
 front_shown (b ∷ r) f stays e g = from (eqb b 35) (is_quote b) refl refl e
   where
     from : (s t : Bool) → eqb b 35 ≡ s → is_quote b ≡ t
         → cond s None (cond t (Some (quoted_at r)) (Some (plain_at b r))) ≡ Some f
-        → Shown (b ∷ r) (said f.token) f.after
+        → Shown (b ∷ r) (token_value f.token) f.after
     from true t x y k = cc
     from false true x y k = let same : quoted_at r ≡ f = cc in rw (eqb-true b 34 y) (quoted_shown r f same g)
     from false false x y k = let same : plain_at b r ≡ f = cc in plain_shown b r f (stays b r refl) x y same g
 
-begun : (line : List ℕ) (f : Front) → token_at (after_blanks line) ≡ Some f → Good (said f.token)
-    → Begins line (said f.token) f.after
+begun : (line : List ℕ) (f : FirstToken) → token_at (after_blanks line) ≡ Some f → Good (token_value f.token)
+    → Begins line (token_value f.token) f.after
 begun line f e g =
     let s = split line in
     let t = front_shown (after_blanks line) f (λ b r k. first_stays line b r k) e g in
@@ -231,29 +231,29 @@ begun line f e g =
 -- ---- a line
 
 abbrev pub AllGood : List TokenValue → Type 0
-AllGood said = AllByRecursion Good said
+AllGood token_values = AllByRecursion Good token_values
 
-line_says : (ts : List Token) (line : List ℕ) → tokens_of line ≡ ts → AllGood (map said ts)
-    → LineHasValues line (map said ts)
-line_says [] line e g = from (token_at (after_blanks line)) refl (sym (tokens_once line) ∙ e)
+line_has_values : (ts : List Token) (line : List ℕ) → tokens_of line ≡ ts → AllGood (map token_value ts)
+    → LineHasValues line (map token_value ts)
+line_has_values [] line e g = from (token_at (after_blanks line)) refl (sym (tokens_once line) ∙ e)
   where
-    from : (o : Option Front) → token_at (after_blanks line) ≡ o → and_behind o tokens_of ≡ [] → HasNoTokens line
+    from : (o : Option FirstToken) → token_at (after_blanks line) ≡ o → and_tokens_after o tokens_of ≡ [] → HasNoTokens line
     from None x k = no_token line x
     from (Some f) x k = cc
-line_says (t ∷ ts) line e g =
-    from (λ after k. line_says ts after k g.1) (token_at (after_blanks line)) refl (sym (tokens_once line) ∙ e)
+line_has_values (t ∷ ts) line e g =
+    from (λ after k. line_has_values ts after k g.1) (token_at (after_blanks line)) refl (sym (tokens_once line) ∙ e)
   where
-    from : ((after : List ℕ) → tokens_of after ≡ ts → LineHasValues after (map said ts)) → (o : Option Front)
-        → token_at (after_blanks line) ≡ o → and_behind o tokens_of ≡ t ∷ ts → LineHasValues line (map said (t ∷ ts))
+    from : ((after : List ℕ) → tokens_of after ≡ ts → LineHasValues after (map token_value ts)) → (o : Option FirstToken)
+        → token_at (after_blanks line) ≡ o → and_tokens_after o tokens_of ≡ t ∷ ts → LineHasValues line (map token_value (t ∷ ts))
     from more None x k = cc
     from more (Some f) x k =
         let token : f.token ≡ t = cc in
         let after : tokens_of f.after ≡ ts = cc in
-        let good : Good (said f.token) = rw token g.0 in
-        (f.after, subst (λ (u : Token). Begins line (said u) f.after) token (begun line f x good), more f.after after)
+        let good : Good (token_value f.token) = rw token g.0 in
+        (f.after, subst (λ (u : Token). Begins line (token_value u) f.after) token (begun line f x good), more f.after after)
 
 pub line_shown : (line : List ℕ) → AllGood (values_in line) → LineHasValues line (values_in line)
-line_shown line g = line_says (tokens_of line) line refl g
+line_shown line g = line_has_values (tokens_of line) line refl g
 
 -- ---- the literals of a text that has a pool are well formed
 
@@ -263,11 +263,11 @@ literal_good n (Word w) pool more e = tt
 literal_good n (Literal bytes) pool more e = tt
 literal_good n Malformed pool more e = cc
 
-literals_good : (n : ℕ) (said : List TokenValue) (pool more : List ℕ) → literals_of n said pool ≡ Ok more → AllGood said
+literals_good : (n : ℕ) (token_values : List TokenValue) (pool more : List ℕ) → literals_of n token_values pool ≡ Ok more → AllGood token_values
 literals_good n [] pool more e = tt
-literals_good n (s ∷ said) pool more e =
-    let t = literals_through n s said pool more e in
-    (literal_good n s pool t.between t.first, literals_good n said t.between more t.second)
+literals_good n (s ∷ token_values) pool more e =
+    let t = literals_through n s token_values pool more e in
+    (literal_good n s pool t.between t.first, literals_good n token_values t.between more t.second)
 
 pub lines_good : (n : ℕ) (ls : List (List TokenValue)) (pool more : List ℕ) → gather literals_of n ls pool ≡ Ok more
     → AllByRecursion AllGood ls
@@ -297,8 +297,8 @@ decoded_bytes : (w : List ℕ) (r : Result (List ℕ) FromHexError) → decode_o
 decoded_bytes w (Ok bytes) e = (decode_of-ok w bytes e).3
 decoded_bytes w (Err f) e = tt
 
-said_bytes : (t : Token) → HoldsBytes (said t)
-unfolding said
+said_bytes : (t : Token) → HoldsBytes (token_value t)
+unfolding token_value
 said_bytes (Plain w) = from (is_hex w)
   where
     from : (b : Bool) → HoldsBytes (cond b (decoded (decode_of (drop 1 w))) (Word w))
@@ -311,7 +311,7 @@ said_bytes (Quoted i) = from (list_all is_plain i) refl
     from false e = tt
 said_bytes Broken = tt
 
-pub tokens_bytes : (ts : List Token) → AllHoldBytes (map said ts)
+pub tokens_bytes : (ts : List Token) → AllHoldBytes (map token_value ts)
 tokens_bytes [] = tt
 tokens_bytes (t ∷ ts) = (said_bytes t, tokens_bytes ts)
 

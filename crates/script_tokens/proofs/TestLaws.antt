@@ -49,12 +49,12 @@ pub first_no : {X : Type 0} (p : X → Bool) (x : X) (xs : List X) → p x ≡ f
     → position_or_len p (x ∷ xs) ≡ suc (position_or_len p xs)
 first_no p x xs e = rw e (omega arith)
 
-pub first_behind : (p : ℕ → Bool) (w : List ℕ) (k : ℕ) (rest : List ℕ) → list_all (λ b. not (p b)) w ≡ true
+pub first_after : (p : ℕ → Bool) (w : List ℕ) (k : ℕ) (rest : List ℕ) → list_all (λ b. not (p b)) w ≡ true
     → p k ≡ true → position_or_len p (w ++ k ∷ rest) ≡ length w
-first_behind p [] k rest h e = first_yes p k rest e
-first_behind p (b ∷ w) k rest h e =
+first_after p [] k rest h e = first_yes p k rest e
+first_after p (b ∷ w) k rest h e =
     let g = and_parts (not (p b)) (list_all (λ c. not (p c)) w) h in
-    first_no p b (w ++ k ∷ rest) (not_true (p b) g.0) ∙ ap suc (first_behind p w k rest g.1 e)
+    first_no p b (w ++ k ∷ rest) (not_true (p b) g.0) ∙ ap suc (first_after p w k rest g.1 e)
 
 first_nowhere : (p : ℕ → Bool) (w : List ℕ) → list_all (λ b. not (p b)) w ≡ true
     → position_or_len p (w ++ []) ≡ length w
@@ -63,10 +63,10 @@ first_nowhere p (b ∷ w) h =
     let g = and_parts (not (p b)) (list_all (λ c. not (p c)) w) h in
     first_no p b (w ++ []) (not_true (p b) g.0) ∙ ap suc (first_nowhere p w g.1)
 
-pub blank_behind : (w rest : List ℕ) → list_all not_blank w ≡ true → ends_well rest ≡ true
+pub blank_after : (w rest : List ℕ) → list_all not_blank w ≡ true → ends_well rest ≡ true
     → position_or_len is_blank (w ++ rest) ≡ length w
-blank_behind w [] h e = first_nowhere is_blank w h
-blank_behind w (k ∷ rest) h e = first_behind is_blank w k rest h e
+blank_after w [] h e = first_nowhere is_blank w h
+blank_after w (k ∷ rest) h e = first_after is_blank w k rest h e
 
 -- the bytes before the first that fails a test all pass it
 pub front_passes : (p : ℕ → Bool) (xs : List ℕ) → list_all p (take (prefix_len p xs) xs) ≡ true

@@ -7,7 +7,7 @@ use Rattle.script_tokens.specs.declared.cursor.TokenValue.{TokenValue}
 use Rattle.script_tokens.specs.declared.cursor.TokenValue.TheVariants.{Word, Literal, Malformed}
 use Rattle.script_tokens.specs.declared.fault.LineFault.{LineFault}
 use Rattle.script_tokens.specs.declared.fault.LineFault.TheVariants as faults
-use Rattle.script_tokens.specs.TokenValue as saying
+use Rattle.script_tokens.specs.TokenValue as cursors
 
 -- ---- a parser: a value and the rest of the line, or the first fault
 
@@ -163,7 +163,7 @@ name = do
 -- ---- the contract of a function that implements a parser
 
 -- the function returns the parser's value or fault; on a value, it leaves the rest of the line, and the same pool
-abbrev pub Reads : {X Y : Type 0} → (X → Y) → Parser Y → saying.Left → saying.Left → Result X LineFault → Type 0
+abbrev pub Reads : {X Y : Type 0} → (X → Y) → Parser Y → cursors.CursorState → cursors.CursorState → Result X LineFault → Type 0
 Reads view part old new (Ok x) =
-    (part old.said ≡ Ok (record { value = view x; rest = new.said })) × (new.pool ≡ old.pool)
-Reads view part old new (Err e) = part old.said ≡ Err e
+    (part old.token_values ≡ Ok (record { value = view x; rest = new.token_values })) × (new.pool ≡ old.pool)
+Reads view part old new (Err e) = part old.token_values ≡ Err e

@@ -52,18 +52,18 @@ pub record HasNoTokens (line : List ℕ) : Type 0 where
   pub silent : IsTrue (is_silent rest)
 
 -- blanks, a token of this value, and then a blank or the line's end
-pub record Begins (line : List ℕ) (said : TokenValue) (after : List ℕ) : Type 0 where
+pub record Begins (line : List ℕ) (shown : TokenValue) (after : List ℕ) : Type 0 where
   pub blanks : List ℕ
   pub token : List ℕ
   pub parts : line ≡ blanks ++ (token ++ after)
   pub blank : IsTrue (list_all is_blank blanks)
-  pub shows : Shows token said
+  pub shows : Shows token shown
   pub apart : IsTrue (ends_well after)
 
 -- a line has these values, token by token
 abbrev pub LineHasValues : List ℕ → List TokenValue → Type 0
 LineHasValues line [] = HasNoTokens line
-LineHasValues line (s ∷ said) = (after : List ℕ) × Begins line s after × LineHasValues after said
+LineHasValues line (s ∷ shown) = (after : List ℕ) × Begins line s after × LineHasValues after shown
 
 -- ---- numbers
 

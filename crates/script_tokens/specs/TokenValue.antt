@@ -25,14 +25,14 @@ decoded (Ok bytes) = Literal bytes
 decoded (Err e) = Malformed
 
 -- the value of a token
-unfoldable pub said : Token → TokenValue
-said (Plain word) = if is_hex word then decoded (decode_of (drop 1 word)) else Word word
-said (Quoted inside) = if list_all is_plain inside then Literal inside else Malformed
-said Broken = Malformed
+unfoldable pub token_value : Token → TokenValue
+token_value (Plain word) = if is_hex word then decoded (decode_of (drop 1 word)) else Word word
+token_value (Quoted inside) = if list_all is_plain inside then Literal inside else Malformed
+token_value Broken = Malformed
 
 -- the values of a line's tokens
 abbrev pub values_in : List ℕ → List TokenValue
-values_in line = map said (tokens_of line)
+values_in line = map token_value (tokens_of line)
 
 -- the values of each line of a text
 abbrev pub values_of_lines : List ℕ → List (List TokenValue)
@@ -68,13 +68,13 @@ line_values_over pool [] = []
 line_values_over pool (l ∷ ls) = values_over pool (tokens_of l) ∷ line_values_over (pool_after pool (tokens_of l)) ls
 
 -- the remaining values of a line, and the pool after the line
-pub record Left : Type 0 where
-  pub said : List TokenValue
+pub record CursorState : Type 0 where
+  pub token_values : List TokenValue
   pub pool : List ℕ
 
 -- the state of a cursor with these remaining tokens
-abbrev pub cursor_over : List ℕ → List Token → Left
-cursor_over pool ts = record { said = values_over pool ts; pool = pool_after pool ts }
+abbrev pub cursor_over : List ℕ → List Token → CursorState
+cursor_over pool ts = record { token_values = values_over pool ts; pool = pool_after pool ts }
 
 -- the first token, if there is one, and the tokens after it
 abbrev pub all_tokens : Option Token → List Token → List Token

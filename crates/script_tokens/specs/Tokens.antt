@@ -18,7 +18,7 @@ unfoldable pub after_blanks : List ℕ → List ℕ
 after_blanks line = drop (prefix_len is_blank line) line
 
 -- a token, and the bytes of the line after it
-pub record Front : Type 0 where
+pub record FirstToken : Type 0 where
   pub token : Token
   pub after : List ℕ
 
@@ -28,7 +28,7 @@ ends_well [] = true
 ends_well (b ∷ line) = is_blank b
 
 -- the token after an opening quote: it runs to the next quote
-unfoldable pub quoted_at : List ℕ → Front
+unfoldable pub quoted_at : List ℕ → FirstToken
 quoted_at line =
     if nat_lt (position_or_len is_quote line) (length line)
     && ends_well (after_first is_quote line) then record
@@ -36,24 +36,24 @@ quoted_at line =
     else record { token = Broken; after = [] }
 
 -- a token that runs to the next blank
-unfoldable pub plain_at : ℕ → List ℕ → Front
+unfoldable pub plain_at : ℕ → List ℕ → FirstToken
 plain_at b line =
     record { token = Plain (b ∷ before_first is_blank line); after = drop (position_or_len is_blank line) line }
 
 -- the first token of a line without leading blanks: none at the line's end or at a comment, which `#` begins
-unfoldable pub token_at : List ℕ → Option Front
+unfoldable pub token_at : List ℕ → Option FirstToken
 token_at [] = None
 token_at (b ∷ line) = if b == 35 then None else if is_quote b then Some (quoted_at line) else Some (plain_at b line)
 
 -- a token, and the tokens of the bytes after it
-abbrev pub and_behind : Option Front → (List ℕ → List Token) → List Token
-and_behind None tokens = []
-and_behind (Some f) tokens = f.token ∷ tokens f.after
+abbrev pub and_tokens_after : Option FirstToken → (List ℕ → List Token) → List Token
+and_tokens_after None tokens = []
+and_tokens_after (Some f) tokens = f.token ∷ tokens f.after
 
 -- the tokens, at most n of them
 unfoldable pub tokens_for : ℕ → List ℕ → List Token
 tokens_for zero line = []
-tokens_for (suc n) line = and_behind (token_at (after_blanks line)) (λ rest. tokens_for n rest)
+tokens_for (suc n) line = and_tokens_after (token_at (after_blanks line)) (λ rest. tokens_for n rest)
 
 -- the tokens of a line, which has at least one byte for each
 unfoldable pub tokens_of : List ℕ → List Token

@@ -31,9 +31,9 @@ pub struct Cursor<'t, 'p> {
 }
 
 impl<'t, 'p> Model for Cursor<'t, 'p> {
-    ghost use Rattle.script_tokens.specs.TokenValue.{Left, cursor_over, all_tokens};
+    ghost use Rattle.script_tokens.specs.TokenValue.{CursorState, cursor_over, all_tokens};
 
-    ghost Value = { Left };
+    ghost Value = { CursorState };
 
     ghost view = { λ c. cursor_over c.pool.now (all_tokens c.first c.others) };
 }
@@ -54,7 +54,7 @@ impl<'t, 'p> Cursor<'t, 'p> {
 
     // The value of the next token, which is removed.
     fn next(&mut self) -> Option<TokenValue<'t, 'p>>
-        ensures left { MatchOption result ((self.old.said ≡ []) × (self.new.said ≡ [])) (λ s. self.old.said ≡ s ∷ self.new.said) }
+        ensures left { MatchOption result ((self.old.token_values ≡ []) × (self.new.token_values ≡ [])) (λ s. self.old.token_values ≡ s ∷ self.new.token_values) }
         ensures pool { self.new.pool ≡ self.old.pool }
     {
         let token = self.first.take()?;
@@ -67,7 +67,7 @@ impl<'t, 'p> Cursor<'t, 'p> {
 
     /// Whether no token remains.
     pub fn is_empty(&self) -> bool
-        ensures { IsTrue result ↔ (self.now.said ≡ []) }
+        ensures { IsTrue result ↔ (self.now.token_values ≡ []) }
     {
         self.first.is_none()
     }
@@ -75,7 +75,7 @@ impl<'t, 'p> Cursor<'t, 'p> {
     /// Whether the next token is this word. It is not if the next token is a literal, or no token remains.
     #[tactic(auto, unfolding(crate::specs::TokenValue::value_over))]
     pub fn is_next(&self, word: &[u8]) -> bool
-        ensures { result ≡ is_next word.now self.now.said }
+        ensures { result ≡ is_next word.now self.now.token_values }
     {
         match &self.first {
             Some(Token::Plain(plain)) => !is_hex(plain.bytes()) && plain.bytes() == word,
@@ -85,7 +85,7 @@ impl<'t, 'p> Cursor<'t, 'p> {
 
     /// The pool after the line's literals, once every token has been read.
     pub fn pool(&self) -> &'p [u8]
-        requires { self.now.said ≡ [] }
+        requires { self.now.token_values ≡ [] }
         ensures { result.now ≡ self.now.pool }
     {
         self.pool
@@ -171,7 +171,7 @@ impl<'t, 'p> Cursor<'t, 'p> {
     #[tactic(auto, unfolding(crate::specs::Parsers::ended))]
     pub fn end(&mut self) -> Result<(), LineFault>
         ensures reads { Reads (λ u. u) (ended tt) self.old self.new result }
-        ensures done { OnOk result (self.new.said ≡ []) }
+        ensures done { OnOk result (self.new.token_values ≡ []) }
     {
         match self.next() {
             Some(_) => Err(LineFault::Syntax),

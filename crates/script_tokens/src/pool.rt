@@ -2,7 +2,7 @@
 ghost use Rattle.std.specs.Prelude.{◌≡◌, map};
 ghost use Rattle.std.specs.List.{list_all};
 ghost use Rattle.script_tokens.specs.Tokens.{tokens_of};
-ghost use Rattle.script_tokens.specs.TokenValue.{said, is_plain};
+ghost use Rattle.script_tokens.specs.TokenValue.{token_value, is_plain};
 ghost use Rattle.script_tokens.specs.Pool.{Answers, literal_of, literals_of, pool_bytes};
 
 use crate::cursor::is_hex;
@@ -36,7 +36,7 @@ fn add_literals(
     number: u64,
     line: &[u8],
 ) -> Result<(), Failure<ScriptFault>>
-    ensures { Answers (λ _. pool.new.items) result (literals_of number (map said (tokens_of line.now)) pool.old.items) }
+    ensures { Answers (λ _. pool.new.items) result (literals_of number (map token_value (tokens_of line.now)) pool.old.items) }
 {
     for token in Tokens::of(line) {
         add_literal(alloc, pool, number, &token)?;
@@ -45,14 +45,14 @@ fn add_literals(
 }
 
 // Appends the bytes of a token that is a literal.
-#[tactic(auto, unfolding(crate::specs::Pool::literal_of, crate::specs::TokenValue::said))]
+#[tactic(auto, unfolding(crate::specs::Pool::literal_of, crate::specs::TokenValue::token_value))]
 fn add_literal(
     alloc: Global,
     pool: &mut Vec<u8>,
     number: u64,
     token: &Token<'_>,
 ) -> Result<(), Failure<ScriptFault>>
-    ensures { Answers (λ _. pool.new.items) result (literal_of number (said token.now) pool.old.items) }
+    ensures { Answers (λ _. pool.new.items) result (literal_of number (token_value token.now) pool.old.items) }
 {
     match token {
         Token::Plain(word) => {

@@ -31,7 +31,7 @@ use Rattle.sfbank.specs.Outcome.{Done, edits_of, RefusedLine, first_refused, bot
 use Rattle.sfbank.specs.Outcome.{after_script, after_reading, bank_in, outcome, canon_outcome, play_outcome}
 use Rattle.sfbank.specs.Written.{IsWritten, RunsOneText}
 use Rattle.sfbank.specs.BankScripts.{script_outcome, start_of, IsRemade, ScriptsDistinguish, RemadeRendersSame}
-use Rattle.sfbank.proofs.OneText.{not_read, sent_text, canon_text}
+use Rattle.sfbank.proofs.OneText.{not_read, runs_one_text, canon_text}
 use Rattle.sfbank.proofs.Restores.{reading_done, outcome_canon}
 use Rattle.sfbank.proofs.RenderLaws.{played_on_canon}
 
@@ -57,7 +57,7 @@ pub script_runs : {U : Type 0} (points : SamplePoints) (old new : Option (List �
     → ReadsAs file b counts → IsWritten Out old new (bank_script points b) r
     → RunsOneText old new (script_outcome points file) r
 script_runs points old new file b counts r reads h =
-    sent_text old new (script_outcome points file) (bank_script points b) r (script_text points file b counts reads)
+    runs_one_text old new (script_outcome points file) (bank_script points b) r (script_text points file b counts reads)
     h
 
 -- ---- a script that leads from one bank to another
@@ -66,9 +66,9 @@ lines_accepted : (b : Parts) (lines : List Line) → AllAccepted b (edits_of lin
 lines_accepted b [] h = refl
 lines_accepted b (l ∷ lines) h = rw h.0.accepted (lines_accepted (raw b l.edit) lines h.1)
 
-pub led : (a : Parts) (text : List ℕ) (b : Parts) (s : IsScript a text b)
+pub script_leads : (a : Parts) (text : List ℕ) (b : Parts) (s : IsScript a text b)
     → after_script a (script_of text) ≡ Ok (record { out = canon b; undo = texts_of (undo_list a (edits_of s.lines)) })
-led a text b s =
+script_leads a text b s =
     let es = edits_of s.lines in
     ap (after_script a) s.read
     ∙ ap (λ (o : Option RefusedLine). unless_refused o (both_texts a es)) (lines_accepted a s.lines s.leads.is_accepted)
@@ -97,7 +97,7 @@ remade file bytes text h =
       texts_of (undo_list (empty b.minor) (edits_of s.lines)),
       ap (outcome (start_of file)) (sym is.1)
           ∙ outcome_canon (empty b.minor) (bank_script Kept b) (sound_empty b sound)
-          ∙ led (empty b.minor) (bank_script Kept b) b s,
+          ∙ script_leads (empty b.minor) (bank_script Kept b) b s,
     )
 
 -- banks with the same canonical file are equal
@@ -122,8 +122,8 @@ distinguishes a b in_a in_b read_a read_b =
           ∙ sym script_b),
     )
 
-pub remade_sounds : RemadeRendersSame
-remade_sounds file text notes done bytes h run_done =
+pub remade_renders_same : RemadeRendersSame
+remade_renders_same file text notes done bytes h run_done =
     let made = remade file bytes text h in
     let same : done.out ≡ canon (bank_in file) = cc in
     ap (λ (t : List ℕ). play_outcome t notes) same ∙ played_on_canon file notes bytes (script_is file text h).0

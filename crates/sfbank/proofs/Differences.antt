@@ -18,7 +18,7 @@ use Rattle.edit_forms.specs.declared.edit.Edit.{Edit}
 use Rattle.bank_edits.specs.Runs.{undo_list}
 use Rattle.edit_script.specs.Script.{script_of}
 use Rattle.edit_script.specs.Printing.{texts_of, numbered}
-use Rattle.edit_script.proofs.LineLaws.{printed_spell}
+use Rattle.edit_script.proofs.LineLaws.{printed_is_read}
 use Rattle.script_of_bank.specs.BankScript.{IsScript}
 use Rattle.script_of_bank.specs.LeadsTo.{Leads, edits_between}
 use Rattle.script_of_bank.proofs.PrintedLaws.{replaces}
@@ -31,7 +31,7 @@ use Rattle.sfbank.specs.Written.{IsWritten}
 use Rattle.sfbank.specs.Differences.{TwoBanks, after_file, if_same, of_one_version, banks_in, two_banks_of, IsDifference}
 use Rattle.sfbank.specs.Differences.{WritesDifference, RunsDifference, WritesNothing, ReadsTwoBanks}
 use Rattle.sfbank.proofs.Restores.{all_fit, edits_numbered, restores}
-use Rattle.sfbank.proofs.BankScripts.{sound_in, led}
+use Rattle.sfbank.proofs.BankScripts.{sound_in, script_leads}
 
 -- ---- reading both files
 
@@ -118,7 +118,7 @@ is_difference a b text bytes read s =
     let done : Done = record { out = canon (bank_in b); undo = undo } in
     let leads : outcome a text ≡ Ok done =
     ap (λ (o : Option ReadFault). after_reading o (after_script x (script_of text))) read
-    ∙ led x text (bank_in b) s in
+    ∙ script_leads x text (bank_in b) s in
     record {
       undo =
           undo;
@@ -132,7 +132,7 @@ is_difference a b text bytes read s =
 pub printed_leads : (p : TwoBanks) (es : List Edit) → Leads p.first es p.second → IsScript p.first (texts_of es) p.second
 printed_leads p es h = record {
   lines = numbered 1 es;
-  read = printed_spell es (all_fit p.first es h.is_accepted);
+  read = printed_is_read es (all_fit p.first es h.is_accepted);
   leads = subst (λ (xs : List Edit). Leads p.first xs p.second) (sym (edits_numbered 1 es)) h;
 }
 
@@ -145,10 +145,10 @@ replacement_is a b p in_a in_b h =
 
 -- ---- how the run ends
 
-sent : {U : Type 0} (old new : Option (List ℕ)) (a b : List ℕ) (p : TwoBanks) (text : List ℕ) (r : Result U RunFault)
+writes_difference : {U : Type 0} (old new : Option (List ℕ)) (a b : List ℕ) (p : TwoBanks) (text : List ℕ) (r : Result U RunFault)
     → AreBytes a → two_banks_of a b ≡ Ok p
     → IsScript p.first text p.second → IsWritten Out old new text r → WritesDifference old new a b r
-sent old new a b p text r bytes h s g =
+writes_difference old new a b p text r bytes h s g =
     let d = both_read a b p h in
     let script = subst (λ (q : TwoBanks). IsScript q.first text q.second) (sym d.banks) s in
     record {
@@ -159,24 +159,24 @@ sent old new a b p text r bytes h s g =
       writes = g;
     }
 
-pub sends_difference : {U : Type 0} (old new : Option (List ℕ)) (a b : List ℕ) (p : TwoBanks) (text : List ℕ)
+pub runs_difference : {U : Type 0} (old new : Option (List ℕ)) (a b : List ℕ) (p : TwoBanks) (text : List ℕ)
     (r : Result U RunFault)
     → AreBytes a → two_banks_of a b ≡ Ok p
     → IsScript p.first text p.second → IsWritten Out old new text r → RunsDifference old new a b r
-sends_difference old new a b p text (Ok u) bytes h s g = sent old new a b p text (Ok u) bytes h s g
-sends_difference old new a b p text (Err (run.Write which n)) bytes h s g =
-    sent {U = Unit {0}} old new a b p text (Err (run.Write which n)) bytes h s g
-sends_difference old new a b p text (Err run.Memory) bytes h s g = absurd g
-sends_difference old new a b p text (Err run.OtherVersion) bytes h s g = absurd g
-sends_difference old new a b p text (Err (run.Recording fault)) bytes h s g = absurd g
-sends_difference old new a b p text (Err (run.NoMember cause)) bytes h s g = absurd g
-sends_difference old new a b p text (Err (run.Read fault)) bytes h s g = absurd g
-sends_difference old new a b p text (Err (run.ReadFirst fault)) bytes h s g = absurd g
-sends_difference old new a b p text (Err (run.ReadSecond fault)) bytes h s g = absurd g
-sends_difference old new a b p text (Err (run.Script fault)) bytes h s g = absurd g
-sends_difference old new a b p text (Err (run.Refused number why)) bytes h s g = absurd g
-sends_difference old new a b p text (Err (run.NotNeutral number)) bytes h s g = absurd g
-sends_difference old new a b p text (Err (run.Notes fault)) bytes h s g = absurd g
+runs_difference old new a b p text (Ok u) bytes h s g = writes_difference old new a b p text (Ok u) bytes h s g
+runs_difference old new a b p text (Err (run.Write which n)) bytes h s g =
+    writes_difference {U = Unit {0}} old new a b p text (Err (run.Write which n)) bytes h s g
+runs_difference old new a b p text (Err run.Memory) bytes h s g = absurd g
+runs_difference old new a b p text (Err run.OtherVersion) bytes h s g = absurd g
+runs_difference old new a b p text (Err (run.Recording fault)) bytes h s g = absurd g
+runs_difference old new a b p text (Err (run.NoMember cause)) bytes h s g = absurd g
+runs_difference old new a b p text (Err (run.Read fault)) bytes h s g = absurd g
+runs_difference old new a b p text (Err (run.ReadFirst fault)) bytes h s g = absurd g
+runs_difference old new a b p text (Err (run.ReadSecond fault)) bytes h s g = absurd g
+runs_difference old new a b p text (Err (run.Script fault)) bytes h s g = absurd g
+runs_difference old new a b p text (Err (run.Refused number why)) bytes h s g = absurd g
+runs_difference old new a b p text (Err (run.NotNeutral number)) bytes h s g = absurd g
+runs_difference old new a b p text (Err (run.Notes fault)) bytes h s g = absurd g
 
 -- there are no edits between equal banks
 pub writes_nothing : {U : Type 0} (old new : Option (List ℕ)) (a b : List ℕ) (p : TwoBanks) (es : List Edit)

@@ -129,7 +129,7 @@ pub applied_done : (b new : Parts) (lines : List Line) (undo : List Edit) → Al
     → after_script b (Ok lines) ≡ Ok (texts new undo)
 applied_done b new lines undo a =
     ap (λ (o : Option RefusedLine). unless_refused o (both_texts b (edits_of lines))) a.accepted
-    ∙ sym (λ i. Ok (texts (a.changed i) (a.accepted_back i)))
+    ∙ sym (λ i. Ok (texts (a.changed i) (a.undo_is i)))
 
 pub at_done : (b new : Parts) (script : List ℕ) (lines : List Line) (undo : List Edit) → script_of script ≡ Ok lines
     → AllApplied b new lines undo → after_script b (script_of script) ≡ Ok (texts new undo)

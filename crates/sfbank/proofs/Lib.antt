@@ -11,5 +11,5 @@ pub mod Differences
 pub mod RenderLaws
 pub mod Texts
 pub mod Recordings
-pub mod Unsent
+pub mod NothingWritten
 pub mod Maps

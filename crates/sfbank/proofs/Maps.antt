@@ -17,7 +17,7 @@ use Rattle.program_files.specs.RunFaults.{in_run}
 use Rattle.sfbank.specs.Outcome.{after_reading, bank_in}
 use Rattle.sfbank.specs.Written.{IsWritten, RunsOneText}
 use Rattle.sfbank.specs.Maps.{has_owner, cause_of_missing, if_there, map_outcome}
-use Rattle.sfbank.proofs.OneText.{not_read, sent_text}
+use Rattle.sfbank.proofs.OneText.{not_read, runs_one_text}
 
 pub map_not_read : (U : Type 0) (failure : Failure ReadFault) (known : Option (List ℕ)) (file : List ℕ) (o : Owner)
     → Fails failure (fault_of file)
@@ -50,5 +50,5 @@ pub map_runs : {U : Type 0} (old new : Option (List ℕ)) (file : List ℕ) (o :
     → ReadsAs file b counts → there ≡ has_owner b o → there ≡ true
     → IsWritten Out old new (picture b o) r → RunsOneText old new (map_outcome file o) r
 map_runs old new file o b counts there r reads e t h =
-    sent_text old new (map_outcome file o) (picture b o) r
+    runs_one_text old new (map_outcome file o) (picture b o) r
     (map_read file o b counts there reads e ∙ ap (λ t. if_there t o (picture b o)) t) h

@@ -21,7 +21,7 @@ use Rattle.edit_script.specs.declared.parsing.Line.{Line}
 use Rattle.edit_script.specs.Script.{script_of}
 use Rattle.edit_script.specs.Printing.{numbered}
 use Rattle.edit_script.proofs.FitLaws.{script_fits}
-use Rattle.edit_script.proofs.LineLaws.{printed_spell}
+use Rattle.edit_script.proofs.LineLaws.{printed_is_read}
 use Rattle.script_notes.specs.declared.fault.NoteFault.{NoteFault}
 use Rattle.script_notes.specs.Notes.{Numbers, notes_of}
 use Rattle.mixer.specs.Render.{render}
@@ -49,20 +49,20 @@ of_neutral file script = refl
 
 -- ---- a neutral run that succeeds
 
-record NeutralScript (b : Parts) (said : Result (List Line) ScriptFault) (done : Done) : Type 0 where
+record NeutralScript (b : Parts) (parsed : Result (List Line) ScriptFault) (done : Done) : Type 0 where
   lines : List Line
-  spelled : said ≡ Ok lines
+  parses : parsed ≡ Ok lines
   neutral : first_not_neutral lines ≡ None
-  comes_to : after_script b said ≡ Ok done
+  outcome_is : after_script b parsed ≡ Ok done
 
-neutral_script : (b : Parts) (said : Result (List Line) ScriptFault) (done : Done)
-    → after_neutral_script b said ≡ Ok done → NeutralScript b said done
+neutral_script : (b : Parts) (parsed : Result (List Line) ScriptFault) (done : Done)
+    → after_neutral_script b parsed ≡ Ok done → NeutralScript b parsed done
 neutral_script b (Err f) done h = absurd cc
 neutral_script b (Ok lines) done h = by_what (first_not_neutral lines) refl h
   where
     by_what : (o : Option ℕ) → first_not_neutral lines ≡ o → if_neutral o (after_script b (Ok lines)) ≡ Ok done
         → NeutralScript b (Ok lines) done
-    by_what None e h = record { lines = lines; spelled = refl; neutral = e; comes_to = h }
+    by_what None e h = record { lines = lines; parses = refl; neutral = e; outcome_is = h }
     by_what (Some number) e h = absurd cc
 
 record NeutralDone (file script : List ℕ) (done : Done) : Type 0 where
@@ -82,7 +82,7 @@ unfolding outcome
 as_every file script done h =
     let d = neutral_done file script done h in
     ap (λ (o : Option ReadFault). after_reading o (after_script (bank_in file) (script_of script))) d.read
-    ∙ d.of_script.comes_to
+    ∙ d.of_script.outcome_is
 
 pub runs_edits : (file script : List ℕ) → IsRunOfEdits file script
 runs_edits file script done h = as_every file script done h
@@ -91,13 +91,13 @@ runs_edits file script done h = as_every file script done h
 as_neutral : (file script : List ℕ) (done : Done) (lines : List Line) → outcome file script ≡ Ok done
     → script_of script ≡ Ok lines → first_not_neutral lines ≡ None → neutral_outcome file script ≡ Ok done
 unfolding outcome neutral_outcome
-as_neutral file script done lines h spelled neutral =
+as_neutral file script done lines h parses neutral =
     let b = bank_in file in
     let read = reading_done (fault_of file) (after_script b (script_of script)) done h in
     ap (λ (o : Option ReadFault). after_reading o (after_neutral_script b (script_of script))) read.0
-    ∙ ap (after_neutral_script b) spelled
+    ∙ ap (after_neutral_script b) parses
     ∙ ap (λ (o : Option ℕ). if_neutral o (after_script b (Ok lines))) neutral
-    ∙ ap (after_script b) (sym spelled)
+    ∙ ap (after_script b) (sym parses)
     ∙ read.1
 
 -- ---- the undo text of neutral edits
@@ -134,24 +134,24 @@ undo_neutral b (e ∷ es) h =
     with_last (undo_list (raw b e) es) (inverse b e) (undo_neutral (raw b e) es h.1) (neutral_back b e h.0)
 
 pub neutrally_restores : (file script : List ℕ) → AreBytes file → IsNeutrallyUndone file script
-neutrally_restores file script bytes done lines h spelled =
+neutrally_restores file script bytes done lines h parses =
     let d = neutral_done file script done h in
     let b = bank_in file in
     let es = edits_of lines in
     let us = undo_list b es in
-    let same = lines_same (script_of script) d.of_script.lines lines d.of_script.spelled spelled in
+    let same = lines_same (script_of script) d.of_script.lines lines d.of_script.parses parses in
     let neutral = subst (λ (ls : List Line). first_not_neutral ls ≡ None) same d.of_script.neutral in
-    let run = script_done b lines done (ap (after_script b) (sym spelled) ∙ d.of_script.comes_to) in
+    let run = script_done b lines done (ap (after_script b) (sym parses) ∙ d.of_script.outcome_is) in
     let sound : IsSound b = record { valid = read_valid file bytes d.read; fits = read_fits file bytes } in
-    let undone = all_undone b es sound (all_accepted b lines (script_fits script lines spelled) run.accepted) in
-    let said : script_of done.undo ≡ Ok (numbered 1 us) =
-    ap (λ (x : Done). script_of x.undo) run.texts ∙ printed_spell us (all_fit (after_all b es) us undone.is_accepted) in
+    let undone = all_undone b es sound (all_accepted b lines (script_fits script lines parses) run.accepted) in
+    let parsed : script_of done.undo ≡ Ok (numbered 1 us) =
+    ap (λ (x : Done). script_of x.undo) run.texts ∙ printed_is_read us (all_fit (after_all b es) us undone.is_accepted) in
     as_neutral done.out done.undo _ (numbered 1 us)
-    (restores file script bytes done lines (as_every file script done h) spelled) said
+    (restores file script bytes done lines (as_every file script done h) parses) parsed
     (lines_neutral 1 us (undo_neutral b es (edits_neutral lines neutral)))
   where
-    lines_same : (said : Result (List Line) ScriptFault) (x y : List Line) → said ≡ Ok x → said ≡ Ok y → x ≡ y
-    lines_same said x y h k = cc
+    lines_same : (parsed : Result (List Line) ScriptFault) (x y : List Line) → parsed ≡ Ok x → parsed ≡ Ok y → x ≡ y
+    lines_same parsed x y h k = cc
 
 -- ---- rendering
 
@@ -164,19 +164,19 @@ render_same b (l ∷ lines) sound is_accepted neutral ns =
     render_same (raw b l.edit) lines (undone b l.edit sound is_accepted.0).sound is_accepted.1 both.1 ns
     ∙ neutral_render b l.edit sound is_accepted.0 both.0 ns
 
-played_same : (b end : Parts) (said : Result (List Numbers) NoteFault)
-    → ((ns : List Numbers) → render end ns ≡ render b ns) → after_notes end said ≡ after_notes b said
+played_same : (b end : Parts) (parsed : Result (List Numbers) NoteFault)
+    → ((ns : List Numbers) → render end ns ≡ render b ns) → after_notes end parsed ≡ after_notes b parsed
 played_same b end (Ok ns) h = ap (λ xs. Ok (wave xs)) (h ns)
 played_same b end (Err fault) h = refl
 
-pub sounds_the_same : (file script : List ℕ) → AreBytes file → EditedRendersSame file script
-sounds_the_same file script bytes done notes h =
+pub edited_renders_same : (file script : List ℕ) → AreBytes file → EditedRendersSame file script
+edited_renders_same file script bytes done notes h =
     let d = neutral_done file script done h in
     let b = bank_in file in
     let lines = d.of_script.lines in
-    let run = script_done b lines done (ap (after_script b) (sym d.of_script.spelled) ∙ d.of_script.comes_to) in
+    let run = script_done b lines done (ap (after_script b) (sym d.of_script.parses) ∙ d.of_script.outcome_is) in
     let sound : IsSound b = record { valid = read_valid file bytes d.read; fits = read_fits file bytes } in
-    let is_accepted = all_accepted b lines (script_fits script lines d.of_script.spelled) run.accepted in
+    let is_accepted = all_accepted b lines (script_fits script lines d.of_script.parses) run.accepted in
     let end : Parts = after_all b (edits_of lines) in
     let end_sound = (all_undone b (edits_of lines) sound is_accepted).sound in
     ap (λ (x : Done). play_outcome x.out notes) run.texts

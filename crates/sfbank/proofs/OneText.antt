@@ -16,7 +16,7 @@ use Rattle.bank_format.proofs.ReadValid.{read_valid, read_fits}
 use Rattle.edit_script.specs.declared.parsing.Line.{Line}
 use Rattle.script_tokens.specs.declared.fault.ScriptFault.{ScriptFault}
 use Rattle.edit_script.specs.Script.{script_of}
-use Rattle.edit_script.proofs.LineLaws.{printed_spell}
+use Rattle.edit_script.proofs.LineLaws.{printed_is_read}
 use Rattle.show_listing.specs.declared.listing.Details.{Details}
 use Rattle.show_listing.specs.Listing.{listing}
 use Rattle.show_listing.specs.Details.{detailed_listing}
@@ -61,23 +61,23 @@ details_not_read U failure known details file h =
 
 -- ---- a text that is written
 
-pub sent_text : {U : Type 0} (old new : Option (List ℕ)) (outcome : Result (List ℕ) RunFault) (text : List ℕ)
+pub runs_one_text : {U : Type 0} (old new : Option (List ℕ)) (outcome : Result (List ℕ) RunFault) (text : List ℕ)
     (r : Result U RunFault)
     → outcome ≡ Ok text → IsWritten Out old new text r
     → RunsOneText old new outcome r
-sent_text old new outcome text (Ok u) e h = record { text = text; is_text = e; writes = h }
-sent_text old new outcome text (Err (run.Write which n)) e h = record { text = text; is_text = e; writes = h }
-sent_text old new outcome text (Err run.Memory) e h = absurd h
-sent_text old new outcome text (Err (run.Read fault)) e h = absurd h
-sent_text old new outcome text (Err (run.ReadFirst fault)) e h = absurd h
-sent_text old new outcome text (Err (run.ReadSecond fault)) e h = absurd h
-sent_text old new outcome text (Err (run.Script fault)) e h = absurd h
-sent_text old new outcome text (Err (run.Refused number why)) e h = absurd h
-sent_text old new outcome text (Err (run.NotNeutral number)) e h = absurd h
-sent_text old new outcome text (Err run.OtherVersion) e h = absurd h
-sent_text old new outcome text (Err (run.Recording fault)) e h = absurd h
-sent_text old new outcome text (Err (run.NoMember cause)) e h = absurd h
-sent_text old new outcome text (Err (run.Notes fault)) e h = absurd h
+runs_one_text old new outcome text (Ok u) e h = record { text = text; is_text = e; writes = h }
+runs_one_text old new outcome text (Err (run.Write which n)) e h = record { text = text; is_text = e; writes = h }
+runs_one_text old new outcome text (Err run.Memory) e h = absurd h
+runs_one_text old new outcome text (Err (run.Read fault)) e h = absurd h
+runs_one_text old new outcome text (Err (run.ReadFirst fault)) e h = absurd h
+runs_one_text old new outcome text (Err (run.ReadSecond fault)) e h = absurd h
+runs_one_text old new outcome text (Err (run.Script fault)) e h = absurd h
+runs_one_text old new outcome text (Err (run.Refused number why)) e h = absurd h
+runs_one_text old new outcome text (Err (run.NotNeutral number)) e h = absurd h
+runs_one_text old new outcome text (Err run.OtherVersion) e h = absurd h
+runs_one_text old new outcome text (Err (run.Recording fault)) e h = absurd h
+runs_one_text old new outcome text (Err (run.NoMember cause)) e h = absurd h
+runs_one_text old new outcome text (Err (run.Notes fault)) e h = absurd h
 
 pub canon_text : (file : List ℕ) (b : Parts) (counts : Counts) → ReadsAs file b counts
     → canon_outcome file ≡ Ok (canon b)
@@ -113,20 +113,20 @@ pub canon_runs : {U : Type 0} (old new : Option (List ℕ)) (file : List ℕ) (b
     → ReadsAs file b counts → IsWritten Out old new (canon b) r
     → RunsOneText old new (canon_outcome file) r
 canon_runs old new file b counts r reads h =
-    sent_text old new (canon_outcome file) (canon b) r (canon_text file b counts reads) h
+    runs_one_text old new (canon_outcome file) (canon b) r (canon_text file b counts reads) h
 
 pub show_runs : {U : Type 0} (old new : Option (List ℕ)) (file : List ℕ) (b : Parts) (counts : Counts)
     (r : Result U RunFault)
     → ReadsAs file b counts → IsWritten Out old new (listing b counts) r
     → RunsOneText old new (show_outcome file) r
 show_runs old new file b counts r reads h =
-    sent_text old new (show_outcome file) (listing b counts) r (show_text file b counts reads) h
+    runs_one_text old new (show_outcome file) (listing b counts) r (show_text file b counts reads) h
 
 -- ---- laws of the canonical file
 
 -- the empty text is the empty script
 no_lines : script_of [] ≡ Ok []
-no_lines = printed_spell [] tt
+no_lines = printed_is_read [] tt
 
 empty_after : (b : Parts) (o : Option ReadFault)
     → after_reading o (after_script b (Ok [])) ≡ without_undo (after_reading o (Ok (canon b)))

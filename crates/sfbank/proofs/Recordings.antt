@@ -23,7 +23,7 @@ use Rattle.edit_forms.specs.declared.cause.Cause.TheVariants.{NoSuchSample}
 use Rattle.edit_script.specs.declared.parsing.Line.{Line}
 use Rattle.edit_script.specs.Script.{script_of}
 use Rattle.edit_script.specs.Printing.{texts_of, numbered, AllFit}
-use Rattle.edit_script.proofs.LineLaws.{printed_spell}
+use Rattle.edit_script.proofs.LineLaws.{printed_is_read}
 use Rattle.script_tokens.specs.declared.fault.ScriptFault.{ScriptFault}
 use Rattle.wave_file.specs.SampleWave.{sample_wave}
 use Rattle.wave_file.specs.declared.fault.WaveFault.{WaveFault}
@@ -39,7 +39,7 @@ use Rattle.sfbank.specs.Outcome.{Done, edits_of, after_script, after_reading, ba
 use Rattle.sfbank.specs.Recordings.{wave_of, wave_outcome, edits_into, after_recording, import_outcome, IsScripted}
 use Rattle.sfbank.specs.Recordings.{IsImportUndone}
 use Rattle.sfbank.specs.Written.{IsWritten, RunsOneText, FailsBefore}
-use Rattle.sfbank.proofs.OneText.{not_read, sent_text}
+use Rattle.sfbank.proofs.OneText.{not_read, runs_one_text}
 use Rattle.sfbank.proofs.Restores.{restores, edits_numbered}
 
 -- ---- a sample as a WAVE file
@@ -69,9 +69,9 @@ pub wave_runs : {U : Type 0} (old new : Option (List ℕ)) (file : List ℕ) (nu
     → ReadsAs file b counts
     → Some s ≡ slice_get b.samples number → IsWritten Out old new (sample_wave s) r
     → RunsOneText old new (wave_outcome file number) r
-wave_runs old new file number b counts s r reads h sent =
-    sent_text old new (wave_outcome file number) (sample_wave s) r
-    (wave_on file number b counts reads ∙ ap wave_of (sym h)) sent
+wave_runs old new file number b counts s r reads h is_written =
+    runs_one_text old new (wave_outcome file number) (sample_wave s) r
+    (wave_on file number b counts reads ∙ ap wave_of (sym h)) is_written
 
 pub few_points : (b : Parts) (number : ℕ) (s : Sample) → IsValid b → Some s ≡ slice_get b.samples number
     → length s.points ≤ POINTS
@@ -135,7 +135,7 @@ scripted file wave name bytes wave_bytes name_bytes r h = by_what (fault_of file
         ap (after_recording (bank_in file) name) h
         ∙ sym
         (ap (after_script (bank_in file))
-        (printed_spell (lines_of file name r) (edits_fit file wave name r bytes wave_bytes name_bytes e h)))
+        (printed_is_read (lines_of file name r) (edits_fit file wave name r bytes wave_bytes name_bytes e h)))
 
 -- a run that succeeds has read its file
 done_read : (o : Option ReadFault) (x : Result Done RunFault) (done : Done) → after_reading o x ≡ Ok done → o ≡ None
@@ -145,10 +145,10 @@ done_read (Some f) x done h = absurd cc
 pub import_restores : (file wave name : List ℕ) → AreBytes file → AreBytes wave → AreBytes name
     → IsImportUndone file wave name
 unfolding import_outcome
-import_restores file wave name bytes wave_bytes name_bytes done r h said =
+import_restores file wave name bytes wave_bytes name_bytes done r h recording_is =
     let es = lines_of file name r in
     let read = done_read (fault_of file) (after_recording (bank_in file) name (recording_in wave)) done h in
-    let spelled = printed_spell es (edits_fit file wave name r bytes wave_bytes name_bytes read said) in
-    let run_it = sym (scripted file wave name bytes wave_bytes name_bytes r said) ∙ h in
-    restores file (texts_of es) bytes done (numbered 1 es) run_it spelled
+    let parses = printed_is_read es (edits_fit file wave name r bytes wave_bytes name_bytes read recording_is) in
+    let run_it = sym (scripted file wave name bytes wave_bytes name_bytes r recording_is) ∙ h in
+    restores file (texts_of es) bytes done (numbered 1 es) run_it parses
     ∙ ap (λ (xs : List Edit). Ok (record { out = canon (bank_in file); undo = texts_of xs })) (edits_numbered 1 es)

@@ -29,7 +29,7 @@ use Rattle.sfbank.specs.Outcome.{Done, after_script, after_reading, bank_in, out
 use Rattle.sfbank.specs.Outcome.{play_outcome, RestoredRendersSame, CanonRendersSame}
 use Rattle.sfbank.specs.Written.{IsWritten, RunsOneText}
 use Rattle.program_files.specs.RunFaults.{in_run}
-use Rattle.sfbank.proofs.OneText.{not_read, sent_text}
+use Rattle.sfbank.proofs.OneText.{not_read, runs_one_text}
 use Rattle.sfbank.proofs.Restores.{reading_done, restores}
 
 -- ---- a run
@@ -66,7 +66,7 @@ pub play_runs : {U : Type 0} (old new : Option (List ℕ)) (file notes : List �
     → ReadsAs file b counts → notes_of notes ≡ Ok ns → sides ≡ render b ns → IsWritten Out old new (wave sides) r
     → RunsOneText old new (play_outcome file notes) r
 play_runs old new file notes b counts ns sides r reads spelled played h =
-    sent_text old new (play_outcome file notes) (wave sides) r
+    runs_one_text old new (play_outcome file notes) (wave sides) r
     (played_on file notes b counts reads ∙ ap (after_notes b) spelled
     ∙ ap (λ (xs : List ℤ). Ok (wave xs)) (sym played))
     h
@@ -80,9 +80,9 @@ played_on_canon file notes bytes read =
     played_on (canon b) notes b _ (reads-again b (read_valid file bytes read) (read_fits file bytes))
     ∙ sym (played_on file notes b _ (read, refl))
 
-pub sounds_in_canon : (file notes : List ℕ) → AreBytes file → CanonRendersSame file notes
+pub canon_renders_same : (file notes : List ℕ) → AreBytes file → CanonRendersSame file notes
 unfolding canon_outcome
-sounds_in_canon file notes bytes text h =
+canon_renders_same file notes bytes text h =
     let read = reading_done (fault_of file) (Ok (canon (bank_in file))) text h in
     let same : canon (bank_in file) ≡ text = cc in
     ap (λ (t : List ℕ). play_outcome t notes) (sym same) ∙ played_on_canon file notes bytes read.0
@@ -91,9 +91,9 @@ same_out : (back : Done) (out undo : List ℕ) (r : Result Done RunFault) → r 
     → r ≡ Ok back → back.out ≡ out
 same_out back out undo r e f = cc
 
-pub sounds_again : (file script : List ℕ) → AreBytes file → RestoredRendersSame file script
+pub restored_renders_same : (file script : List ℕ) → AreBytes file → RestoredRendersSame file script
 unfolding outcome
-sounds_again file script bytes done back notes h g = by_lines (script_of script) refl
+restored_renders_same file script bytes done back notes h g = by_lines (script_of script) refl
   where
     read : (fault_of file ≡ None) × (after_script (bank_in file) (script_of script) ≡ Ok done)
     read = reading_done (fault_of file) (after_script (bank_in file) (script_of script)) done h

@@ -19,7 +19,7 @@ use Rattle.bank_edits.proofs.RunLaw.{all_undone}
 use Rattle.edit_script.specs.declared.parsing.Line.{Line}
 use Rattle.edit_script.specs.Script.{script_of}
 use Rattle.edit_script.specs.Printing.{texts_of, numbered, AllFit, LinesFit}
-use Rattle.edit_script.proofs.LineLaws.{printed_spell}
+use Rattle.edit_script.proofs.LineLaws.{printed_is_read}
 use Rattle.edit_script.proofs.FitLaws.{script_fits}
 use Rattle.program_files.specs.declared.run_fault.RunFault.{RunFault}
 use Rattle.sfbank.specs.Outcome.{Done, edits_of, RefusedLine, or_else, first_refused, both_texts, unless_refused}
@@ -100,18 +100,18 @@ run_back b es s h =
     let undone = all_undone b es s h in
     let end : Parts = after_all b es in
     let us : List Edit = undo_list b es in
-    let spelled = printed_spell us (all_fit end us undone.is_accepted) in
+    let parses = printed_is_read us (all_fit end us undone.is_accepted) in
     outcome_canon end (texts_of us) undone.sound
-    ∙ ap (after_script end) spelled
+    ∙ ap (after_script end) parses
     ∙ after_numbered end us undone.is_accepted
     ∙ (λ i. Ok (record { out = canon (undone.restored i); undo = texts_of (undone.redone i) }))
 
 pub restores : (file script : List ℕ) → AreBytes file → IsUndone file script
 unfolding outcome
-restores file script bytes done lines h spelled =
+restores file script bytes done lines h parses =
     let b = bank_in file in
     let read = reading_done (fault_of file) (after_script b (script_of script)) done h in
-    let run = script_done b lines done (ap (after_script b) (sym spelled) ∙ read.1) in
+    let run = script_done b lines done (ap (after_script b) (sym parses) ∙ read.1) in
     let sound : IsSound b = record { valid = read_valid file bytes read.0; fits = read_fits file bytes } in
-    let back = run_back b (edits_of lines) sound (all_accepted b lines (script_fits script lines spelled) run.accepted) in
+    let back = run_back b (edits_of lines) sound (all_accepted b lines (script_fits script lines parses) run.accepted) in
     ap (λ (d : Done). outcome d.out d.undo) run.texts ∙ back

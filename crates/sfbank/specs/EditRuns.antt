@@ -24,7 +24,7 @@ StopsAtLine fault first = ⊥
 pub record AllApplied (first now : Parts) (lines : List Line) (undo : List Edit) : Type 0 where
   pub accepted : first_refused first lines ≡ None
   pub changed : now ≡ after_all first (edits_of lines)
-  pub accepted_back : undo ≡ undo_list first (edits_of lines)
+  pub undo_is : undo ≡ undo_list first (edits_of lines)
 
 -- the first line whose edit is not of these forms
 abbrev pub first_other : Forms → List Line → Option ℕ

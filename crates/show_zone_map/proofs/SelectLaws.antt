@@ -20,7 +20,7 @@ use Rattle.zone_select.specs.ZoneSettings.{ZoneSettings, zone_settings}
 use Rattle.zone_select.specs.Select.{has_preset_numbers}
 use Rattle.zone_select.specs.Pairs.{holds_at, selected_pair, pair_of_preset, pair_of_zone, pair_of_instrument, zone_held}
 use Rattle.zone_select.specs.Remaining.{zones_in, owner_holds}
-use Rattle.zone_select.proofs.PlayedLaws.{pairs_are_chosen}
+use Rattle.zone_select.proofs.PlayedLaws.{pairs_are_selected}
 use Rattle.show_zone_map.specs.declared.rectangle.Area.{Area}
 use Rattle.show_zone_map.specs.declared.rectangle.Rectangle.{Rectangle}
 use Rattle.show_zone_map.specs.Rectangles.{area_of, everything, intersection, has_notes, root_key, rectangle_of, with_notes}
@@ -56,9 +56,9 @@ crossed true true r s = refl
 crossed true false true s = refl
 crossed true false false s = refl
 
-either_way : {X : Type 0} (xs : List X) (t : Bool) → xs ≡ cond t xs xs
-either_way xs true = refl
-either_way xs false = refl
+cond_same : {X : Type 0} (xs : List X) (t : Bool) → xs ≡ cond t xs xs
+cond_same xs true = refl
+cond_same xs false = refl
 
 -- ---- a rectangle
 
@@ -145,14 +145,14 @@ module _ (b : Parts) (outer : Option ℕ) (area : Area) (i l : ℕ) where
       tested : (r : Rectangle) (c : Bool) → test r ≡ t
           → filter test (as_list (cond c (Some r) None)) ≡ cond t (as_list (cond c (Some r) None)) []
       tested r true e = rw e refl
-      tested r false e = either_way [] t
+      tested r false e = cond_same [] t
 
       pub kept_at : filter test (as_list (rectangle_at b outer area i l))
           ≡ cond t (as_list (rectangle_at b outer area i l)) []
       kept_at =
           elim (target_of b (owner.Inst i) l) as
           (λ (o : Option ℕ). filter test (as_list (of_target o)) ≡ cond t (as_list (of_target o)) []) [
-            | None ↦ either_way [] t
+            | None ↦ cond_same [] t
             | Some s ↦ tested (rectangle_of b outer area i l s) (has_notes (intersection area (area_of b (owner.Inst i) l)))
                 (same s (root_key b i l s) (intersection area (area_of b (owner.Inst i) l)))
           ]
@@ -350,10 +350,10 @@ module _ (b : Parts) (n : Numbers) where
             ∙ ap (λ t. holds n x.global z && t) (sym (zone_is x.global l z))
             ∙ sym (tested_then (pair_of_zone b n x.global l) z (holds n x.global z))
 
-    chosen_is : find (has_preset_numbers n) b.presets ≡ slice_get b.presets p
+    selection_is : find (has_preset_numbers n) b.presets ≡ slice_get b.presets p
         → list_any (covers n) (pair_list b p k l) ≡ is_some (selected_pair b n (k, l))
     unfolding selected_pair
-    chosen_is first =
+    selection_is first =
         from (slice_get b.presets p) refl
         ∙ ap (λ (o : Option (ZoneOwner Head)). is_some (option_and_then (pair_of_preset b n (k, l)) o))
         (sym first)
@@ -372,6 +372,6 @@ pairs_selected b n p k l first =
     let same : list_any (λ r. is_of_pair k l r && covers n r) (rectangles b (owner.Preset p))
     ≡ is_some (selected_pair b n (k, l)) =
     any_kept (is_of_pair k l) (covers n) (rectangles b (owner.Preset p))
-    ∙ ap (list_any (covers n)) (pair_kept b p k l) ∙ chosen_is b n p k l first in
-    let chosen = pairs_are_chosen b n (k, l) in
-    (λ c. same ∙ chosen.0 c, λ t. chosen.1 (sym same ∙ t))
+    ∙ ap (list_any (covers n)) (pair_kept b p k l) ∙ selection_is b n p k l first in
+    let is_selected = pairs_are_selected b n (k, l) in
+    (λ c. same ∙ is_selected.0 c, λ t. is_selected.1 (sym same ∙ t))

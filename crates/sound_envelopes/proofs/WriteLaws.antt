@@ -57,10 +57,10 @@ module _ {A : Type 0} (d : A) where
   in_piece xs at n k long h = grind (arith, common_steps)
 
   -- a property of each element before a piece, and of the first ones in the piece
-  pub below_front : (P : ℕ → A → Type 0) (xs new : List A) (at m n : ℕ) → at + m ≤ length xs → length new ≡ m → n ≤ m
+  pub below_prefix : (P : ℕ → A → Type 0) (xs new : List A) (at m n : ℕ) → at + m ≤ length xs → length new ≡ m → n ≤ m
       → ((k : ℕ) → k < at → P k (get_or xs k d)) → ((k : ℕ) → k < n → P (at + k) (get_or new k d))
       → (k : ℕ) → k < at + n → P k (get_or (take at xs ++ (new ++ drop m (drop at xs))) k d)
-  below_front P xs new at m n long len part before here k h =
+  below_prefix P xs new at m n long len part before here k h =
       elim (cases_lt k at) [
         | inl lt ↦
             let o : get_or (take at xs ++ (new ++ drop m (drop at xs))) k d ≡ get_or xs k d =

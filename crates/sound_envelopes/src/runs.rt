@@ -129,7 +129,7 @@ fn fill_gains(
 
 // Applies the envelope and the attenuation to the first points of a stretch from `t` on: those before the first full
 // gain or, if there are none, those at the full gain. Returns how many, and the gain that follows.
-fn apply_envelope_to_front(
+fn apply_envelope_to_prefix(
     v: &VoiceParameters,
     t: u64,
     current: EnvelopeGain,
@@ -198,7 +198,7 @@ pub fn apply_envelope(
     let mut level = current;
     let mut at = 0;
     while at < run.len() {
-        let (n, next) = apply_envelope_to_front(
+        let (n, next) = apply_envelope_to_prefix(
             v,
             t + at as u64,
             level,

@@ -79,8 +79,8 @@ pub far_position : (first t phase_increment : ℕ) → first < 4294967296 → t 
 far_position first t phase_increment h g k =
     let e : t * phase_increment ≤ 8589934592 * 73043661 = mul-le t phase_increment 8589934592 73043661 (omega arith) k in omega arith
 
-pub far_rest : (t l phase_increment : ℕ) → t < 8589934592 → phase_increment ≤ 73043661 → (t - l) * phase_increment < 1152921504606846976
-far_rest t l phase_increment g k =
+pub far_advance : (t l phase_increment : ℕ) → t < 8589934592 → phase_increment ≤ 73043661 → (t - l) * phase_increment < 1152921504606846976
+far_advance t l phase_increment g k =
     let e : (t - l) * phase_increment ≤ 8589934592 * 73043661 = mul-le (t - l) phase_increment 8589934592 73043661 (omega arith) k in
     omega arith
 
@@ -225,8 +225,8 @@ fewer x phase_increment to n h g =
 pub one_less : (n phase_increment : ℕ) → (n - 1) * phase_increment ≤ n * phase_increment
 one_less n phase_increment = mul-le (n - 1) phase_increment n phase_increment (omega arith) (omega arith)
 
-pub short_way : (n phase_increment : ℕ) → n ≤ 1024 → phase_increment ≤ 73043661 → n * phase_increment ≤ 74796708864
-short_way n phase_increment h g = mul-le n phase_increment 1024 73043661 h g
+pub advance_small : (n phase_increment : ℕ) → n ≤ 1024 → phase_increment ≤ 73043661 → n * phase_increment ≤ 74796708864
+advance_small n phase_increment h g = mul-le n phase_increment 1024 73043661 h g
 
 -- an earlier position is not greater
 pub less_far : (x k n phase_increment far : ℕ) → k < n → x + n * phase_increment < far → (k * phase_increment < far) × (x + k * phase_increment < far)

@@ -157,40 +157,40 @@ later_added v age at k was was' sum even e a =
     (subst (λ x. IsAdded was' (snd v (nat_eq (k % 2) 0) x) sum) q a))
 
 -- the frame of a voice that isn't over, and of one that is
-pub heard_is : (v : Voice) (t : ℕ) → is_over v.parameters t ≡ false → frame_or_silence_at v t ≡ unpanned_frame_at v t
+pub frame_if_sounding : (v : Voice) (t : ℕ) → is_over v.parameters t ≡ false → frame_or_silence_at v t ≡ unpanned_frame_at v t
 unfolding frame_or_silence_at
-heard_is v t e = ap (λ b. cond b (pos 0) (unpanned_frame_at v t)) e
+frame_if_sounding v t e = ap (λ b. cond b (pos 0) (unpanned_frame_at v t)) e
 
-pub heard_over : (v : Voice) (s t : ℕ) → is_over v.parameters s ≡ true → s ≤ t → frame_or_silence_at v t ≡ pos 0
+pub silence_if_over : (v : Voice) (s t : ℕ) → is_over v.parameters s ≡ true → s ≤ t → frame_or_silence_at v t ≡ pos 0
 unfolding frame_or_silence_at
-heard_over v s t e l = ap (λ b. cond b (pos 0) (unpanned_frame_at v t)) (over_stays v.parameters s t l e)
+silence_if_over v s t e l = ap (λ b. cond b (pos 0) (unpanned_frame_at v t)) (over_stays v.parameters s t l e)
 
 -- panning a frame gives its side
-heard_side : (v : Voice) (left : Bool) (t : ℕ) → side (frame_or_silence_at v t) (part_of v.parameters left) ≡ snd v left t
+panned_side : (v : Voice) (left : Bool) (t : ℕ) → side (frame_or_silence_at v t) (part_of v.parameters left) ≡ snd v left t
 unfolding frame_or_silence_at snd
-heard_side v left t = by_case (is_over v.parameters t) (unpanned_frame_at v t) (part_of v.parameters left)
+panned_side v left t = by_case (is_over v.parameters t) (unpanned_frame_at v t) (part_of v.parameters left)
   where
     by_case : (over : Bool) (z : ℤ) (part : ℕ) → side (cond over (pos 0) z) part ≡ cond over (pos 0) (side z part)
     by_case true z part = side_of_none part
     by_case false z part = refl
 
-pub heard_added : (v : Voice) (t i left right : ℕ) (z was sum : ℤ)
+pub frame_added : (v : Voice) (t i left right : ℕ) (z was sum : ℤ)
     → IsAdded was (side z (cond (nat_eq i 0) left right)) sum
     → z ≡ frame_or_silence_at v t → left ≡ part_of v.parameters true → right ≡ part_of v.parameters false
     → IsAdded was (snd v (nat_eq i 0) t) sum
-heard_added v t i left right z was sum a e f g =
+frame_added v t i left right z was sum a e f g =
     subst (λ (s : ℤ). IsAdded was s sum)
     (ap (λ (y : ℤ). side y (cond (nat_eq i 0) left right)) e ∙ by_side (nat_eq i 0)) a
   where
     by_side : (b : Bool) → side (frame_or_silence_at v t) (cond b left right) ≡ snd v b t
-    by_side true = ap (side (frame_or_silence_at v t)) f ∙ heard_side v true t
-    by_side false = ap (side (frame_or_silence_at v t)) g ∙ heard_side v false t
+    by_side true = ap (side (frame_or_silence_at v t)) f ∙ panned_side v true t
+    by_side false = ap (side (frame_or_silence_at v t)) g ∙ panned_side v false t
 
 -- both sides of a centred voice get half of each frame
 pub central_side : (v : Voice) (left : Bool) (t : ℕ) → v.parameters.pan ≡ pos 0 → side (frame_or_silence_at v t) 500 ≡ snd v left t
 central_side v left t e =
     ap (side (frame_or_silence_at v t)) (by_side left ∙ sym (ap (λ p. clamped_at_zero (cond left (pos 500 -ℤ p) (pos 500 +ℤ p))) e))
-    ∙ heard_side v left t
+    ∙ panned_side v left t
   where
     by_side : (b : Bool) → 500 ≡ clamped_at_zero (cond b (pos 500 -ℤ pos 0) (pos 500 +ℤ pos 0))
     by_side true = refl

@@ -16,13 +16,13 @@ unfolding voice_of
 of_sample n c p s None e f = absurd cc
 of_sample n c p s (Some t) e f = cc
 
-of_chosen : (b : Parts) (n : Numbers) (k : ℕ) (p : VoiceParameters) (s : Sample) (o : Option SelectedPair)
+of_selected : (b : Parts) (n : Numbers) (k : ℕ) (p : VoiceParameters) (s : Sample) (o : Option SelectedPair)
     → Some k ≡ option_map (λ (c : SelectedPair). c.sample) o
     → Some p ≡ option_map (λ (v : Voice). v.parameters) (option_and_then (selected_pair_voice b n) o)
     → Some s ≡ slice_get b.samples k
     → option_and_then (selected_pair_voice b n) o ≡ Some (record { points = s.points; parameters = p })
-of_chosen b n k p s None h e f = absurd cc
-of_chosen b n k p s (Some c) h e f =
+of_selected b n k p s None h e f = absurd cc
+of_selected b n k p s (Some c) h e f =
     of_sample n c p s (slice_get b.samples c.sample) e
     (let same : k ≡ c.sample = cc in f ∙ ap (slice_get b.samples) same)
 
@@ -31,4 +31,4 @@ pub voice_is : (b : Parts) (n : Numbers) (q : ℕ × ℕ) (k : ℕ) (p : VoicePa
     → Some k ≡ option_map (λ (c : SelectedPair). c.sample) (selected_pair b n q)
     → Some p ≡ option_map (λ (v : Voice). v.parameters) (voice_by b n q) → Some s ≡ slice_get b.samples k
     → voice_by b n q ≡ Some (record { points = s.points; parameters = p })
-voice_is b n q k p s h e f = of_chosen b n k p s (selected_pair b n q) h e f
+voice_is b n q k p s h e f = of_selected b n k p s (selected_pair b n q) h e f

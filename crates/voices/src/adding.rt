@@ -83,7 +83,7 @@ fn share(
     requires long { length run.now ≡ length middle.old }
     requires sums { length sums.old ≡ 2 * length middle.old }
     requires playable { IsPlayable (length points.now) v.now }
-    requires heard { EachIndex run.now (λ k. slice_index_or run.now k (pos 0)
+    requires audible { EachIndex run.now (λ k. slice_index_or run.now k (pos 0)
         ≡ frame_or_silence_at (record { points = points.now; parameters = v.now }) (age + k)) }
     requires room { AllWithin 65534 sums.old }
     requires middle { AllWithin 65534 middle.old }

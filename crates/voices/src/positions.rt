@@ -41,7 +41,7 @@ pub(crate) fn is_looping_at(v: &VoiceParameters, t: u64) -> bool
 }
 
 // The position at frame `t`.
-#[tactic(auto, using(crate::proofs::PositionLaws::far_rest), unfolding(crate::specs::Position::position))]
+#[tactic(auto, using(crate::proofs::PositionLaws::far_advance), unfolding(crate::specs::Position::position))]
 pub(crate) fn position_at(v: &VoiceParameters, t: u64) -> u64
     requires loop_is { v.now.looped ≡ true → v.now.loop_start < v.now.loop_end }
     requires steps { v.now.phase_increment ≤ MOST_PHASE_INCREMENT }
@@ -71,7 +71,7 @@ pub(crate) fn is_over_by(v: &VoiceParameters, t: u64, x: u64) -> bool
 }
 
 // The position after some frames. A loop's end is mostly passed at most once, so that case comes before the division.
-#[tactic(auto, using(crate::proofs::PositionLaws::wrapped_below, crate::proofs::PositionLaws::wrapped_once, crate::proofs::PositionLaws::wrapped_above, crate::proofs::PositionLaws::short_way))]
+#[tactic(auto, using(crate::proofs::PositionLaws::wrapped_below, crate::proofs::PositionLaws::wrapped_once, crate::proofs::PositionLaws::wrapped_above, crate::proofs::PositionLaws::advance_small))]
 pub(crate) fn advanced(v: &VoiceParameters, looping: bool, x: u64, frames: usize) -> u64
     requires loop_is { looping ≡ true → v.now.loop_start < v.now.loop_end }
     requires steps { v.now.phase_increment ≤ MOST_PHASE_INCREMENT }

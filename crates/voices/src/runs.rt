@@ -32,7 +32,7 @@ fn stretch(v: &VoiceParameters, t: u64, x: u64, most: usize) -> usize
     requires young { (t < 2 ^ 33) × (t < v.now.length + v.now.release) }
     requires more { (0 < most) × (most ≤ LONGEST) }
     ensures some { (0 < result) × (result ≤ most) }
-    ensures one_way { IsStretch v.now t result }
+    ensures is_stretch { IsStretch v.now t result }
 {
     let n = frames_ahead(v, t, most as u64);
     if is_looping_at(v, t) {
@@ -72,9 +72,9 @@ fn fill_by_stages<'a>(
     run: &mut [i16],
 )
     requires playable { IsPlayable (length points.now) v.now }
-    requires one_way { IsStretch v.now t (length run.old) }
+    requires is_stretch { IsStretch v.now t (length run.old) }
     requires state { IsVoiceState points.now v.now t state.old }
-    requires heard { state.old.over ≡ false }
+    requires audible { state.old.over ≡ false }
     requires short { length run.old ≤ LONGEST }
     ensures sounds { EachIndex run.new (λ k. slice_index_or run.new k (pos 0)
         ≡ unpanned_frame_at (record { points = points.now; parameters = v.now }) (t + k)) }
@@ -114,14 +114,14 @@ fn side_index(side: Side) -> usize
 }
 
 // Adds each frame whole to the sums of one side.
-fn add_one_side(run: &[i16], heard: Side, sums: &mut [i32])
+fn add_one_side(run: &[i16], audible: Side, sums: &mut [i32])
     requires long { length sums.old ≡ 2 * length run.now }
     requires room { AllWithin 65534 sums.old }
     ensures { EachIndex sums.new (λ i. IsAdded (slice_index_or sums.old i (pos 0))
-        (cond (nat_eq (i % 2) (side_index heard)) (slice_index_or run.now (i / 2) (pos 0)) (pos 0))
+        (cond (nat_eq (i % 2) (side_index audible)) (slice_index_or run.now (i / 2) (pos 0)) (pos 0))
         (slice_index_or sums.new i (pos 0))) }
 {
-    let first = side_index(heard);
+    let first = side_index(audible);
     for k in 0..run.len() {
         sums[2 * k + first] += i32::from(run[k]);
     }
@@ -207,7 +207,7 @@ pub(crate) fn fill_run<'a>(
     requires here { IsVoiceState points.now v.now age state.old }
     requires short { length run.old ≤ LONGEST }
     requires young { age + length run.old < 2 ^ 64 }
-    ensures heard { EachIndex run.new (λ k. slice_index_or run.new k (pos 0)
+    ensures audible { EachIndex run.new (λ k. slice_index_or run.new k (pos 0)
         ≡ frame_or_silence_at (record { points = points.now; parameters = v.now }) (age + k)) }
     ensures there { IsVoiceState points.now v.now (age + length run.old) state.new }
 {

@@ -177,7 +177,7 @@ fn is_near(v: &VoiceParameters, looping: bool, i: usize) -> bool
 
 // Reads the pairs of the first frames of a run from position `x` on, up to the end of the slice or the loop. Returns
 // how many frames were read, and the slice.
-fn fill_front<'a>(
+fn fill_prefix<'a>(
     points: &Points<'a>,
     v: &VoiceParameters,
     looping: bool,
@@ -247,7 +247,7 @@ fn fill_pairs<'a>(
     pairs: &mut [u32],
 ) -> (u64, Slice<'a>)
     requires playable { IsPlayable (length points.now) v.now }
-    requires one_way { IsStretch v.now t (length pairs.old) }
+    requires is_stretch { IsStretch v.now t (length pairs.old) }
     requires here { from ≡ position v.now t }
     requires is_current { IsCurrentSlice points.now current }
     requires short { length pairs.old ≤ LONGEST }
@@ -261,7 +261,7 @@ fn fill_pairs<'a>(
     let mut slice = current;
     let mut at = 0;
     while at < pairs.len() {
-        let (n, next) = fill_front(points, v, looping, slice, x, &mut pairs[at..]);
+        let (n, next) = fill_prefix(points, v, looping, slice, x, &mut pairs[at..]);
         x = advanced(v, looping, x, n);
         slice = next;
         at += n;
@@ -281,7 +281,7 @@ pub(crate) fn fill_points<'a>(
     run: &mut [i16],
 ) -> (u64, Slice<'a>)
     requires playable { IsPlayable (length points.now) v.now }
-    requires one_way { IsStretch v.now t (length run.old) }
+    requires is_stretch { IsStretch v.now t (length run.old) }
     requires here { from ≡ position v.now t }
     requires is_current { IsCurrentSlice points.now current }
     requires short { length run.old ≤ LONGEST }
@@ -291,7 +291,7 @@ pub(crate) fn fill_points<'a>(
     ensures there { result.0 ≡ position v.now (t + length run.old) }
     ensures is_current { IsCurrentSlice points.now result.1 }
 {
-    let behind = fill_pairs(points, v, t, from, current, pairs);
+    let after_run = fill_pairs(points, v, t, from, current, pairs);
     interpolate(pairs, (from % 65536) as u32, v.phase_increment % 65536, run);
-    behind
+    after_run
 }

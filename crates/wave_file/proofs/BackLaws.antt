@@ -25,7 +25,7 @@ use Rattle.wave_file.specs.Wave as wave
 use Rattle.wave_file.specs.Wave.{WAVE, FORMAT, DATA}
 use Rattle.wave_file.specs.SamplerPitch.{pitch, unity_note, pitch_fraction}
 use Rattle.wave_file.specs.SampleWave.{SAMPLER, numbers, mono_format, frame_time, loop_count, sampler_head}
-use Rattle.wave_file.specs.SampleWave.{loop_bytes, held_pitch, sampler, sample_chunks, sample_wave}
+use Rattle.wave_file.specs.SampleWave.{loop_bytes, stored_pitch, sampler, sample_chunks, sample_wave}
 use Rattle.wave_file.proofs.SampleLaws.{length-ids, length-mono_format, length-sampler, length-content}
 use Rattle.wave_file.specs.declared.frames.SamplerLoop.{SamplerLoop}
 use Rattle.wave_file.specs.declared.recording.Layout.TheVariants as layout
@@ -34,7 +34,7 @@ use Rattle.wave_file.specs.declared.recording.Channels.TheVariants.{Mono}
 use Rattle.wave_file.specs.declared.recording.Pitch.{Pitch}
 use Rattle.bank_format.specs.FaultChecks.{first_fault}
 use Rattle.wave_file.specs.Recordings.{layout_in, format_in, channels_in, frame_count, forward_loop, ends_of}
-use Rattle.wave_file.specs.Recordings.{unity_note_in, fraction_in, data_in, pitch_held, is_held, held_in, pitch_of}
+use Rattle.wave_file.specs.Recordings.{unity_note_in, fraction_in, data_in, pitch_of_stored, is_stored, stored_in, pitch_of}
 use Rattle.wave_file.specs.Recordings.{sampler_in}
 use Rattle.wave_file.specs.ReadChecks.{riff_checks, format_checks, frame_checks, data_checks, has_loops, loop_checks}
 use Rattle.wave_file.specs.ReadChecks.{chunk_checks, sampler_checks, content_checks, content_in, window_checks, steps}
@@ -49,36 +49,36 @@ use Rattle.wave_file.specs.declared.fault.WaveFault.TheVariants.{NotWave, Trunca
 abbrev head : ℕ → ℕ → ℕ → ℕ → List ℕ
 head time note fraction loops = numbers (0 ∷ 0 ∷ time ∷ note ∷ fraction ∷ 0 ∷ 0 ∷ loops ∷ 8 ∷ [])
 
-abbrev held : ℕ → ℕ → List ℕ
-held key byte = codes "sfbk" ++ (key ∷ byte ∷ 0 ∷ 0 ∷ [])
+abbrev stored : ℕ → ℕ → List ℕ
+stored key byte = codes "sfbk" ++ (key ∷ byte ∷ 0 ∷ 0 ∷ [])
 
 -- the fields of such a chunk
-record Says (b : List ℕ) (note fraction : ℕ) (inner : List ℕ) (found : Option SamplerLoop) : Type 0 where
+record SamplerFields (b : List ℕ) (note fraction : ℕ) (inner : List ℕ) (found : Option SamplerLoop) : Type 0 where
   whole : has_loops b ≡ true
   bytes : data_in b ≡ inner
   note_is : unity_note_in b ≡ note
   fraction_is : fraction_in b ≡ fraction
   found_is : forward_loop b ≡ found
 
-says_none : (time note fraction key byte : ℕ) → note < 2 ^ 32 → fraction < 2 ^ 32
-    → Says (head time note fraction 0 ++ ([] ++ held key byte)) note fraction (held key byte) None
-says_none time note fraction key byte n f = record {
+fields_without_loop : (time note fraction key byte : ℕ) → note < 2 ^ 32 → fraction < 2 ^ 32
+    → SamplerFields (head time note fraction 0 ++ ([] ++ stored key byte)) note fraction (stored key byte) None
+fields_without_loop time note fraction key byte n f = record {
   whole = refl;
   bytes = refl;
-  note_is = little_number-reads_back 4 note (drop 16 (head time note fraction 0 ++ ([] ++ held key byte))) n;
-  fraction_is = little_number-reads_back 4 fraction (drop 20 (head time note fraction 0 ++ ([] ++ held key byte))) f;
+  note_is = little_number-reads_back 4 note (drop 16 (head time note fraction 0 ++ ([] ++ stored key byte))) n;
+  fraction_is = little_number-reads_back 4 fraction (drop 20 (head time note fraction 0 ++ ([] ++ stored key byte))) f;
   found_is = refl;
 }
 
 abbrev one_loop : ℕ → ℕ → List ℕ
 one_loop first last = numbers (0 ∷ 0 ∷ first ∷ last ∷ 0 ∷ 0 ∷ [])
 
-says_one : (time note fraction key byte first last : ℕ) → note < 2 ^ 32 → fraction < 2 ^ 32 → first < 2 ^ 32
+fields_with_loop : (time note fraction key byte first last : ℕ) → note < 2 ^ 32 → fraction < 2 ^ 32 → first < 2 ^ 32
     → last < 2 ^ 32
-    → Says (head time note fraction 1 ++ (one_loop first last ++ held key byte)) note fraction (held key byte)
+    → SamplerFields (head time note fraction 1 ++ (one_loop first last ++ stored key byte)) note fraction (stored key byte)
     (Some (record { kind = 0; first = first; last = last }))
-says_one time note fraction key byte first last n f a l =
-    let b = head time note fraction 1 ++ (one_loop first last ++ held key byte) in
+fields_with_loop time note fraction key byte first last n f a l =
+    let b = head time note fraction 1 ++ (one_loop first last ++ stored key byte) in
     let first_is = little_number-reads_back 4 first (drop 48 b) a in
     let last_is = little_number-reads_back 4 last (drop 52 b) l in
     record {
@@ -90,19 +90,19 @@ says_one time note fraction key byte first last n f a l =
     }
 
 -- the key and the correction are stored
-held_back : (b : List ℕ) (key : ℕ) (c : ℤ) → FitsSigned w8 c → data_in b ≡ held_pitch key c
+stored_back : (b : List ℕ) (key : ℕ) (c : ℤ) → FitsSigned w8 c → data_in b ≡ stored_pitch key c
     → unity_note_in b ≡ unity_note key c → fraction_in b ≡ pitch_fraction key c
-    → held_in b ≡ Some (record { key = key; correction = c })
-unfolding held_pitch
-held_back b key c fits e n f =
-    let p : pitch_held (data_in b) ≡ record { key = key; correction = c } =
-    ap pitch_held e ∙ (λ i. record { key = key; correction = to_z-of_z w8 c fits i }) in
+    → stored_in b ≡ Some (record { key = key; correction = c })
+unfolding stored_pitch
+stored_back b key c fits e n f =
+    let p : pitch_of_stored (data_in b) ≡ record { key = key; correction = c } =
+    ap pitch_of_stored e ∙ (λ i. record { key = key; correction = to_z-of_z w8 c fits i }) in
     let long : eqb (length (data_in b)) 8 ≡ true = ap (λ (x : List ℕ). eqb (length x) 8) e in
-    let t1 : bytes_eq (data_in b) (held_pitch key c) ≡ true = same_bytes _ _ e in
+    let t1 : bytes_eq (data_in b) (stored_pitch key c) ≡ true = same_bytes _ _ e in
     let t2 : eqb (unity_note_in b) (unity_note key c) ≡ true = eq-eqb _ _ n in
     let t3 : eqb (fraction_in b) (pitch_fraction key c) ≡ true = eq-eqb _ _ f in
-    let own : is_held b (record { key = key; correction = c }) ≡ true = rw (t1, t2, t3) refl in
-    let all : is_held b (pitch_held (data_in b)) ≡ true = ap (is_held b) p ∙ own in
+    let own : is_stored b (record { key = key; correction = c }) ≡ true = rw (t1, t2, t3) refl in
+    let all : is_stored b (pitch_of_stored (data_in b)) ≡ true = ap (is_stored b) p ∙ own in
     (λ i. cond (long i && all i) (Some (p i)) None)
 
 pitch_small : (key : ℕ) (c : ℤ) → pitch key c ≤ 12799
@@ -110,7 +110,7 @@ pitch_small key (pos up) = omega arith
 pitch_small key (negsuc down) = omega arith
 
 -- the fields of the `smpl` chunk of a sample
-record SaysSample (b : List ℕ) (n key : ℕ) (c : ℤ) (looped : Option (ℕ × ℕ)) : Type 0 where
+record SamplerOfSample (b : List ℕ) (n key : ℕ) (c : ℤ) (looped : Option (ℕ × ℕ)) : Type 0 where
   holds : first_fault (chunk_checks n b) ≡ None
   is : sampler_in (Some b) ≡ record { pitch = record { key = key; correction = c }; looped = looped }
 
@@ -119,15 +119,15 @@ record Found (n : ℕ) (looped : Option (ℕ × ℕ)) (found : Option SamplerLoo
   inside : first_fault (loop_checks n found) ≡ None
   ends : option_map ends_of found ≡ looped
 
-says_sample : (b : List ℕ) (n key : ℕ) (c : ℤ) (looped : Option (ℕ × ℕ)) (found : Option SamplerLoop) → FitsSigned w8 c
-    → Says b (unity_note key c) (pitch_fraction key c) (held_pitch key c) found → Found n looped found
-    → SaysSample b n key c looped
+sampler_of_sample : (b : List ℕ) (n key : ℕ) (c : ℤ) (looped : Option (ℕ × ℕ)) (found : Option SamplerLoop) → FitsSigned w8 c
+    → SamplerFields b (unity_note key c) (pitch_fraction key c) (stored_pitch key c) found → Found n looped found
+    → SamplerOfSample b n key c looped
 unfolding chunk_checks
-says_sample b n key c looped found fits s o =
+sampler_of_sample b n key c looped found fits s o =
     let most = pitch_small key c in
     let low : leb (unity_note_in b) 127 ≡ true = le-leb _ _ (let e = s.note_is in omega (arith, e, most)) in
-    let h = held_back b key c fits s.bytes s.note_is s.fraction_is in
-    let pitch_is : pitch_of (held_in b) b ≡ record { key = key; correction = c } =
+    let h = stored_back b key c fits s.bytes s.note_is s.fraction_is in
+    let pitch_is : pitch_of (stored_in b) b ≡ record { key = key; correction = c } =
     ap (λ (x : Option Pitch). pitch_of x b) h in
     let loop_is : option_map ends_of (forward_loop b) ≡ looped =
     ap (λ (x : Option SamplerLoop). option_map ends_of x) s.found_is ∙ o.ends in
@@ -150,16 +150,16 @@ a_loop n first end some in_it most =
 abbrev sampler_of : ℕ → ℕ → ℤ → Option (ℕ × ℕ) → List ℕ
 sampler_of time key c looped =
     head time (unity_note key c) (pitch_fraction key c) (loop_count looped)
-    ++ (loop_bytes looped ++ held_pitch key c)
+    ++ (loop_bytes looped ++ stored_pitch key c)
 
 sampler_back : (n time key : ℕ) (c : ℤ) (looped : Option (ℕ × ℕ)) → FitsSigned w8 c → FitsLoop looped
     → IsLoop n looped → n ≤ POINTS
-    → SaysSample (sampler_of time key c looped) n key c looped
-unfolding loop_bytes held_pitch
+    → SamplerOfSample (sampler_of time key c looped) n key c looped
+unfolding loop_bytes stored_pitch
 sampler_back n time key c None fits f l most =
     let p = pitch_small key c in
-    says_sample (sampler_of time key c None) n key c None None fits
-    (says_none time (unity_note key c) (pitch_fraction key c) key (cast_unsigned w8 c) (omega (arith, p))
+    sampler_of_sample (sampler_of time key c None) n key c None None fits
+    (fields_without_loop time (unity_note key c) (pitch_fraction key c) key (cast_unsigned w8 c) (omega (arith, p))
     (omega arith))
     (no_loop n)
 sampler_back n time key c (Some looped) fits f l most =
@@ -167,9 +167,9 @@ sampler_back n time key c (Some looped) fits f l most =
     let some = l.0 in
     let end = f.1 in
     let start = f.0 in
-    says_sample (sampler_of time key c (Some looped)) n key c (Some looped)
+    sampler_of_sample (sampler_of time key c (Some looped)) n key c (Some looped)
     (Some (record { kind = 0; first = looped.0; last = looped.1 - 1 })) fits
-    (says_one time (unity_note key c) (pitch_fraction key c) key (cast_unsigned w8 c) looped.0 (looped.1 - 1)
+    (fields_with_loop time (unity_note key c) (pitch_fraction key c) key (cast_unsigned w8 c) looped.0 (looped.1 - 1)
     (omega (arith, p)) (omega arith) start (omega (arith, end)))
     (a_loop n looped.0 looped.1 some l.1 most)
 
@@ -243,9 +243,9 @@ module _ (s : Sample) (f : FitsSample s) (l : IsLoop (length s.points) s.looped)
   unfolding sample_chunks FORMAT SAMPLER
   sampler_found = refl
 
-  says : SaysSample (sampler s) (length s.points) s.key s.correction s.looped
+  sampler_is_sample : SamplerOfSample (sampler s) (length s.points) s.key s.correction s.looped
   unfolding sampler_head
-  says = sampler_back (length s.points) (frame_time s.rate) s.key s.correction s.looped f.correction f.looped l most
+  sampler_is_sample = sampler_back (length s.points) (frame_time s.rate) s.key s.correction s.looped f.correction f.looped l most
 
   channels_back : channels_in layout.Mono points ≡ Mono s.points
   channels_back = ap (λ (x : List ℕ). Mono x) (words_of_bytes s.points)
@@ -276,7 +276,7 @@ module _ (s : Sample) (f : FitsSample s) (l : IsLoop (length s.points) s.looped)
       (then_none (data_checks (layout_in (body_in FORMAT (sample_chunks s)))
       (first_body DATA (sample_chunks s))) _ ((λ i. first_fault (data_checks (layout_is i) (data_found i))) ∙
       data_holds)
-      ((λ i. first_fault (sampler_checks (counted i) (sampler_found i))) ∙ says.holds))
+      ((λ i. first_fault (sampler_checks (counted i) (sampler_found i))) ∙ sampler_is_sample.holds))
 
   content_is : content_in (sample_chunks s) ≡ recorded s
   unfolding content_in
@@ -285,7 +285,7 @@ module _ (s : Sample) (f : FitsSample s) (l : IsLoop (length s.points) s.looped)
       ap (λ (x : List ℕ). (format_in x).rate) format_found
       ∙ ap (λ (x : Format). x.rate) (format_back s.rate f.rate) in
       let sampler_is : sampler_in (first_body SAMPLER (sample_chunks s)) ≡ (recorded s).sampler =
-      ap sampler_in sampler_found ∙ says.is in
+      ap sampler_in sampler_found ∙ sampler_is_sample.is in
       λ i. record { channels = channels_are i; rate = rate i; sampler = sampler_is i }
 
   -- ---- all together

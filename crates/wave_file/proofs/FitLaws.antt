@@ -44,14 +44,14 @@ use Rattle.wave_file.specs.declared.recording.Sampler.{Sampler}
 use Rattle.wave_file.specs.declared.recording.Recording.{Recording}
 use Rattle.bank_format.specs.FaultChecks.{first_fault}
 use Rattle.wave_file.specs.Recordings.{layout_in, frame_of, channels_in, forward_loop, ends_of, unity_note_in}
-use Rattle.wave_file.specs.Recordings.{fraction_in, data_in, pitch_held, is_held, held_in, cents_in, nearest}
+use Rattle.wave_file.specs.Recordings.{fraction_in, data_in, pitch_of_stored, is_stored, stored_in, cents_in, nearest}
 use Rattle.wave_file.specs.Recordings.{pitch_of, sampler_in}
 use Rattle.wave_file.specs.ReadChecks.{riff_checks, format_checks, data_checks, has_loops, is_inside, loop_checks}
 use Rattle.wave_file.specs.ReadChecks.{chunk_checks, sampler_checks, content_checks, content_in, window_checks, steps}
 use Rattle.wave_file.specs.ReadChecks.{unless_broken, recording_in}
 use Rattle.wave_file.specs.Imports.{left_points, right_points, mono_name, side_name, sample_of, add_edit}
 use Rattle.wave_file.specs.Imports.{pair_edits, channel_edits, import_edits}
-use Rattle.wave_file.proofs.ImportLaws.{cut_text, side_named}
+use Rattle.wave_file.proofs.ImportLaws.{truncated_text, side_named}
 
 pub record FitsPitch (p : Pitch) : Type 0 where
   pub key : p.key < 2 ^ 8
@@ -118,18 +118,18 @@ nearest_fits note cents n c = either (leb cents 50 || eqb note 127)
     either true = record { key = omega (arith, n); correction = below cents c }
     either false = record { key = omega (arith, n); correction = record { sfits = omega arith } }
 
-held_fits : (b : Bool) (p : Pitch) (s : List ℕ) → FitsPitch p → FitsPitch (nearest (unity_note_in s) (cents_in s))
+stored_fits : (b : Bool) (p : Pitch) (s : List ℕ) → FitsPitch p → FitsPitch (nearest (unity_note_in s) (cents_in s))
     → FitsPitch (pitch_of (cond b (Some p) None) s)
-held_fits true p s h k = h
-held_fits false p s h k = k
+stored_fits true p s h k = h
+stored_fits false p s h k = k
 
-pitch_fits : (s : List ℕ) → AreBytes s → unity_note_in s ≤ 127 → FitsPitch (pitch_of (held_in s) s)
+pitch_fits : (s : List ℕ) → AreBytes s → unity_note_in s ≤ 127 → FitsPitch (pitch_of (stored_in s) s)
 pitch_fits s b note =
     let inner : AreBytes (data_in s) = take_bytes _ _ (drop_bytes _ s b) in
     let fraction : fraction_in s < 2 ^ 32 = field_at-lt 16 4 s b in
-    let p : FitsPitch (pitch_held (data_in s)) =
+    let p : FitsPitch (pitch_of_stored (data_in s)) =
     record { key = byte_lt (data_in s) inner 4; correction = read_sfits w8 (get_or (data_in s) 5 0) } in
-    held_fits (eqb (length (data_in s)) 8 && is_held s (pitch_held (data_in s))) (pitch_held (data_in s)) s p
+    stored_fits (eqb (length (data_in s)) 8 && is_stored s (pitch_of_stored (data_in s))) (pitch_of_stored (data_in s)) s p
     (nearest_fits (unity_note_in s) (cents_in s) note (omega (arith, fraction)))
 
 -- ---- the loop
@@ -223,13 +223,13 @@ pair_fits n left right most l r = by_test (ltb n SAMPLES) refl
 
 name_fits : (name side : List ℕ) → AreBytes name → length side ≡ 2 → AllByRecursion IsTextByte side
     → IsName (side_name name side)
-name_fits name side b two s = side_named (before_zero (take 18 name)) side (cut_text 18 name b) two s
+name_fits name side b two s = side_named (before_zero (take 18 name)) side (truncated_text 18 name b) two s
 
 channels_edits_fit : (n : ℕ) (name : List ℕ) (rate : ℕ) (sampler : Sampler) (ch : Channels) → n ≤ SAMPLES
     → AreBytes name → rate < 2 ^ 32 → FitsSampler sampler → FitChannels ch
     → AllByRecursion FitsEdit (channel_edits n name rate sampler ch)
 channels_edits_fit n name rate sampler (Mono points) most b r s p = (
-  (omega (arith, most), sample_fits rate sampler (mono_name name) points kind.Mono r s (cut_text 20 name b) p tt),
+  (omega (arith, most), sample_fits rate sampler (mono_name name) points kind.Mono r s (truncated_text 20 name b) p tt),
   tt,
 )
 channels_edits_fit n name rate sampler (Stereo frames) most b r s p =

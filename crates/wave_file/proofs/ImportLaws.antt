@@ -56,8 +56,8 @@ name_ok text (Err TooLong) named long none =
 name_ok text (Err ZeroByte) named long none = let z = (none.0 refl).1 in absurd (no_zero_at text z.0 named.1 z.1 z.2)
 
 -- the bytes before the first zero byte among the first n
-pub cut_text : (n : ℕ) (bytes : List ℕ) → AreBytes bytes → IsText n (before_zero (take n bytes))
-cut_text n bytes b =
+pub truncated_text : (n : ℕ) (bytes : List ℕ) → AreBytes bytes → IsText n (before_zero (take n bytes))
+truncated_text n bytes b =
     let l = length-before_zero (take n bytes) in
     let t = length-take n bytes in
     (omega (arith, l, t), before_zero-bytes (take n bytes) (in_turn (take n bytes) (take_bytes n bytes b)))
@@ -70,7 +70,7 @@ side_named own side o two s =
     (omega (arith, l, short, two), all-append IsTextByte own side o.1 s)
 
 pub own_short : (name own : List ℕ) → AreBytes name → own ≡ before_zero (take 18 name) → IsText 18 own
-own_short name own b e = rw e (cut_text 18 name b)
+own_short name own b e = rw e (truncated_text 18 name b)
 
 -- ---- the edits
 

@@ -19,8 +19,8 @@ use Rattle.wave_file.specs.ReadChecks.{riff_checks, format_checks, data_checks, 
 use Rattle.wave_file.specs.ReadChecks.{window_checks, content_in, steps, unless_broken, recording_in}
 use Rattle.bank_format.proofs.CheckLaws.{first_fault-append, first_fault-front, passes_by, passes_front, passes_after}
 
-abbrev said : List ℕ → Recording
-said w = content_in (chunks_in (walk w))
+abbrev window_recording : List ℕ → Recording
+window_recording w = content_in (chunks_in (walk w))
 
 -- the RIFF chunk has a fault
 pub riff_fails : (file : List ℕ) (r : Result Recording WaveFault) (f : WaveFault) → IsErrAnd r (λ e. e ≡ f)
@@ -31,26 +31,26 @@ riff_fails file (Ok x) f is h = absurd is
 riff_fails file (Err e) f is h =
     ap (λ (x : WaveFault). Err x) is
     ∙ sym
-    (ap (λ (o : Option WaveFault). unless_broken o (said (window file)))
+    (ap (λ (o : Option WaveFault). unless_broken o (window_recording (window file)))
     (first_fault-front (riff_checks file) (window_checks (window file)) f h))
 
 -- the result of reading the window is that of the file
-pub window_says : (file w : List ℕ) (r : Result Recording WaveFault) → first_fault (riff_checks file) ≡ None
+pub window_result : (file w : List ℕ) (r : Result Recording WaveFault) → first_fault (riff_checks file) ≡ None
     → w ≡ window file
-    → Passes (λ (x : Recording). x) r (window_checks w) (said w) → r ≡ recording_in file
+    → Passes (λ (x : Recording). x) r (window_checks w) (window_recording w) → r ≡ recording_in file
 unfolding recording_in steps
-window_says file w (Ok x) h e p =
+window_result file w (Ok x) h e p =
     let whole : first_fault (steps file) ≡ None =
     first_fault-append (riff_checks file) (window_checks (window file)) h
     ∙ ap (λ (v : List ℕ). first_fault (window_checks v)) (sym e) ∙ p.0 in
     ap (λ (y : Recording). Ok y) p.1
-    ∙ ap (λ (v : List ℕ). Ok (said v)) e
-    ∙ sym (ap (λ (o : Option WaveFault). unless_broken o (said (window file))) whole)
-window_says file w (Err f) h e p =
+    ∙ ap (λ (v : List ℕ). Ok (window_recording v)) e
+    ∙ sym (ap (λ (o : Option WaveFault). unless_broken o (window_recording (window file))) whole)
+window_result file w (Err f) h e p =
     let whole : first_fault (steps file) ≡ Some f =
     first_fault-append (riff_checks file) (window_checks (window file)) h
     ∙ ap (λ (v : List ℕ). first_fault (window_checks v)) (sym e) ∙ p in
-    sym (ap (λ (o : Option WaveFault). unless_broken o (said (window file))) whole)
+    sym (ap (λ (o : Option WaveFault). unless_broken o (window_recording (window file))) whole)
 
 -- ---- the chunks
 
@@ -150,6 +150,6 @@ content_reads chunks format found n o sampler has there count same h is =
     let channels = there.is ∙ ap (λ (x : Format). channels_in x.layout (body_in DATA chunks)) has.is in
     let chunk = is ∙ ap sampler_in same in
     let read : Recording = record { channels = found; rate = format.rate; sampler = sampler } in
-    let is_said : read ≡ content_in chunks = λ i. record { channels = channels i; rate = rate i; sampler = chunk i } in
+    let content_same : read ≡ content_in chunks = λ i. record { channels = channels i; rate = rate i; sampler = chunk i } in
     sampler_left chunks (Ok read) format found has there
-    ((λ i. first_fault (sampler_checks (sym k i) (sym same i))) ∙ h, is_said)
+    ((λ i. first_fault (sampler_checks (sym k i) (sym same i))) ∙ h, content_same)

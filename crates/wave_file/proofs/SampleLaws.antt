@@ -10,7 +10,7 @@ use Rattle.sample_view.specs.Words.{word_bytes}
 use Rattle.sample_view.proofs.WordLaws.{length-word_bytes}
 use Rattle.bank_parts.specs.declared.parts.Sample.{Sample}
 use Rattle.wave_file.specs.Wave.{RIFF, WAVE, FORMAT, DATA}
-use Rattle.wave_file.specs.SampleWave.{SAMPLER, mono_format, sampler_head, loop_bytes, loop_count, held_pitch}
+use Rattle.wave_file.specs.SampleWave.{SAMPLER, mono_format, sampler_head, loop_bytes, loop_count, stored_pitch}
 use Rattle.wave_file.specs.SampleWave.{sampler, sample_chunks, sample_wave}
 
 -- a body of even size needs no pad byte
@@ -35,14 +35,14 @@ unfolding loop_bytes
 length-loop_bytes None = refl
 length-loop_bytes (Some looped) = refl
 
-length-around : (s : Sample) → (length (sampler_head s) ≡ 36) × (length (held_pitch s.key s.correction) ≡ 8)
-unfolding sampler_head held_pitch
+length-around : (s : Sample) → (length (sampler_head s) ≡ 36) × (length (stored_pitch s.key s.correction) ≡ 8)
+unfolding sampler_head stored_pitch
 length-around s = (refl, refl)
 
 pub length-sampler : (s : Sample) → length (sampler s) ≡ 44 + 24 * loop_count s.looped
 length-sampler s =
-    let a = length-append (sampler_head s) (loop_bytes s.looped ++ held_pitch s.key s.correction) in
-    let b = length-append (loop_bytes s.looped) (held_pitch s.key s.correction) in
+    let a = length-append (sampler_head s) (loop_bytes s.looped ++ stored_pitch s.key s.correction) in
+    let b = length-append (loop_bytes s.looped) (stored_pitch s.key s.correction) in
     let l = length-loop_bytes s.looped in
     let around = length-around s in
     omega (arith, a, b, l, around.0, around.1)

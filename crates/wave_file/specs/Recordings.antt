@@ -7,7 +7,7 @@ use Rattle.sf_base.specs.Fields.{field_at}
 use Rattle.sample_view.specs.Words.{words}
 use Rattle.hydra_records.specs.Records.{records}
 use Rattle.wave_file.specs.SamplerPitch.{unity_note, pitch_fraction}
-use Rattle.wave_file.specs.SampleWave.{held_pitch}
+use Rattle.wave_file.specs.SampleWave.{stored_pitch}
 use Rattle.wave_file.specs.declared.frames.Frame.{Frame}
 use Rattle.wave_file.specs.declared.frames.SamplerLoop.{SamplerLoop}
 use Rattle.wave_file.specs.declared.recording.Layout.{Layout}
@@ -95,18 +95,18 @@ abbrev pub data_in : List ℕ → List ℕ
 data_in s = take (field_at 32 4 s) (drop (36 + 24 * loop_count_in s) s)
 
 -- the key and the correction in sampler data that sfbank wrote
-abbrev pub pitch_held : List ℕ → Pitch
-pitch_held bytes = record { key = slice_index bytes 4; correction = cast_signed w8 (slice_index bytes 5) }
+abbrev pub pitch_of_stored : List ℕ → Pitch
+pitch_of_stored bytes = record { key = slice_index bytes 4; correction = cast_signed w8 (slice_index bytes 5) }
 
 -- the chunk is what sfbank writes for a sample of this key and correction
-abbrev pub is_held : List ℕ → Pitch → Bool
-is_held s p =
-    bytes_eq (data_in s) (held_pitch p.key p.correction)
+abbrev pub is_stored : List ℕ → Pitch → Bool
+is_stored s p =
+    bytes_eq (data_in s) (stored_pitch p.key p.correction)
     && (unity_note_in s == unity_note p.key p.correction && fraction_in s == pitch_fraction p.key p.correction)
 
-abbrev pub held_in : List ℕ → Option Pitch
-held_in s =
-    if length (data_in s) == 8 && is_held s (pitch_held (data_in s)) then Some (pitch_held (data_in s)) else None
+abbrev pub stored_in : List ℕ → Option Pitch
+stored_in s =
+    if length (data_in s) == 8 && is_stored s (pitch_of_stored (data_in s)) then Some (pitch_of_stored (data_in s)) else None
 
 -- the pitch fraction in cents, rounded to nearest
 abbrev pub cents_in : List ℕ → ℕ
@@ -124,7 +124,7 @@ pitch_of (Some p) s = p
 pitch_of None s = nearest (unity_note_in s) (cents_in s)
 
 abbrev pub pitch_in : List ℕ → Pitch
-pitch_in s = pitch_of (held_in s) s
+pitch_in s = pitch_of (stored_in s) s
 
 -- ---- the `smpl` chunk, if there is one
 

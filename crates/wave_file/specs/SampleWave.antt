@@ -46,11 +46,11 @@ loop_bytes None = []
 loop_bytes (Some looped) = numbers (0 ∷ 0 ∷ looped.0 ∷ (looped.1 - 1) ∷ 0 ∷ 0 ∷ [])
 
 -- The sampler data: key and correction of the sample, which its pitch does not determine.
-unfoldable pub held_pitch : ℕ → ℤ → List ℕ
-held_pitch key correction = codes "sfbk" ++ (key ∷ cast_unsigned w8 correction ∷ 0 ∷ 0 ∷ [])
+unfoldable pub stored_pitch : ℕ → ℤ → List ℕ
+stored_pitch key correction = codes "sfbk" ++ (key ∷ cast_unsigned w8 correction ∷ 0 ∷ 0 ∷ [])
 
 abbrev pub sampler : Sample → List ℕ
-sampler s = sampler_head s ++ (loop_bytes s.looped ++ held_pitch s.key s.correction)
+sampler s = sampler_head s ++ (loop_bytes s.looped ++ stored_pitch s.key s.correction)
 
 abbrev pub made : List ℕ → List ℕ → Chunk
 made id body = record { id = id; body = body }

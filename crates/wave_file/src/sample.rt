@@ -6,7 +6,7 @@ ghost use Rattle.riff_chunks.specs.Encoding.{chunk};
 ghost use Rattle.sample_view.specs.Words.{word_bytes};
 ghost use Rattle.sf_base.specs.declared.limits.TheConstants.{POINTS};
 ghost use Rattle.wave_file.specs.Wave.{FORMAT, DATA};
-ghost use Rattle.wave_file.specs.SampleWave.{SAMPLER, numbers, mono_format, frame_time, loop_count, sampler_head, loop_bytes, held_pitch, sampler, sample_wave};
+ghost use Rattle.wave_file.specs.SampleWave.{SAMPLER, numbers, mono_format, frame_time, loop_count, sampler_head, loop_bytes, stored_pitch, sampler, sample_wave};
 
 use crate::sampler_pitch::{pitch_fraction, unity_note};
 use bank_parts::Sample;
@@ -66,7 +66,7 @@ fn put_sampler<W: Write>(sample: &Sample<'_>, output: &mut Output<'_, W>)
     output.head(*b"smpl", sampler_size(sample));
     put_sampler_head(sample, output);
     put_loop(sample.looped, output);
-    put_held_pitch(sample, output);
+    put_stored_pitch(sample, output);
 }
 
 // The size of the body of the `smpl` chunk, in bytes.
@@ -117,9 +117,9 @@ fn put_loop<W: Write>(looped: Option<(u32, u32)>, output: &mut Output<'_, W>)
 }
 
 // Puts the sampler data: the key and the correction.
-#[tactic(auto, unfolding(crate::specs::SampleWave::held_pitch), using(base_outputs::proofs::OutputLaws::puts_then))]
-fn put_held_pitch<W: Write>(sample: &Sample<'_>, output: &mut Output<'_, W>)
-    ensures { Puts W.contents output.old output.new (held_pitch sample.now.key sample.now.correction) }
+#[tactic(auto, unfolding(crate::specs::SampleWave::stored_pitch), using(base_outputs::proofs::OutputLaws::puts_then))]
+fn put_stored_pitch<W: Write>(sample: &Sample<'_>, output: &mut Output<'_, W>)
+    ensures { Puts W.contents output.old output.new (stored_pitch sample.now.key sample.now.correction) }
 {
     output.put(b"sfbk");
     output.put(&[sample.key, sample.correction.cast_unsigned(), 0, 0]);

@@ -2,7 +2,7 @@
 ghost use Rattle.std.specs.Prelude.{◌≡◌, ◌+◌, ◌*◌, ◌≤◌, length};
 ghost use Rattle.std.specs.Option.{option_copied, option_map};
 ghost use Rattle.bank_format.specs.FaultChecks.{Passes};
-ghost use Rattle.wave_file.specs.Recordings.{loop_count_in, forward_loop, ends_of, unity_note_in, data_in, is_held, held_in, cents_in, nearest, pitch_in, sampler_in};
+ghost use Rattle.wave_file.specs.Recordings.{loop_count_in, forward_loop, ends_of, unity_note_in, data_in, is_stored, stored_in, cents_in, nearest, pitch_in, sampler_in};
 ghost use Rattle.wave_file.specs.ReadChecks.{has_loops, loop_checks, chunk_checks, sampler_checks};
 
 use crate::fault::WaveFault;
@@ -19,7 +19,7 @@ const HEAD_SIZE: usize = 36;
 const LOOP_SIZE: usize = 24;
 
 /// The size of the sampler data in which sfbank stores a sample's key and correction, in bytes.
-const HELD_SIZE: usize = 8;
+const STORED_SIZE: usize = 8;
 
 /// The type of a forward loop.
 const FORWARDS: u32 = 0;
@@ -110,26 +110,26 @@ fn pitch_in(chunk: &[u8]) -> Pitch
     requires note { unity_note_in chunk.now ≤ 127 }
     ensures { result ≡ pitch_in chunk.now }
 {
-    match held_in(chunk) {
+    match stored_in(chunk) {
         Some(pitch) => pitch,
         None => nearest(u32_at(chunk, 12) as u8, cents_in(chunk)),
     }
 }
 
 // The key and the correction in the sampler data, if sfbank wrote the chunk.
-fn held_in(chunk: &[u8]) -> Option<Pitch>
+fn stored_in(chunk: &[u8]) -> Option<Pitch>
     requires { 36 ≤ length chunk.now }
-    ensures { result ≡ held_in chunk.now }
+    ensures { result ≡ stored_in chunk.now }
 {
     let bytes = data_in(chunk);
-    if bytes.len() != HELD_SIZE {
+    if bytes.len() != STORED_SIZE {
         return None;
     }
     let pitch = Pitch {
         key: bytes[4],
         correction: bytes[5].cast_signed(),
     };
-    if is_held(chunk, pitch) {
+    if is_stored(chunk, pitch) {
         Some(pitch)
     } else {
         None
@@ -146,12 +146,12 @@ fn data_in(chunk: &[u8]) -> &[u8]
 }
 
 // Whether the chunk is what sfbank writes for a sample of this pitch.
-#[tactic(auto, unfolding(crate::specs::SampleWave::held_pitch))]
-fn is_held(chunk: &[u8], pitch: Pitch) -> bool
+#[tactic(auto, unfolding(crate::specs::SampleWave::stored_pitch))]
+fn is_stored(chunk: &[u8], pitch: Pitch) -> bool
     requires { 36 ≤ length chunk.now }
-    ensures { result ≡ is_held chunk.now pitch }
+    ensures { result ≡ is_stored chunk.now pitch }
 {
-    let held = [
+    let stored = [
         b's',
         b'f',
         b'b',
@@ -161,7 +161,7 @@ fn is_held(chunk: &[u8], pitch: Pitch) -> bool
         0,
         0,
     ];
-    data_in(chunk) == held.as_slice()
+    data_in(chunk) == stored.as_slice()
         && u32_at(chunk, 12) == unity_note(pitch.key, pitch.correction)
         && u32_at(chunk, 16) == pitch_fraction(pitch.key, pitch.correction)
 }

@@ -32,13 +32,13 @@ pub halved_second : (t l u v : Bool) → Halved t l u → Halved (v && t) (v && 
 halved_second t l u v (in_lower e f) = in_lower (ap (λ b. v && b) e) (ap (λ b. v && b) f ∙ and_false v)
 halved_second t l u v (in_upper e f) = in_upper (ap (λ b. v && b) e ∙ and_false v) (ap (λ b. v && b) f)
 
-pub chosen : {X : Type 0} (t l u : Bool) (xs : List X) → Halved t l u → cond t xs [] ≡ cond l xs [] ++ cond u xs []
-chosen t l u xs (in_lower e f) = (sym (append-nil (cond t xs [])) ∙ (λ i. cond (sym e i) xs [] ++ cond (sym f i) xs []))
-chosen t l u xs (in_upper e f) = λ i. cond (sym e i) xs [] ++ cond (sym f i) xs []
+pub cond_halved : {X : Type 0} (t l u : Bool) (xs : List X) → Halved t l u → cond t xs [] ≡ cond l xs [] ++ cond u xs []
+cond_halved t l u xs (in_lower e f) = (sym (append-nil (cond t xs [])) ∙ (λ i. cond (sym e i) xs [] ++ cond (sym f i) xs []))
+cond_halved t l u xs (in_upper e f) = λ i. cond (sym e i) xs [] ++ cond (sym f i) xs []
 
 -- a number is in the lower or in the upper part
-cut_below : (l h m x : ℕ) → x < m → m ≤ h → (nat_le l x && nat_le x (m - 1)) ≡ (nat_le l x && nat_le x h)
-cut_below l h m x a b = grind (arith, nat_tests)
+below_split : (l h m x : ℕ) → x < m → m ≤ h → (nat_le l x && nat_le x (m - 1)) ≡ (nat_le l x && nat_le x h)
+below_split l h m x a b = grind (arith, nat_tests)
 
 not_above : (h m x : ℕ) → x < m → (nat_le m x && nat_le x h) ≡ false
 not_above h m x a = grind (arith, nat_tests)
@@ -46,8 +46,8 @@ not_above h m x a = grind (arith, nat_tests)
 not_below : (l m x : ℕ) → m ≤ x → l < m → (nat_le l x && nat_le x (m - 1)) ≡ false
 not_below l m x a b = grind (arith, nat_tests)
 
-cut_above : (l h m x : ℕ) → m ≤ x → l < m → (nat_le m x && nat_le x h) ≡ (nat_le l x && nat_le x h)
-cut_above l h m x a b = grind (arith, nat_tests)
+above_split : (l h m x : ℕ) → m ≤ x → l < m → (nat_le m x && nat_le x h) ≡ (nat_le l x && nat_le x h)
+above_split l h m x a b = grind (arith, nat_tests)
 
 halved : (w m x : ℕ) → low_end w < m → m ≤ high_end w → m < 256
     → Halved (within w x) (within (range_from (low_end w) (m - 1)) x) (within (range_from m (high_end w)) x)
@@ -55,10 +55,10 @@ halved w m x above inside small =
     let lower = within_ends (low_end w) (m - 1) x (low_is_small w) in
     let upper = within_ends m (high_end w) x small in
     elim (cases_lt x m) [
-      | inl h ↦ in_lower (lower ∙ cut_below (low_end w) (high_end w) m x h inside)
+      | inl h ↦ in_lower (lower ∙ below_split (low_end w) (high_end w) m x h inside)
           (upper ∙ not_above (high_end w) m x h)
       | inr h ↦ in_upper (lower ∙ not_below (low_end w) m x h above)
-          (upper ∙ cut_above (low_end w) (high_end w) m x h above)
+          (upper ∙ above_split (low_end w) (high_end w) m x h above)
     ]
 
 halves-hold : (n : Numbers) (global : GlobalZone) (z : Zone) (axis : Axis) (m : ℕ) → IsSplitAt axis m global z → m < 256
@@ -113,7 +113,7 @@ halves-give inside n global z axis m h small =
     let lower : Zone = lower_zone axis m global z in
     let upper : Zone = upper_zone axis m global z in
     let w : ℕ = range_of axis global z in
-    chosen (holds n global z) (holds n global lower) (holds n global upper) (inside (zone_settings global z) z.target)
+    cond_halved (holds n global z) (holds n global lower) (holds n global upper) (inside (zone_settings global z) z.target)
     (halves-hold n global z axis m h small)
     ∙ (λ i. cond (holds n global lower)
     (inside (zone_settings-with global z axis (range_from (low_end w) (m - 1)) i) z.target) []

@@ -18,7 +18,7 @@ use Rattle.zone_select.specs.Ranges.{within, holds}
 use Rattle.zone_select.specs.ZoneSettings.{ZoneSettings, zone_settings}
 use Rattle.zone_select.proofs.RangeLaws.{zone_settings-with, zone_settings-without, range-with, range-without, other-with}
 use Rattle.zone_select.proofs.RangeLaws.{other-without, within_ends}
-use Rattle.zone_select.proofs.Halves.{Halved, in_lower, in_upper, halved_first, halved_second, chosen}
+use Rattle.zone_select.proofs.Halves.{Halved, in_lower, in_upper, halved_first, halved_second, cond_halved}
 
 -- two zones that can be joined, whose own ranges don't end before they begin
 pub record AreJoinedInOrder (axis : Axis) (keep : Keep) (global : GlobalZone) (y z : Zone) : Type 0 where
@@ -46,11 +46,11 @@ other_of_joined global y z axis other keeping.Keep n =
     other-with global y axis other (joint_range (own_amount axis y) (own_amount axis z)) n
 other_of_joined global y z axis other keeping.Bare n = other-without global y axis other n
 
-taken_of_joined : (global : GlobalZone) (y z : Zone) (axis : Axis) (keep : Keep)
+settings_of_joined : (global : GlobalZone) (y z : Zone) (axis : Axis) (keep : Keep)
     → zone_settings global y ≡ zone_settings global (joined axis keep y z)
-taken_of_joined global y z axis keeping.Keep =
+settings_of_joined global y z axis keeping.Keep =
     zone_settings-with global y axis (joint_range (own_amount axis y) (own_amount axis z))
-taken_of_joined global y z axis keeping.Bare = zone_settings-without global y axis
+settings_of_joined global y z axis keeping.Bare = zone_settings-without global y axis
 
 target_of_joined : (y z : Zone) (axis : Axis) (keep : Keep) → y.target ≡ (joined axis keep y z).target
 target_of_joined y z axis keeping.Keep = refl
@@ -58,8 +58,8 @@ target_of_joined y z axis keeping.Bare = refl
 
 module _ (axis : Axis) (keep : Keep) (global : GlobalZone) (y z : Zone) (h : AreJoinedInOrder axis keep global y z)
   where
-    same_taken : zone_settings global y ≡ zone_settings global z
-    same_taken = zone_settings-without global y axis ∙ ap (zone_settings global) h.both.agreement ∙ sym (zone_settings-without global z axis)
+    same_settings : zone_settings global y ≡ zone_settings global z
+    same_settings = zone_settings-without global y axis ∙ ap (zone_settings global) h.both.agreement ∙ sym (zone_settings-without global z axis)
 
     same_other : (other : Axis) → range_operator other ≢ range_operator axis
         → range_of other global y ≡ range_of other global z
@@ -141,11 +141,11 @@ joined_gives inside n global y z axis keep h =
     let x : Zone = joined axis keep y z in
     (λ i.
     cond (holds n global x)
-    (inside (sym (taken_of_joined global y z axis keep) i) (sym (target_of_joined y z axis keep) i)) [])
-    ∙ chosen (holds n global x) (holds n global y) (holds n global z) (inside (zone_settings global y) y.target)
+    (inside (sym (settings_of_joined global y z axis keep) i) (sym (target_of_joined y z axis keep) i)) [])
+    ∙ cond_halved (holds n global x) (holds n global y) (holds n global z) (inside (zone_settings global y) y.target)
     (joined_holds n global y z axis keep h)
     ∙
     (λ i.
     cond (holds n global y) (inside (zone_settings global y) y.target) []
     ++ cond (holds n global z)
-    (inside (same_taken axis keep global y z h i) (same_target axis keep global y z h i)) [])
+    (inside (same_settings axis keep global y z h i) (same_target axis keep global y z h i)) [])

@@ -98,12 +98,12 @@ module _ {X Y : Type 0} (f : X → Y) where
   pub record SentFrom (y : Y) (xs : List X) : Type 0 where
     pub member : X
     pub there : IsIn member xs
-    pub sent : f member ≡ y
+    pub maps_to : f member ≡ y
 
   pub in_map : (y : Y) (xs : List X) → IsIn y (map f xs) → SentFrom y xs
   in_map y [] h = absurd h
-  in_map y (x ∷ xs) (inl e) = record { member = x; there = inl refl; sent = e }
-  in_map y (x ∷ xs) (inr h) = let s = in_map y xs h in record { member = s.member; there = inr s.there; sent = s.sent }
+  in_map y (x ∷ xs) (inl e) = record { member = x; there = inl refl; maps_to = e }
+  in_map y (x ∷ xs) (inr h) = let s = in_map y xs h in record { member = s.member; there = inr s.there; maps_to = s.maps_to }
 
   pub map_in : (x : X) (xs : List X) → IsIn x xs → IsIn (f x) (map f xs)
   map_in x [] h = absurd h

@@ -47,9 +47,9 @@ use Rattle.zone_select.proofs.AlikeLaws.{HaveSameVoices, sound_same, owner_chang
 use Rattle.zone_select.proofs.SameLaws.{samples-same, head-same, samples_renumbered-same, instruments_renumbered-same}
 
 -- a sample found under a new number; its own link is renumbered too
-sent_found : (xs ys : List Sample) (f : Sample → Sample) (t q : ℕ) → ((s : Sample) → HaveSameVoices s (f s))
+renumbered_found : (xs ys : List Sample) (f : Sample → Sample) (t q : ℕ) → ((s : Sample) → HaveSameVoices s (f s))
     → slice_get ys q ≡ slice_get xs t → MatchedOption HaveSameVoices (slice_get xs t) (slice_get (map f ys) q)
-sent_found xs ys f t q h e =
+renumbered_found xs ys f t q h e =
     subst (MatchedOption HaveSameVoices (slice_get xs t)) (sym (slice_get-map f ys q ∙ ap (option_map f) e))
     (matched-option_map HaveSameVoices f h (slice_get xs t))
 
@@ -105,36 +105,36 @@ module _ (R : Parts → Parts → Type 0) (same : (b c : Parts) → HaveSamePair
   pub sample_added_alike : SampleAdded R
   unfolding voice_of parameters_of is_looped
   sample_added_alike b i s inside =
-      let sent : List Sample = map (sample_renumbered (Insertion i)) b.samples in
-      let long : i ≤ length sent = simp length-map inside in
-      same b _ (samples_renumbered-same b (Insertion i) (insert sent i s)
+      let renumbered_samples : List Sample = map (sample_renumbered (Insertion i)) b.samples in
+      let long : i ≤ length renumbered_samples = simp length-map inside in
+      same b _ (samples_renumbered-same b (Insertion i) (insert renumbered_samples i s)
       (owners_always (λ t. MatchedOption HaveSameVoices (slice_get b.samples t)
-      (slice_get (insert sent i s) (renumbered (Insertion i) t)))
+      (slice_get (insert renumbered_samples i s) (renumbered (Insertion i) t)))
       (λ t.
-      subst (MatchedOption HaveSameVoices (slice_get b.samples t)) (sym (insertion_followed sent i s t long))
-      (sent_found b.samples b.samples (sample_renumbered (Insertion i)) t t (λ x n v u. refl) refl))
+      subst (MatchedOption HaveSameVoices (slice_get b.samples t)) (sym (insertion_followed renumbered_samples i s t long))
+      (renumbered_found b.samples b.samples (sample_renumbered (Insertion i)) t t (λ x n v u. refl) refl))
       b.instruments))
 
   pub sample_moved_alike : SampleMoved R
   unfolding voice_of parameters_of is_looped
   sample_moved_alike b i j there place =
-      let sent : List Sample = map (sample_renumbered (Move i j)) (moved b.samples i j) in
-      same b _ (samples_renumbered-same b (Move i j) sent
-      (owners_always (λ t. MatchedOption HaveSameVoices (slice_get b.samples t) (slice_get sent (renumbered (Move i j) t)))
+      let renumbered_samples : List Sample = map (sample_renumbered (Move i j)) (moved b.samples i j) in
+      same b _ (samples_renumbered-same b (Move i j) renumbered_samples
+      (owners_always (λ t. MatchedOption HaveSameVoices (slice_get b.samples t) (slice_get renumbered_samples (renumbered (Move i j) t)))
       (λ t.
-      sent_found b.samples (moved b.samples i j) (sample_renumbered (Move i j)) t (renumbered (Move i j) t)
+      renumbered_found b.samples (moved b.samples i j) (sample_renumbered (Move i j)) t (renumbered (Move i j) t)
       (λ s n v u. refl) (move_followed b.samples i j t there place))
       b.instruments))
 
   pub sample_removed_alike : SampleRemoved R
   unfolding voice_of parameters_of is_looped
   sample_removed_alike b i free =
-      let sent : List Sample = map (sample_renumbered (Removal i)) (remove b.samples i) in
-      same b _ (samples_renumbered-same b (Removal i) sent
+      let renumbered_samples : List Sample = map (sample_renumbered (Removal i)) (remove b.samples i) in
+      same b _ (samples_renumbered-same b (Removal i) renumbered_samples
       (owners_weaker (λ t. (t == i) ≡ false)
-      (λ t. MatchedOption HaveSameVoices (slice_get b.samples t) (slice_get sent (renumbered (Removal i) t)))
+      (λ t. MatchedOption HaveSameVoices (slice_get b.samples t) (slice_get renumbered_samples (renumbered (Removal i) t)))
       (λ t e.
-      sent_found b.samples (remove b.samples i) (sample_renumbered (Removal i)) t (renumbered (Removal i) t)
+      renumbered_found b.samples (remove b.samples i) (sample_renumbered (Removal i)) t (renumbered (Removal i) t)
       (λ s n v u. refl) (removal_followed b.samples i t (differs t i e)))
       b.instruments (untargeted i b.instruments free)))
 

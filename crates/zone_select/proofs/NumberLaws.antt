@@ -58,10 +58,10 @@ joined : {Z : Type 0} (b : Bool) (x y r s : List Z) → (b ≡ true → x ≡ y)
 joined true x y r s e f = ap (λ l. l ++ r) (e refl) ∙ ap (λ l. y ++ l) f
 joined false x y r s e f = f
 
-taken_on : {Z : Type 0} (g : ℕ → List Z) (b : Bool) (a : ℕ) (ks : List ℕ)
+flat_map_if : {Z : Type 0} (g : ℕ → List Z) (b : Bool) (a : ℕ) (ks : List ℕ)
     → flat_map g (cond b (a ∷ ks) ks) ≡ cond b (g a ++ flat_map g ks) (flat_map g ks)
-taken_on g true a ks = refl
-taken_on g false a ks = refl
+flat_map_if g true a ks = refl
+flat_map_if g false a ks = refl
 
 pub by_number : {X Z : Type 0} (test : ℕ → Bool) (t : X → Bool) (g : ℕ → List Z) (h : X → List Z) (from : ℕ)
     (xs : List X)
@@ -74,7 +74,7 @@ by_number test t g h from (x ∷ xs) same e =
     (λ k y f. ap test (let s : from + 1 + k ≡ from + suc k = omega arith in s) ∙ same (suc k) y f)
     (λ k y f p. ap g (let s : from + 1 + k ≡ from + suc k = omega arith in s) ∙ e (suc k) y f p) in
     let zeroth : from ≡ from + 0 = omega arith in
-    taken_on g (test from) from (filter test (range_with_len (from + 1) (length xs)))
+    flat_map_if g (test from) from (filter test (range_with_len (from + 1) (length xs)))
     ∙ ap
     (λ (b : Bool).
     cond b (g from ++ flat_map g (filter test (range_with_len (from + 1) (length xs))))

@@ -41,19 +41,19 @@ is_held n global zones k z e p = rw (e, p) refl
 
 module _ {X : Type 0} (g : Option Voice → List X) where
   -- the images of a pair
-  abbrev of_chosen : Parts → Numbers → Option SelectedPair → List X
-  of_chosen b n o = g (option_and_then (selected_pair_voice b n) o)
+  abbrev of_selected : Parts → Numbers → Option SelectedPair → List X
+  of_selected b n o = g (option_and_then (selected_pair_voice b n) o)
 
   instrument_is : (b : Parts) (n : Numbers) (u : ZoneSettings) (i : ZoneOwner (List ℕ))
-      → flat_map (λ l. of_chosen b n (pair_of_instrument n u l i)) (held n i.global i.zones 0)
+      → flat_map (λ l. of_selected b n (pair_of_instrument n u l i)) (held n i.global i.zones 0)
       ≡ instrument_given g b n u i
   unfolding instrument_given sample_given voices_of
   instrument_is b n u i =
-      held_by_number (λ l. of_chosen b n (pair_of_instrument n u l i))
+      held_by_number (λ l. of_selected b n (pair_of_instrument n u l i))
       (λ (y : Zone). sample_given g b n u (zone_settings i.global y) y.target) n i.global i.zones
       (λ l y e p. ap
       (λ (o : Option Zone).
-      of_chosen b n
+      of_selected b n
       (option_map
       (λ (y : Zone). let r : SelectedPair =
       record { instrument_zone = zone_settings i.global y; preset_zone = u; sample = y.target } in r)
@@ -61,14 +61,14 @@ module _ {X : Type 0} (g : Option Voice → List X) where
       (is_held n i.global i.zones l y e p))
 
   zone_is : (b : Parts) (n : Numbers) (global : GlobalZone) (z : Zone)
-      → flat_map (λ l. of_chosen b n (pair_of_zone b n global l z)) (held_inside b n z.target 0)
+      → flat_map (λ l. of_selected b n (pair_of_zone b n global l z)) (held_inside b n z.target 0)
       ≡ number_given g b n (zone_settings global z) z.target
   unfolding number_given
   zone_is b n global z =
       let u : ZoneSettings = zone_settings global z in
       elim (slice_get b.instruments z.target) as
       (λ (o : Option (ZoneOwner (List ℕ))).
-      flat_map (λ l. of_chosen b n (option_and_then (pair_of_instrument n u l) o))
+      flat_map (λ l. of_selected b n (option_and_then (pair_of_instrument n u l) o))
       (option_map_or (λ (i : ZoneOwner (List ℕ)). held n i.global i.zones 0) o [])
       ≡ option_map_or (instrument_given g b n u) o []) [
         | None ↦ refl
@@ -76,12 +76,12 @@ module _ {X : Type 0} (g : Option Voice → List X) where
       ]
 
   preset_is : (b : Parts) (n : Numbers) (p : ZoneOwner Head)
-      → flat_map (λ q. of_chosen b n (pair_of_preset b n q p))
+      → flat_map (λ q. of_selected b n (pair_of_preset b n q p))
       (flat_map (pairs_at b n p.zones) (held n p.global p.zones 0))
       ≡ preset_given g b n p
   unfolding preset_given voices_of
   preset_is b n p =
-      let f : ℕ × ℕ → List X = λ q. of_chosen b n (pair_of_preset b n q p) in
+      let f : ℕ × ℕ → List X = λ q. of_selected b n (pair_of_preset b n q p) in
       flat_map-flat_map f (pairs_at b n p.zones) (held n p.global p.zones 0)
       ∙ held_by_number (λ k. flat_map f (pairs_at b n p.zones k))
       (λ (z : Zone). number_given g b n (zone_settings p.global z) z.target) n p.global p.zones
@@ -94,7 +94,7 @@ module _ {X : Type 0} (g : Option Voice → List X) where
       ∙ flat_map-map f (λ (l : ℕ). let q : ℕ × ℕ = (k, l) in q) (held_inside b n z.target 0)
       ∙ ap
       (λ (o : Option Zone).
-      flat_map (λ l. of_chosen b n (option_and_then (pair_of_zone b n p.global l) o)) (held_inside b n z.target 0))
+      flat_map (λ l. of_selected b n (option_and_then (pair_of_zone b n p.global l) o)) (held_inside b n z.target 0))
       (is_held n p.global p.zones k z e h)
       ∙ zone_is b n p.global z)
 
@@ -103,7 +103,7 @@ module _ {X : Type 0} (g : Option Voice → List X) where
   given_by_pairs b n =
       elim (find (has_preset_numbers n) b.presets) as
       (λ (o : Option (ZoneOwner Head)).
-      flat_map (λ q. of_chosen b n (option_and_then (pair_of_preset b n q) o))
+      flat_map (λ q. of_selected b n (option_and_then (pair_of_preset b n q) o))
       (option_map_or (λ (p : ZoneOwner Head). flat_map (pairs_at b n p.zones) (held n p.global p.zones 0))
       o [])
       ≡ option_map_or (preset_given g b n) o []) [

@@ -19,7 +19,7 @@ use Rattle.zone_select.specs.ZoneSettings.{ZoneSettings, zone_settings}
 use Rattle.zone_select.specs.Select.{has_preset_numbers}
 use Rattle.zone_select.specs.Pairs.{holds_at, held, held_inside, pairs_at, pairs, SelectedPair, zone_held}
 use Rattle.zone_select.specs.Pairs.{pair_of_instrument, pair_of_zone, pair_of_preset, selected_pair, selected_pair_voice}
-use Rattle.zone_select.specs.Played.{PairsAreChosen, PairsHaveVoices}
+use Rattle.zone_select.specs.Played.{PairsAreSelected, PairsHaveVoices}
 use Rattle.zone_select.proofs.Listed.{IsIn, in_of_contains, contains_of_in, in_filter, filter_in, in_row}
 use Rattle.zone_select.proofs.Listed.{in_flat_map, flat_map_in, in_map, map_in}
 
@@ -134,8 +134,8 @@ module _ (b : Parts) (n : Numbers) (q : ℕ × ℕ) (p : ZoneOwner Head) where
       IsIn q (option_map_or (λ (z : Zone). map (paired g.member) (held_inside b n z.target 0)) o []))
       z.there g.gives in
       let s = in_map (paired g.member) q (held_inside b n z.zone.target 0) gives in
-      let first : g.member ≡ q.0 = ap (λ (q : ℕ × ℕ). q.0) s.sent in
-      let second : s.member ≡ q.1 = ap (λ (q : ℕ × ℕ). q.1) s.sent in
+      let first : g.member ≡ q.0 = ap (λ (q : ℕ × ℕ). q.0) s.maps_to in
+      let second : s.member ≡ q.1 = ap (λ (q : ℕ × ℕ). q.1) s.maps_to in
       let e = is_held n p.global p.zones g.member z in
       subst (λ (k : ℕ). IsSome (option_and_then (pair_of_zone b n p.global q.1) (zone_held n p.global p.zones k))) first
       (subst (λ (o : Option Zone). IsSome (option_and_then (pair_of_zone b n p.global q.1) o)) (sym e)
@@ -186,8 +186,8 @@ module _ (b : Parts) (n : Numbers) (q : ℕ × ℕ) where
         | Some p ↦ preset_in b n q p
       ]
 
-pub pairs_are_chosen : PairsAreChosen
-pairs_are_chosen b n q =
+pub pairs_are_selected : PairsAreSelected
+pairs_are_selected b n q =
     (λ c. pairs_some b n q (in_of_contains q (pairs b n) c), λ h. contains_of_in q (pairs b n) (pairs_in b n q h))
 
 -- ---- in a valid bank the sample exists
@@ -230,9 +230,9 @@ module _ (b : Parts) (n : Numbers) (v : IsValid b) where
         | Some z ↦ zone_named p.global q.1 z
       ]
 
-  chosen_named : (q : ℕ × ℕ) → Named (selected_pair b n q)
+  selected_named : (q : ℕ × ℕ) → Named (selected_pair b n q)
   unfolding selected_pair
-  chosen_named q =
+  selected_named q =
       elim (find (has_preset_numbers n) b.presets) as
       (λ (o : Option (ZoneOwner Head)). Named (option_and_then (pair_of_preset b n q) o)) [
         | None ↦ λ c h. cc
@@ -246,20 +246,20 @@ module _ (b : Parts) (n : Numbers) (v : IsValid b) where
 
 pub pairs_have_voices : PairsHaveVoices
 pairs_have_voices b n q v =
-    let chosen = pairs_are_chosen b n q in
-    let voice = voiced b n v (selected_pair b n q) (chosen_named b n v q) in
-    (λ c. voice.0 (chosen.0 c), λ h. chosen.1 (voice.1 h))
+    let is_selected = pairs_are_selected b n q in
+    let voice = voiced b n v (selected_pair b n q) (selected_named b n v q) in
+    (λ c. voice.0 (is_selected.0 c), λ h. is_selected.1 (voice.1 h))
 
 -- ---- the result of the code
 
 module _ {V : Type 0} (b : Parts) (n : Numbers) (q : ℕ × ℕ) where
   -- it is `None` or `Some` as the pair's zones are
   pub there_by : (r : Option V) → is_some r ≡ is_some (selected_pair b n q) → IsSome r ↔ Contains (pairs b n) q
-  there_by r e = let chosen = pairs_are_chosen b n q in (λ s. chosen.1 (sym e ∙ s), λ c. e ∙ chosen.0 c)
+  there_by r e = let is_selected = pairs_are_selected b n q in (λ s. is_selected.1 (sym e ∙ s), λ c. e ∙ is_selected.0 c)
 
 -- the sample of a pair exists
 pub never_lost : (b : Parts) (n : Numbers) (q : ℕ × ℕ) (c : SelectedPair) → IsValid b → selected_pair b n q ≡ Some c
     → slice_get b.samples c.sample ≡ None → ⊥
 never_lost b n q c v e f =
-    let s = slice_get-found b.samples c.sample (chosen_named b n v q c e) in
+    let s = slice_get-found b.samples c.sample (selected_named b n v q c e) in
     true≢false (sym (ap is_some s.1) ∙ ap is_some f)

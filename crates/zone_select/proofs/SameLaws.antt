@@ -65,9 +65,9 @@ module _ (T : ℕ → ℕ → Type 0) (n : Numbers) (a d : GlobalZone) (e : a �
   same_holds z w s = λ i.
       (let x : Zone = record { target = z.target; gens = s.gens i; mods = s.mods i } in holds n (e i) x)
 
-  same_taken : (z w : Zone) → ZonesSame T z w → zone_settings a z ≡ zone_settings d w
+  same_settings : (z w : Zone) → ZonesSame T z w → zone_settings a z ≡ zone_settings d w
   unfolding zone_settings setting
-  same_taken z w s = λ i.
+  same_settings z w s = λ i.
       (let x : Zone = record { target = z.target; gens = s.gens i; mods = s.mods i } in zone_settings (e i) x)
 
   same_held : (xs ys : List Zone) (k : ℕ) → Matched (ZonesSame T) xs ys → held n a xs k ≡ held n d ys k
@@ -102,7 +102,7 @@ same_inside b c n u v l i j e s =
         → inside_held b n u i.global (cond t (Some z) None) ≡ inside_held c n v j.global (cond t (Some w) None)
     tested true z w m =
         (λ k.
-        option_map (voice_of n (same_taken (SamplesAt b c) n i.global j.global s.global z w m k) (e k))
+        option_map (voice_of n (same_settings (SamplesAt b c) n i.global j.global s.global z w m k) (e k))
         (slice_get b.samples z.target))
         ∙ same_voices n v (zone_settings j.global w) (slice_get b.samples z.target) (slice_get c.samples w.target) m.target
     tested false z w m = refl
@@ -145,7 +145,7 @@ same_outside b c n q p r s =
         → outside_held b n p.global q.1 (cond t (Some z) None) ≡ outside_held c n r.global q.1 (cond t (Some w) None)
     tested true z w m =
         same_target b c n (zone_settings p.global z) (zone_settings r.global w) q.1
-        (same_taken (InstrumentsAt b c) n p.global r.global s.global z w m) (slice_get b.instruments z.target)
+        (same_settings (InstrumentsAt b c) n p.global r.global s.global z w m) (slice_get b.instruments z.target)
         (slice_get c.instruments w.target) m.target
     tested false z w m = refl
 

@@ -89,8 +89,8 @@ below : (z : ℤ) (high : ℕ) → z ≤ℤ pos high → clamped_at_zero z ≤ h
 below (pos a) high h = omega (arith, ints, h)
 below (negsuc a) high h = omega arith
 
-cut_most : (low high : ℕ) (z : ℤ) → clamped low high z ≤ high
-cut_most low high z = below (int_min (int_max z (pos low)) (pos high)) high (omega (arith, ints, clamps))
+clamped_most : (low high : ℕ) (z : ℤ) → clamped low high z ≤ high
+clamped_most low high z = below (int_min (int_max z (pos low)) (pos high)) high (omega (arith, ints, clamps))
 
 both : (a b : Bool) → (a && b) ≡ true → (a ≡ true) × (b ≡ true)
 both true b h = (refl, h)
@@ -133,7 +133,7 @@ step_most cents rate =
 pub playable : (n : Numbers) (v u : ZoneSettings) (s : Sample) → IsPlayable (length s.points) (parameters_of n v u s)
 unfolding parameters_of
 playable n v u s = record {
-  inside = cut_most (start_of v u s) (length s.points) _;
+  inside = clamped_most (start_of v u s) (length s.points) _;
   ordered = λ e. rw e ((loop_lies v u s e).0);
   loop_inside = λ e. rw e ((loop_lies v u s e).1);
   phase_increment = step_most (cents_of n v u s) s.rate;

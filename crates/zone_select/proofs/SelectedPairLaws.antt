@@ -45,37 +45,37 @@ settings_by k o = record {
   inherited = unwrap_or (option_map (λ x. x.global.mods) o) [];
 }
 
-taken_there : {H : Type 0} (owners : List (ZoneOwner H)) (i k : ℕ) (x : ZoneOwner H) (z : Zone)
+settings_there : {H : Type 0} (owners : List (ZoneOwner H)) (i k : ℕ) (x : ZoneOwner H) (z : Zone)
     → slice_get owners i ≡ Some x → slice_get x.zones k ≡ Some z → settings_by k (slice_get owners i) ≡ zone_settings x.global z
 unfolding zone_settings setting
-taken_there owners i k x z e f = ap (settings_by k) e ∙ ap (settings_with x.global) f
+settings_there owners i k x z e f = ap (settings_by k) e ∙ ap (settings_with x.global) f
 
 -- the zones of a pair within an instrument
-abbrev chosen_inside : Parts → ZoneSettings → ℕ → ℕ → ℕ → SelectedPair
-chosen_inside b u i l s = record { instrument_zone = zone_settings_at b (owner.Inst i) l; preset_zone = u; sample = s }
+abbrev selected_inside : Parts → ZoneSettings → ℕ → ℕ → ℕ → SelectedPair
+selected_inside b u i l s = record { instrument_zone = zone_settings_at b (owner.Inst i) l; preset_zone = u; sample = s }
 
 inside : (b : Parts) (n : Numbers) (u : ZoneSettings) (i l : ℕ) (o : Option (ZoneOwner (List ℕ)))
     → slice_get b.instruments i ≡ o
     → option_and_then (pair_of_instrument n u l) o
-    ≡ option_map (chosen_inside b u i l) (target_held b n (owner.Inst i) l)
+    ≡ option_map (selected_inside b u i l) (target_held b n (owner.Inst i) l)
 inside b n u i l None e = rw e refl
 inside b n u i l (Some x) e = zone (slice_get x.zones l) refl
   where
     zone : (z : Option Zone) → slice_get x.zones l ≡ z
         → option_and_then (pair_of_instrument n u l) (Some x)
-        ≡ option_map (chosen_inside b u i l) (target_held b n (owner.Inst i) l)
+        ≡ option_map (selected_inside b u i l) (target_held b n (owner.Inst i) l)
     zone None f = rw (e, f) refl
     zone (Some z) f = held (holds n x.global z) refl
       where
         held : (t : Bool) → holds n x.global z ≡ t
             → option_and_then (pair_of_instrument n u l) (Some x)
-            ≡ option_map (chosen_inside b u i l) (target_held b n (owner.Inst i) l)
+            ≡ option_map (selected_inside b u i l) (target_held b n (owner.Inst i) l)
         held true h =
             rw (e, f, h)
             (ap
             (λ (t : ZoneSettings). let r : SelectedPair =
             record { instrument_zone = t; preset_zone = u; sample = z.target } in Some r)
-            (sym (taken_there b.instruments i l x z e f)))
+            (sym (settings_there b.instruments i l x z e f)))
         held false h = rw (e, f, h) refl
 
 -- the zones of a pair whose preset's zone targets an instrument
@@ -102,7 +102,7 @@ outside b n p q (Some x) e = zone (slice_get x.zones q.0) refl
             (ap
             (λ (t : ZoneSettings).
             option_and_then (pair_of_instrument n t q.1) (slice_get b.instruments z.target))
-            (sym (taken_there b.presets p q.0 x z e f)))
+            (sym (settings_there b.presets p q.0 x z e f)))
         held false h = rw (e, f, h) refl
 
 -- the zones of a pair by all four numbers

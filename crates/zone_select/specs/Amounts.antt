@@ -74,9 +74,9 @@ moved_amount key velocity v u op = amount v u op +ℤ total (map (linear_part ke
 -- ---- the parameters of a voice
 
 -- the first number if it is from 0 to 127, else the second
-abbrev pub chosen : ℤ → ℕ → ℕ
-chosen (pos x) y = cond (nat_le x 127) x y
-chosen (negsuc x) y = y
+abbrev pub midi_value_or : ℤ → ℕ → ℕ
+midi_value_or (pos x) y = cond (nat_le x 127) x y
+midi_value_or (negsuc x) y = y
 
 -- clamped to low..high
 abbrev pub clamped : ℕ → ℕ → ℤ → ℕ
@@ -87,14 +87,14 @@ abbrev pub offset : ZoneSettings → ZoneSettings → ℕ → ℕ → ℤ
 offset v u fine coarse = amount v u fine +ℤ pos 32768 *ℤ amount v u coarse
 
 abbrev pub key_of : Numbers → ZoneSettings → ZoneSettings → ℕ
-key_of n v u = chosen (amount v u 46) n.key
+key_of n v u = midi_value_or (amount v u 46) n.key
 
 abbrev pub velocity_of : Numbers → ZoneSettings → ZoneSettings → ℕ
-velocity_of n v u = chosen (amount v u 47) n.velocity
+velocity_of n v u = midi_value_or (amount v u 47) n.velocity
 
 -- the root key: the zone's, else the sample's, else 60
 abbrev pub root_of : ZoneSettings → ZoneSettings → Sample → ℕ
-root_of v u s = chosen (amount v u 58) (cond (nat_le s.key 127) s.key 60)
+root_of v u s = midi_value_or (amount v u 58) (cond (nat_le s.key 127) s.key 60)
 
 -- the amount of a generator that may be modulated, at the key and velocity of the voice
 abbrev pub moved : Numbers → ZoneSettings → ZoneSettings → ℕ → ℤ

@@ -7,8 +7,8 @@ use Rattle.bank_parts.specs.Valid.{IsValid}
 use Rattle.zone_select.specs.Pairs.{pairs, selected_pair, voice_by}
 
 -- both its zones exist and contain the note
-abbrev pub PairsAreChosen : Type 0
-PairsAreChosen = (b : Parts) (n : Numbers) (q : ℕ × ℕ) → Contains (pairs b n) q ↔ IsSome (selected_pair b n q)
+abbrev pub PairsAreSelected : Type 0
+PairsAreSelected = (b : Parts) (n : Numbers) (q : ℕ × ℕ) → Contains (pairs b n) q ↔ IsSome (selected_pair b n q)
 
 -- in a valid bank the sample exists too
 abbrev pub PairsHaveVoices : Type 0

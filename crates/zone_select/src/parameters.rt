@@ -11,7 +11,7 @@ use crate::amounts::{PairAt, exclusive_class};
 use crate::amplitude::{attenuation, moved_time, pan, sustain, time};
 use crate::pitches::phase_increment_of;
 use crate::sample_range::{UNTIL_RELEASE, loop_within, mode, sample_range};
-use crate::selected_pair::chosen;
+use crate::selected_pair::selected_zones;
 use bank_core::Bank;
 use bank_parts::Sample;
 use generators::operators::{
@@ -85,12 +85,12 @@ pub fn params(bank: &Bank<'_>, note: &Note, pair: (u32, u32)) -> Option<PairPara
     ensures playable { IfSome (voice_by bank.now note.now pair) (λ v. IsPlayable (length v.points) v.parameters) }
 {
     bank.soundness();
-    let chosen = chosen(bank, note, pair)?;
-    let sample = bank.sample(chosen.sample)?;
+    let selected_zones = selected_zones(bank, note, pair)?;
+    let sample = bank.sample(selected_zones.sample)?;
     Some(PairParameters {
-        sample: chosen.sample,
-        mode: mode(bank, &chosen.zones),
-        voice: parameters_of(bank, note, &chosen.zones, sample),
+        sample: selected_zones.sample,
+        mode: mode(bank, &selected_zones.zones),
+        voice: parameters_of(bank, note, &selected_zones.zones, sample),
     })
 }
 

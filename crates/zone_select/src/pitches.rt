@@ -1,7 +1,7 @@
 //! The key, velocity, pitch and phase increment of a voice.
 ghost use Rattle.std.specs.Prelude.{◌≡◌, ◌≤◌, ◌≤ℤ◌, ◌+ℤ◌, ◌-ℤ◌, ◌*ℤ◌, pos, negsuc};
 ghost use Rattle.sound_tables.specs.Tables.{phase_increment_of};
-ghost use Rattle.zone_select.specs.Amounts.{chosen, key_of, velocity_of, root_of, cents_of};
+ghost use Rattle.zone_select.specs.Amounts.{midi_value_or, key_of, velocity_of, root_of, cents_of};
 ghost use Rattle.zone_select.specs.At.{instrument_zone_at, preset_zone_at};
 
 use crate::amounts::{PairAt, amount};
@@ -19,7 +19,7 @@ const MIDDLE_KEY: u8 = 60;
 
 // `number` if it is from 0 to 127, else `other`.
 fn up_to_127(number: i32, other: u8) -> u8
-    ensures value { result ≡ chosen number other }
+    ensures value { result ≡ midi_value_or number other }
     ensures within { other ≤ 127 → result ≤ 127 }
 {
     if 0 <= number && number <= 127 {

@@ -18,7 +18,11 @@ pub(crate) struct SelectedPairAt {
 }
 
 // The zones of a pair of numbers, if both exist and contain the note.
-pub(crate) fn chosen(bank: &Bank<'_>, note: &Note, pair: (u32, u32)) -> Option<SelectedPairAt>
+pub(crate) fn selected_zones(
+    bank: &Bank<'_>,
+    note: &Note,
+    pair: (u32, u32),
+) -> Option<SelectedPairAt>
     ensures { option_map (selected_pair_at bank.now) result ≡ selected_pair bank.now note.now pair }
 {
     let (preset_zone, instrument_zone) = pair;

@@ -3,7 +3,7 @@ use Rattle.std.proofs.lemmas.Result.{err_from_is_err_and}
 use Rattle.script_tokens.specs.TokenValue.{values_over, line_values_over}
 use Rattle.script_tokens.specs.Tokens.{tokens_of}
 use Rattle.edit_script.specs.Script.{edit_of, edits_in}
-use Rattle.script_tokens.proofs.PoolLaws.{lines_said_on, lines_said_end}
+use Rattle.script_tokens.proofs.PoolLaws.{lines_values_step, lines_values_end}
 use Rattle.script_tokens.proofs.GatherLaws.{step_fails, lines_on, lines_stop, lines_over, length-lines_of}
 use Rattle.edit_script.proofs.parsing.parse_lines.Goals as goal
 
@@ -32,7 +32,7 @@ loop-line-preserved c = record {
       (values_over c.loop-line.rest.now (tokens_of c.in-Some.line.now))
       (line_values_over c.in_ok-rest.rest.now c.next.new.self)
       (line_values_over c.loop-line.rest.now c.loop-line.line-iterator) _
-      (omega arith) (lines_said_on _ _ _ _ _ c.in_ok-rest.ensures.following c.in-Some.ensures.steps)
+      (omega arith) (lines_values_step _ _ _ _ _ c.in_ok-rest.ensures.following c.in-Some.ensures.steps)
       c.loop-line.invariant.left c.in_ok-rest.ensures.added;
   counted = (let h = ap length c.in-Some.ensures.steps in let k = c.loop-line.invariant.counted in omega (arith, h, k));
 }
@@ -44,10 +44,10 @@ returns-in_err-rest c =
     (λ _ e. lines_stop edit_of (c.loop-line.number + 1) c.loop-line.edits.items
     (values_over c.loop-line.rest.now (tokens_of c.in-Some.line.now)) _
     (line_values_over c.loop-line.rest.now c.loop-line.line-iterator) _ _
-    (lines_said_on _ _ _ c.next.new.self _ refl c.in-Some.ensures.steps) c.loop-line.invariant.left e))
+    (lines_values_step _ _ _ c.next.new.self _ refl c.in-Some.ensures.steps) c.loop-line.invariant.left e))
 
 pub returns : goal.returns
 returns c =
     lines_over edit_of (c.loop-line.number + 1) c.loop-line.edits.items
     (line_values_over c.loop-line.rest.now c.loop-line.line-iterator) _
-    (lines_said_end _ _ c.in-None.ensures.steps.0) c.loop-line.invariant.left
+    (lines_values_end _ _ c.in-None.ensures.steps.0) c.loop-line.invariant.left

@@ -1,4 +1,4 @@
-use Rattle.live_sessions.proofs.Turning.{none_asked, failure_answered, request_answered, request_stopped}
+use Rattle.live_sessions.proofs.AnsweredLines.{none_asked, failure_answered, request_answered, request_stopped}
 use Rattle.live_sessions.proofs.run.answer_line.Goals as goal
 
 pub returns-in-Ok : goal.returns-in-Ok
@@ -7,7 +7,7 @@ returns-in-Ok g c =
     c.in-Ok.answer c.kind_of-kind.result
     _ _ _ _ _ _ c.write_answer.result
     (rw c.in-Ok-Some.field-0-is at c.in-Ok-Some.ensures) c.kind_of-kind.ensures c.in-Ok.ensures.done
-    c.write_answer.ensures.sent c.write_answer.ensures.next
+    c.write_answer.ensures.is_written c.write_answer.ensures.next
 
 pub returns-in-Err-do_request : goal.returns-in-Err-do_request
 returns-in-Err-do_request g c =
@@ -24,4 +24,4 @@ pub returns-in-Err : goal.returns-in-Err
 returns-in-Err g c =
     failure_answered c.args.counts.now c.args.line.now c.args.live.now _ _ _ _ c.in-Err.failure c.reported.result
     c.write_answer-in-Err.result
-    c.in-Err.ensures c.reported.ensures c.write_answer-in-Err.ensures.sent c.write_answer-in-Err.ensures.next
+    c.in-Err.ensures c.reported.ensures c.write_answer-in-Err.ensures.is_written c.write_answer-in-Err.ensures.next

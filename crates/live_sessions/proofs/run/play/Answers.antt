@@ -1,6 +1,6 @@
 use Rattle.std.proofs.Common.{Ok, Err, arith}
 use Rattle.std.proofs.lemmas.Result.{err_from_is_err_and}
-use Rattle.live_sessions.proofs.Ending.{reached_first, reached_next, plays_to, plays_full, goes_on, ends_well}
+use Rattle.live_sessions.proofs.Ending.{reached_first, reached_next, plays_to, plays_full, continues, ends_well}
 use Rattle.live_sessions.proofs.run.play.Goals as goal
 
 pub loop-turn-init : goal.loop-turn-init
@@ -10,7 +10,7 @@ pub loop-turn-preserved : goal.loop-turn-preserved
 loop-turn-preserved g c =
     reached_next c.args.counts.now c.loop-turn._turn c.args.live.now c.loop-turn.live c.take_line.new.live _ _ _
     c.loop-turn.invariant
-    (goes_on c.args.counts.now _ c.loop-turn.live c.take_line.new.live _ _ (g.R.LineReader.failure c.take_line.new.input)
+    (continues c.args.counts.now _ c.loop-turn.live c.take_line.new.live _ _ (g.R.LineReader.failure c.take_line.new.input)
     c.in-Line.is c.in_ok-take_line.ensures)
 
 pub returns-in-End : goal.returns-in-End

@@ -13,9 +13,9 @@ returns-then-len-le-GROUP-clause-ahead c =
     ≡ map (aged a.left) vs =
     grind (arith, common_steps) in
     let few : length vs ≤ 32767 = omega arith in
-    let lent : c.as_mut_slice.result.now ≡ vs = grind (arith, common_steps) in
+    let slice_is : c.as_mut_slice.result.now ≡ vs = grind (arith, common_steps) in
     subst (IsAhead a) (sym e)
-    (filled_ahead a vs few c.drop_over.ensures.young (subst (AreSums a) lent c.fill.ensures.sums))
+    (filled_ahead a vs few c.drop_over.ensures.young (subst (AreSums a) slice_is c.fill.ensures.sums))
 
 pub returns-then-len-le-GROUP-clause-same : goal.returns-then-len-le-GROUP-clause-same
 returns-then-len-le-GROUP-clause-same c =

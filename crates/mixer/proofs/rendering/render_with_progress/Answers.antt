@@ -4,7 +4,7 @@ use Rattle.mixer.specs.Render as whole
 use Rattle.mixer.specs.Order as order
 use Rattle.mixer.specs.Order.{IsRising, StartWithin}
 use Rattle.mixer.proofs.Orders.{rising-in_order}
-use Rattle.mixer.proofs.Counts.{within-count, half_of, take_front, rendered_fits}
+use Rattle.mixer.proofs.Counts.{within-count, half_of, take_prefix, rendered_fits}
 use Rattle.mixer.proofs.StartOrder.{render_is}
 use Rattle.mixer.proofs.rendering.render_with_progress.Goals as goal
 
@@ -35,7 +35,7 @@ returns-clause-value g c =
     c.as_mut_slice.ensures.len ∙ c.in_ok-out.ensures.len in
     let half : length c.as_mut_slice.result.now / 2 ≡ whole.frame_count c.args.bank.now c.args.notes.now =
     ap (λ (k : ℕ). k / 2) long ∙ half_of c.frame_count-count.result ∙ c.frame_count-count.ensures.value in
-    take_front c.in_ok-out.out.len c.play-played.new.out _ (c.play-played.auto.out ∙ c.as_mut_slice.ensures.len)
+    take_prefix c.in_ok-out.out.len c.play-played.new.out _ (c.play-played.auto.out ∙ c.as_mut_slice.ensures.len)
     ∙ (rw c.in_ok-played.was at c.play-played.ensures)
     ∙ (λ j. order.frames_of c.args.bank.now (sorted j) (half j))
     ∙ render_is c.args.bank.now c.args.notes.now

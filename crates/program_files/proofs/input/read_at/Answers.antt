@@ -3,11 +3,11 @@ use borrow.Rule.Slice.PartMut.{take_put}
 use Rattle.program_files.proofs.ReadInPlace.{Consumes-in_place}
 use Rattle.program_files.proofs.input.read_at.Goals as goal
 
-pub returns-in-Ok-clause-front : goal.returns-in-Ok-clause-front
-returns-in-Ok-clause-front g c = take_put _ _ c.args.buffer.now _ (omega (arith, c.requires))
+pub returns-in-Ok-clause-prefix_kept : goal.returns-in-Ok-clause-prefix_kept
+returns-in-Ok-clause-prefix_kept g c = take_put _ _ c.args.buffer.now _ (omega (arith, c.requires))
 
-pub returns-in-Err-clause-front : goal.returns-in-Err-clause-front
-returns-in-Err-clause-front g c = take_put _ _ c.args.buffer.now _ (omega (arith, c.requires))
+pub returns-in-Err-clause-prefix_kept : goal.returns-in-Err-clause-prefix_kept
+returns-in-Err-clause-prefix_kept g c = take_put _ _ c.args.buffer.now _ (omega (arith, c.requires))
 
 pub returns-in-Ok-clause-consumed : goal.returns-in-Ok-clause-consumed
 returns-in-Ok-clause-consumed g c =

@@ -10,10 +10,10 @@ returns-clause-consumed g c =
     let xs = c.read_at.new.buffer in
     let read = c.in_ok-count.ensures in
     let held : c.truncate.new.self.items ≡ take (at + n) xs = search (rules, places) in
-    let front : take at xs ≡ c.args.bytes.now.items = search (rules, places) in
+    let prefix_kept : take at xs ≡ c.args.bytes.now.items = search (rules, places) in
     let within = read.within in (
       take n (drop at xs),
-      held ∙ take-add at n xs ∙ ap (λ f. f ++ take n (drop at xs)) front,
+      held ∙ take-add at n xs ∙ ap (λ f. f ++ take n (drop at xs)) prefix_kept,
       length-take-le n (drop at xs) (omega (arith, within, length-drop at xs)),
       read.consumed,
       read.end,

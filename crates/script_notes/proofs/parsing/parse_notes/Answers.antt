@@ -31,15 +31,15 @@ loop-line-preserved c = record {
   few = c.in_ok-add_note.ensures.few;
 }
 
-pub returns-in_err-add_note-clause-answers : goal.returns-in_err-add_note-clause-answers
-returns-in_err-add_note-clause-answers c =
+pub returns-in_err-add_note-clause-parsed : goal.returns-in_err-add_note-clause-parsed
+returns-in_err-add_note-clause-parsed c =
     let p = err_from_is_err_and c.from_residual.result c.from_residual.ensures.1 in
     rw (p.1, p.2) (step_fails _ _ _ c.in_err-add_note.ensures.added
     (λ _ e. lines_stop with_note (c.loop-line.number + 1) c.loop-line.notes.items
     (values_in c.in-Some.line.now) (map values_in c.next.new.self) (map values_in c.loop-line.line-iterator) _ _
     (ap (map values_in) c.in-Some.ensures.steps) c.loop-line.invariant.left e))
 
-pub returns-clause-answers : goal.returns-clause-answers
-returns-clause-answers c =
+pub returns-clause-parsed : goal.returns-clause-parsed
+returns-clause-parsed c =
     lines_over with_note (c.loop-line.number + 1) c.loop-line.notes.items (map values_in c.loop-line.line-iterator) _
     (ap (map values_in) c.in-None.ensures.steps.0) c.loop-line.invariant.left

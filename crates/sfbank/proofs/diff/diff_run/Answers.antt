@@ -2,7 +2,7 @@ use Rattle.std.proofs.Common.{◌≡◌, ◌∙◌, []}
 use Rattle.edit_script.specs.Printing.{texts_of}
 use Rattle.script_of_bank.specs.LeadsTo.{Leads, edits_between}
 use Rattle.sfbank.specs.Differences.{TwoBanks}
-use Rattle.sfbank.proofs.Differences.{printed_leads, replacement_is, sends_difference, writes_nothing, ends_in_memory}
+use Rattle.sfbank.proofs.Differences.{printed_leads, replacement_is, runs_difference, writes_nothing, ends_in_memory}
 use Rattle.sfbank.proofs.Restores.{are_bytes}
 use Rattle.sfbank.proofs.diff.diff_run.Goals as goal
 
@@ -13,7 +13,7 @@ returns-in-Some-clause-runs g c =
     let banks : TwoBanks = record { first = c.in_ok-from.from; second = c.in_ok-from.to } in
     let found = rw c.in-Some.is at c.in_ok-edits.ensures.found in
     let leads : Leads banks.first c.as_slice.result.now banks.second = rw c.as_slice.ensures.value found in
-    sends_difference _ _ a b banks (texts_of c.as_slice.result.now) c.deliver_edits.result
+    runs_difference _ _ a b banks (texts_of c.as_slice.result.now) c.deliver_edits.result
     (are_bytes a c.type_inv.first) c.in_ok-from.ensures
     (printed_leads banks c.as_slice.result.now leads) c.deliver_edits.ensures
 
@@ -25,7 +25,7 @@ returns-clause-runs g c =
     let script =
     replacement_is a b banks (are_bytes a c.type_inv.first) (are_bytes b c.type_inv.second) c.in_ok-from.ensures
     in
-    sends_difference _ _ a b banks (texts_of (edits_between banks.first banks.second)) c.deliver_replacement.result
+    runs_difference _ _ a b banks (texts_of (edits_between banks.first banks.second)) c.deliver_replacement.result
     (are_bytes a c.type_inv.first) c.in_ok-from.ensures
     script c.deliver_replacement.ensures
 

@@ -1,6 +1,6 @@
 use Rattle.sfbank.proofs.Neutral.{of_every}
 use Rattle.sfbank.proofs.Restores.{are_bytes, restores}
-use Rattle.sfbank.proofs.RenderLaws.{sounds_again}
+use Rattle.sfbank.proofs.RenderLaws.{restored_renders_same}
 use Rattle.sfbank.proofs.edit.edit_run_with_progress.Goals as goal
 
 pub returns-clause-runs : goal.returns-clause-runs
@@ -10,4 +10,4 @@ pub returns-clause-restores : goal.returns-clause-restores
 returns-clause-restores g c = restores c.args.file.now c.args.script.now (are_bytes c.args.file.now c.type_inv.file)
 
 pub returns-clause-renders : goal.returns-clause-renders
-returns-clause-renders g c = sounds_again c.args.file.now c.args.script.now (are_bytes c.args.file.now c.type_inv.file)
+returns-clause-renders g c = restored_renders_same c.args.file.now c.args.script.now (are_bytes c.args.file.now c.type_inv.file)

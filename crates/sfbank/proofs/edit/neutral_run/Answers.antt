@@ -1,4 +1,4 @@
-use Rattle.sfbank.proofs.Neutral.{of_neutral, runs_edits, neutrally_restores, sounds_the_same}
+use Rattle.sfbank.proofs.Neutral.{of_neutral, runs_edits, neutrally_restores, edited_renders_same}
 use Rattle.sfbank.proofs.Restores.{are_bytes}
 use Rattle.sfbank.proofs.edit.neutral_run.Goals as goal
 
@@ -14,4 +14,4 @@ returns-clause-restores g c =
 
 pub returns-clause-renders : goal.returns-clause-renders
 returns-clause-renders g c =
-    sounds_the_same c.args.file.now c.args.script.now (are_bytes c.args.file.now c.type_inv.file)
+    edited_renders_same c.args.file.now c.args.script.now (are_bytes c.args.file.now c.type_inv.file)

@@ -10,32 +10,32 @@ returns-in_err-lines g c =
       prepared =
           rw (p.1, p.2)
           (at_script c.args.forms c.args.bank c.args.script.now c.in_err-lines.field-0.0
-          c.in_err-lines.ensures.answers);
+          c.in_err-lines.ensures.parsed);
     }
 
 pub returns-in_err-undo : goal.returns-in_err-undo
 returns-in_err-undo g c =
     let p = err_from_is_err_and c.from_residual-in_err-undo.result c.from_residual-in_err-undo.ensures.1 in
     let same =
-    at_these c.args.forms c.args.bank c.args.script.now c.in_ok-lines.lines.items _ c.in_ok-lines.ensures.answers
+    at_these c.args.forms c.args.bank c.args.script.now c.in_ok-lines.lines.items _ c.in_ok-lines.ensures.parsed
     c.as_slice.ensures.value c.in_ok-all_of.ensures in
     record {
       prepared =
           rw (p.1, p.2, same)
           (at_line c.args.bank c.args.script.now c.in_ok-lines.lines.items c.in_err-undo.field-0.0
-          c.in_ok-lines.ensures.answers c.in_err-undo.ensures.applied);
+          c.in_ok-lines.ensures.parsed c.in_err-undo.ensures.applied);
     }
 
 pub returns : goal.returns
 returns g c =
     let same =
-    at_these c.args.forms c.args.bank c.args.script.now c.in_ok-lines.lines.items _ c.in_ok-lines.ensures.answers
+    at_these c.args.forms c.args.bank c.args.script.now c.in_ok-lines.lines.items _ c.in_ok-lines.ensures.parsed
     c.as_slice.ensures.value c.in_ok-all_of.ensures in
     record {
       prepared =
           same
           ∙ at_done c.args.bank c.apply_all.new.bank c.args.script.now c.in_ok-lines.lines.items
-          c.in_ok-undo.undo.items c.in_ok-lines.ensures.answers c.in_ok-undo.ensures.applied;
+          c.in_ok-undo.undo.items c.in_ok-lines.ensures.parsed c.in_ok-undo.ensures.applied;
     }
 
 pub returns-in_err-all_of : goal.returns-in_err-all_of
@@ -45,6 +45,6 @@ returns-in_err-all_of g c =
       prepared =
           rw (p.1, p.2)
           (at_other (Unit {0}) c.args.forms c.args.bank c.args.script.now c.in_ok-lines.lines.items _
-          c.in_err-all_of.field-0.0 c.in_ok-lines.ensures.answers c.as_slice.ensures.value
+          c.in_err-all_of.field-0.0 c.in_ok-lines.ensures.parsed c.as_slice.ensures.value
           c.in_err-all_of.ensures);
     }

@@ -1,5 +1,5 @@
-use Rattle.sfbank.proofs.BankScripts.{remade_sounds}
+use Rattle.sfbank.proofs.BankScripts.{remade_renders_same}
 use Rattle.sfbank.proofs.laws.remade_banks_render_same.Goals as goal
 
 pub returns : goal.returns
-returns c = remade_sounds
+returns c = remade_renders_same

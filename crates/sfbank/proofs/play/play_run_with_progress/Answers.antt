@@ -2,7 +2,7 @@ use Rattle.std.proofs.Common.{Ok, sym, ap, ◌∙◌}
 use Rattle.std.proofs.lemmas.Result.{err_from_is_err_and}
 use Rattle.std.proofs.KnownBytes.{Keeps-refl}
 use Rattle.sfbank.proofs.Restores.{are_bytes}
-use Rattle.sfbank.proofs.RenderLaws.{play_not_read, not_noted, fits_wave, play_runs, sounds_in_canon}
+use Rattle.sfbank.proofs.RenderLaws.{play_not_read, not_noted, fits_wave, play_runs, canon_renders_same}
 use Rattle.sfbank.proofs.play.play_run_with_progress.Goals as goal
 
 pub returns-in_err-bank-clause-runs : goal.returns-in_err-bank-clause-runs
@@ -18,7 +18,7 @@ returns-in_err-notes-clause-runs g c =
     rw (p.1, p.2)
     (not_noted (Unit {0}) c.in_err-notes.field-0.0 (g.W.Write.contents c.args.out.now) c.args.file.now
     c.args.notes.now c.in_ok-bank.bank c.in_ok-bank._counts c.in_ok-bank.ensures.ok
-    c.in_err-notes.ensures.answers)
+    c.in_err-notes.ensures.parsed)
 
 pub returns-in_err-frames-clause-runs : goal.returns-in_err-frames-clause-runs
 returns-in_err-frames-clause-runs g c =
@@ -33,22 +33,22 @@ pub returns-clause-runs : goal.returns-clause-runs
 returns-clause-runs g c =
     play_runs _ _ c.args.file.now c.args.notes.now c.in_ok-bank.bank c.in_ok-bank._counts c.as_slice.result.now
     c.as_slice-2.result.now c.deliver_wave.result
-    c.in_ok-bank.ensures.ok (c.in_ok-notes.ensures.answers ∙ ap Ok (sym c.as_slice.ensures.value))
+    c.in_ok-bank.ensures.ok (c.in_ok-notes.ensures.parsed ∙ ap Ok (sym c.as_slice.ensures.value))
     (c.as_slice-2.ensures.value ∙ c.in_ok-frames.ensures.value) c.deliver_wave.ensures
 
 -- ---- the canonical file
 
 pub returns-in_err-bank-clause-canon : goal.returns-in_err-bank-clause-canon
 returns-in_err-bank-clause-canon g c =
-    sounds_in_canon c.args.file.now c.args.notes.now (are_bytes c.args.file.now c.type_inv.file)
+    canon_renders_same c.args.file.now c.args.notes.now (are_bytes c.args.file.now c.type_inv.file)
 
 pub returns-in_err-notes-clause-canon : goal.returns-in_err-notes-clause-canon
 returns-in_err-notes-clause-canon g c =
-    sounds_in_canon c.args.file.now c.args.notes.now (are_bytes c.args.file.now c.type_inv.file)
+    canon_renders_same c.args.file.now c.args.notes.now (are_bytes c.args.file.now c.type_inv.file)
 
 pub returns-in_err-frames-clause-canon : goal.returns-in_err-frames-clause-canon
 returns-in_err-frames-clause-canon g c =
-    sounds_in_canon c.args.file.now c.args.notes.now (are_bytes c.args.file.now c.type_inv.file)
+    canon_renders_same c.args.file.now c.args.notes.now (are_bytes c.args.file.now c.type_inv.file)
 
 pub returns-clause-canon : goal.returns-clause-canon
-returns-clause-canon g c = sounds_in_canon c.args.file.now c.args.notes.now (are_bytes c.args.file.now c.type_inv.file)
+returns-clause-canon g c = canon_renders_same c.args.file.now c.args.notes.now (are_bytes c.args.file.now c.type_inv.file)

@@ -6,7 +6,7 @@ use Rattle.voices.specs.VoiceState.{IsVoiceState}
 use Rattle.voices.specs.Sound.{snd}
 use Rattle.voices.specs.Runs.{IsAdded}
 use Rattle.sound_envelopes.proofs.WriteLaws.{below_piece, after_piece, in_piece}
-use Rattle.voices.proofs.RunLaws.{heard_added, later_added}
+use Rattle.voices.proofs.RunLaws.{frame_added, later_added}
 use Rattle.voices.proofs.adding.add_run.Goals as goal
 
 pub loop-at-init : goal.loop-at-init
@@ -59,8 +59,8 @@ loop-at-preserved c =
           let there : k / 2 < length c.fill_run.new.run = omega (arith, h, made) in
           later_added v c.args.age at k (get_or ys (at + k) (pos 0)) _ _ even
           (in_piece (pos 0) xs at (2 * n) k end h ∙ c.loop-at.invariant.rest (at + k) (omega arith))
-          (heard_added v (t + k / 2) (k % 2) _ _ _ _ _ (c.add_sides.ensures k (omega (arith, h, len)))
-          (c.fill_run.ensures.heard (k / 2) there)
+          (frame_added v (t + k / 2) (k % 2) _ _ _ _ _ (c.add_sides.ensures k (omega (arith, h, len)))
+          (c.fill_run.ensures.audible (k / 2) there)
           c.left_part.ensures.value c.right_part.ensures.value));
       rest = after_piece (pos 0) xs ys c.add_sides.new.sums at (2 * n) end len c.loop-at.invariant.rest;
       room = grind (arith, common_steps, fits, made, c.loop-at.invariant.room);

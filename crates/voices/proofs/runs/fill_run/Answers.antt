@@ -5,8 +5,8 @@ use Rattle.std.proofs.lemmas.List.{places}
 use Rattle.zone_select.specs.Select.{Voice}
 use Rattle.voices.specs.VoiceState.{IsVoiceState}
 use Rattle.voices.specs.Sound.{frame_or_silence_at}
-use Rattle.sound_envelopes.proofs.WriteLaws.{below_piece, below_front}
-use Rattle.voices.proofs.RunLaws.{heard_is, heard_over}
+use Rattle.sound_envelopes.proofs.WriteLaws.{below_piece, below_prefix}
+use Rattle.voices.proofs.RunLaws.{frame_if_sounding, silence_if_over}
 use Rattle.voices.proofs.OverLaws.{state_stays}
 use Rattle.voices.proofs.runs.fill_run.Goals as goal
 
@@ -19,8 +19,8 @@ loop-at-init c = record {
   done = λ k h. absurd (omega (arith, h));
 }
 
-pub returns-then-state-clause-heard : goal.returns-then-state-clause-heard
-returns-then-state-clause-heard c i h =
+pub returns-then-state-clause-audible : goal.returns-then-state-clause-audible
+returns-then-state-clause-audible c i h =
     let v : Voice = record { points = c.args.points.now; parameters = c.args.v.now } in
     let at = c.loop-at.at in
     let xs = c.loop-at.run in
@@ -32,10 +32,10 @@ returns-then-state-clause-heard c i h =
     c.fill.ensures.len ∙ (let e : length (take m (drop at xs)) ≡ m = grind (arith, common_steps, inside) in e) in
     let long : length (take at xs ++ (new ++ drop m (drop at xs))) ≡ length xs =
     grind (arith, common_steps, inside, len) in
-    below_front (pos 0) (λ k y. y ≡ frame_or_silence_at v (c.args.age + k)) xs new at m m (omega (arith, whole)) len
+    below_prefix (pos 0) (λ k y. y ≡ frame_or_silence_at v (c.args.age + k)) xs new at m m (omega (arith, whole)) len
     (omega arith) c.loop-at.invariant.done
     (λ k l. (let zero : get_or new k (pos 0) ≡ pos 0 = search (rules, places) in zero)
-    ∙ sym (heard_over v (c.args.age + at) (c.args.age + (at + k))
+    ∙ sym (silence_if_over v (c.args.age + at) (c.args.age + (at + k))
     (sym c.loop-at.invariant.here.over ∙ c.if-state.true) (omega arith)))
     i (omega (arith, h, long, whole))
 
@@ -68,6 +68,6 @@ loop-at-preserved c =
           c.fill_by_stages.ensures.state;
       done = below_piece (pos 0) (λ k y. y ≡ frame_or_silence_at v (c.args.age + k)) xs new at n end len c.loop-at.invariant.done
           (λ k h. c.fill_by_stages.ensures.sounds k (omega (arith, h, len))
-          ∙ sym (heard_is v (c.args.age + at + k) (c.stretch-n.ensures.one_way.sounds k h))
+          ∙ sym (frame_if_sounding v (c.args.age + at + k) (c.stretch-n.ensures.is_stretch.sounds k h))
           ∙ ap (frame_or_silence_at v) (let e : c.args.age + at + k ≡ c.args.age + (at + k) = omega arith in e));
     }

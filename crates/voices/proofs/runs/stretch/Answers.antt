@@ -2,14 +2,14 @@ use Rattle.std.proofs.Common.{arith, sym, ◌∙◌}
 use Rattle.voices.proofs.RunLaws.{stretch_is, differ, near_is}
 use Rattle.voices.proofs.runs.stretch.Goals as goal
 
-pub returns-then-is_looping_at-clause-one_way : goal.returns-then-is_looping_at-clause-one_way
-returns-then-is_looping_at-clause-one_way c =
+pub returns-then-is_looping_at-clause-is_stretch : goal.returns-then-is_looping_at-clause-is_stretch
+returns-then-is_looping_at-clause-is_stretch c =
     stretch_is c.args.v.now c.args.t _ c.requires.loop_is c.frames_ahead-n.ensures.young
     c.frames_ahead-n.ensures.unreleased c.frames_ahead-n.ensures.held
     (λ e. absurd (differ _ (sym c.is_looping_at.ensures ∙ c.if-is_looping_at.true) e))
 
-pub returns-clause-one_way : goal.returns-clause-one_way
-returns-clause-one_way c =
+pub returns-clause-is_stretch : goal.returns-clause-is_stretch
+returns-clause-is_stretch c =
     stretch_is c.args.v.now c.args.t _ c.requires.loop_is
     (let e = c.frames_ahead-n.ensures.young in let f = c.frames_before.ensures.most in omega arith)
     (let e = c.frames_ahead-n.ensures.unreleased in let f = c.frames_before.ensures.most in omega arith)

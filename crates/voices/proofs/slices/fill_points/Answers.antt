@@ -5,9 +5,9 @@ use Rattle.voices.specs.Runs.{IsStretch, interpolated_pair}
 use Rattle.voices.proofs.RunLaws.{same_part}
 use Rattle.voices.proofs.slices.fill_points.Goals as goal
 
-pub fill_pairs-behind-requires-clause-one_way : goal.fill_pairs-behind-requires-clause-one_way
-fill_pairs-behind-requires-clause-one_way c =
-    subst (λ n. IsStretch c.args.v.now c.args.t n) (sym c.requires.long) c.requires.one_way
+pub fill_pairs-after_run-requires-clause-is_stretch : goal.fill_pairs-after_run-requires-clause-is_stretch
+fill_pairs-after_run-requires-clause-is_stretch c =
+    subst (λ n. IsStretch c.args.v.now c.args.t n) (sym c.requires.long) c.requires.is_stretch
 
 pub interpolate-requires-clause-near : goal.interpolate-requires-clause-near
 interpolate-requires-clause-near c =
@@ -19,8 +19,8 @@ pub returns-clause-points : goal.returns-clause-points
 returns-clause-points c i h =
     c.interpolate.ensures i h
     ∙ ap (interpolated_pair _) (same_part c.args.from c.args.v.now.phase_increment i)
-    ∙ c.fill_pairs-behind.ensures.pairs i
-    (omega (arith, h, c.interpolate.auto.run, c.fill_pairs-behind.auto.pairs, c.requires.long))
+    ∙ c.fill_pairs-after_run.ensures.pairs i
+    (omega (arith, h, c.interpolate.auto.run, c.fill_pairs-after_run.auto.pairs, c.requires.long))
 
 pub returns-clause-there : goal.returns-clause-there
-returns-clause-there c = c.fill_pairs-behind.ensures.there ∙ ap (λ n. position c.args.v.now (c.args.t + n)) c.requires.long
+returns-clause-there c = c.fill_pairs-after_run.ensures.there ∙ ap (λ n. position c.args.v.now (c.args.t + n)) c.requires.long

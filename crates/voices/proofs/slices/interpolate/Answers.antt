@@ -11,7 +11,7 @@ loop-k-preserved c =
     let k = c.loop-k.k in
     let pair = get_or c.args.pairs.now k 0 in
     let h = c.loop-k.invariant.here in
-    let said : c.between_pair.result ≡ interpolated_pair pair ((c.args.x + k * c.args.phase_increment) % 65536) =
+    let pair_value : c.between_pair.result ≡ interpolated_pair pair ((c.args.x + k * c.args.phase_increment) % 65536) =
     c.between_pair.ensures.value ∙ ap (interpolated_pair pair) (and_mask c.loop-k.position 16 ∙ ap (λ x. x % 65536) h) in
     let same : to_z w16 (of_z w16 (to_z w32 (of_z w32 c.between_pair.result))) ≡ c.between_pair.result =
     omega (arith, ints, c.between_pair.ensures.low, c.between_pair.ensures.high) in
@@ -21,5 +21,5 @@ loop-k-preserved c =
           below_set (pos 0)
           (λ k y. y ≡ interpolated_pair (get_or c.args.pairs.now k 0) ((c.args.x + k * c.args.phase_increment) % 65536))
           c.loop-k.run k _
-          (omega arith) c.loop-k.invariant.done (same ∙ said);
+          (omega arith) c.loop-k.invariant.done (same ∙ pair_value);
     }

@@ -1,5 +1,5 @@
 use Rattle.wave_file.specs.Wave.{WAVE}
-use Rattle.wave_file.proofs.ReadLaws.{riff_fails, window_says}
+use Rattle.wave_file.proofs.ReadLaws.{riff_fails, window_result}
 use Rattle.wave_file.proofs.reading.read_recording.Goals as goal
 
 pub returns-in_err-window : goal.returns-in_err-window
@@ -11,5 +11,5 @@ returns-in_err-window c =
 pub returns : goal.returns
 unfolding WAVE
 returns c =
-    window_says c.args.file.now c.in_ok-window.window.now c.read_window.result c.in_ok-window.ensures.0
+    window_result c.args.file.now c.in_ok-window.window.now c.read_window.result c.in_ok-window.ensures.0
     c.in_ok-window.ensures.1 c.read_window.ensures

@@ -13,4 +13,4 @@ returns g c =
     (chunk-even SAMPLER (sampler s) (sampler-even s)
     ∙ ap (λ (n : ℕ). chunk_head SAMPLER n ++ sampler s) (sym c.sampler_size.ensures.value))
     c.head.ensures
-    (puts_then _ _ c.put_sampler_head.ensures (puts_then _ _ c.put_loop.ensures c.put_held_pitch.ensures))
+    (puts_then _ _ c.put_sampler_head.ensures (puts_then _ _ c.put_loop.ensures c.put_stored_pitch.ensures))

@@ -8,28 +8,28 @@ use Rattle.zone_select.proofs.parameters.params.Goals as goal
 
 pub parameters_of-requires : goal.parameters_of-requires
 parameters_of-requires c =
-    points_few c.args.bank.now c.in_ok-chosen.chosen.sample c.in_ok-sample.sample.now c.soundness.ensures
+    points_few c.args.bank.now c.in_ok-selected_zones.selected_zones.sample c.in_ok-sample.sample.now c.soundness.ensures
     (sym c.in_ok-sample.ensures)
 
 pub returns-clause-voice : goal.returns-clause-voice
 returns-clause-voice c =
     ap (λ (v : VoiceParameters). Some v) c.parameters_of.ensures
-    ∙ parameters_by c.args.bank.now c.args.note.now c.args.pair (selected_pair_at c.args.bank.now c.in_ok-chosen.chosen)
-    c.in_ok-sample.sample.now (sym c.in_ok-chosen.ensures) (sym c.in_ok-sample.ensures)
+    ∙ parameters_by c.args.bank.now c.args.note.now c.args.pair (selected_pair_at c.args.bank.now c.in_ok-selected_zones.selected_zones)
+    c.in_ok-sample.sample.now (sym c.in_ok-selected_zones.ensures) (sym c.in_ok-sample.ensures)
 
 pub returns-clause-playable : goal.returns-clause-playable
 returns-clause-playable c = voices_playable c.args.bank.now c.args.note.now c.args.pair
 
-pub returns-in_err-chosen-clause-there : goal.returns-in_err-chosen-clause-there
-returns-in_err-chosen-clause-there c =
+pub returns-in_err-selected_zones-clause-there : goal.returns-in_err-selected_zones-clause-there
+returns-in_err-selected_zones-clause-there c =
     there_by c.args.bank.now c.args.note.now c.args.pair c.from_residual.result
-    (ap is_some c.from_residual.ensures ∙ ap is_some c.in_err-chosen.ensures)
+    (ap is_some c.from_residual.ensures ∙ ap is_some c.in_err-selected_zones.ensures)
 
 -- a chosen sample is in the bank
 lost : goal.After-from_residual-in_err-sample → ⊥
 lost c =
-    never_lost c.args.bank.now c.args.note.now c.args.pair (selected_pair_at c.args.bank.now c.in_ok-chosen.chosen)
-    c.soundness.ensures.valid (sym c.in_ok-chosen.ensures) (sym c.in_err-sample.ensures)
+    never_lost c.args.bank.now c.args.note.now c.args.pair (selected_pair_at c.args.bank.now c.in_ok-selected_zones.selected_zones)
+    c.soundness.ensures.valid (sym c.in_ok-selected_zones.ensures) (sym c.in_err-sample.ensures)
 
 pub returns-in_err-sample-clause-sample : goal.returns-in_err-sample-clause-sample
 returns-in_err-sample-clause-sample c = absurd (lost c)
@@ -43,4 +43,4 @@ returns-in_err-sample-clause-there c = absurd (lost c)
 pub returns-clause-there : goal.returns-clause-there
 returns-clause-there c =
     there_by c.args.bank.now c.args.note.now c.args.pair (Some c.parameters_of.result)
-    (ap is_some c.in_ok-chosen.ensures)
+    (ap is_some c.in_ok-selected_zones.ensures)

@@ -15,14 +15,14 @@ invariant_of-self-2 c =
     let a = c.silence_voices.new.ahead in
     let vs = c.silence_voices.new.voices.items in
     let new = c.drop_over.new.voices.items in
-    let lent : c.as_mut_slice.result.now ≡ new = grind (arith, common_steps) in
+    let slice_is : c.as_mut_slice.result.now ≡ new = grind (arith, common_steps) in
     let few : 0 < a.left → length vs + length new ≤ 32767 = λ some. let f = c.silence_voices.ensures.few some in
     grind (arith, common_steps, f, c.drop_over.ensures.bound) in
     let e : c.append.new.self.items ≡ vs ++ map (aged a.left) new =
     grind (arith, common_steps, c.in-Ok.ensures.items) in
     subst (IsAhead c.join.new.self) (sym e)
     (started_ahead a c.join.new.self vs new c.join.ensures.left c.silence_voices.ensures.ahead c.drop_over.ensures.young few
-    (λ qs h. subst (λ (ps : List PlayingVoice). AreSums c.join.new.self (qs ++ ps)) lent (c.join.ensures.sums qs h)))
+    (λ qs h. subst (λ (ps : List PlayingVoice). AreSums c.join.new.self (qs ++ ps)) slice_is (c.join.ensures.sums qs h)))
 
 pub returns-clause-done : goal.returns-clause-done
 unfolding after_start

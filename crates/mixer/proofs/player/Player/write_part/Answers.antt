@@ -4,7 +4,7 @@ use Rattle.mixer.specs.declared.playing.PlayingVoice.{PlayingVoice}
 use Rattle.mixer.specs.Events.{after_block, next_side}
 use Rattle.mixer.specs.Ahead.{rewound}
 use Rattle.mixer.proofs.Parts.{filter_all}
-use Rattle.mixer.proofs.AheadLaws.{none_playing, room_of, ahead_later, playing_later, heard_first}
+use Rattle.mixer.proofs.AheadLaws.{none_playing, room_of, ahead_later, playing_later, next_side_playing}
 use Rattle.mixer.proofs.player.Player.write_part.Goals as goal
 
 written_first : (new rest : List ℤ) (k : ℕ) → k < length new
@@ -19,11 +19,11 @@ returns-then-self-eq0-clause-heard g c k h =
     let now : vs ≡ c.args.self.now =
     sym (none_playing a vs none ∙ filter_all vs (c.sum_ahead.ensures.sounding none)) ∙ c.sum_ahead.ensures.same
     ∙ c.self.view_is in
-    let lent : c.as_mut_slice.result.now ≡ vs = grind (arith, common_steps) in
+    let slice_is : c.as_mut_slice.result.now ≡ vs = grind (arith, common_steps) in
     let size : length c.mix_part.new.out ≡ c.min-n.result = grind (arith, common_steps) in
     let l : k < length c.mix_part.new.out = omega (arith, h, size) in
     written_first c.mix_part.new.out (drop c.min-n.result c.args.out.now) k l
-    ∙ c.mix_part.ensures.value k l ∙ ap (λ (ps : List PlayingVoice). next_side ps k) (lent ∙ now)
+    ∙ c.mix_part.ensures.value k l ∙ ap (λ (ps : List PlayingVoice). next_side ps k) (slice_is ∙ now)
 
 pub returns-then-self-eq0-clause-live : goal.returns-then-self-eq0-clause-live
 unfolding after_block
@@ -56,7 +56,7 @@ returns-clause-heard g c k h =
     let l : k < length c.write_frames.new.out = omega (arith, h, size) in
     written_first c.write_frames.new.out (drop c.min-n-2.result c.args.out.now) k l
     ∙ c.write_frames.ensures.heard (map (rewound a.left) vs) c.sum_ahead.ensures.ahead.sums k l
-    ∙ heard_first a vs k
+    ∙ next_side_playing a vs k
     ∙ ap (λ (ps : List PlayingVoice). next_side ps k) (c.sum_ahead.ensures.same ∙ c.self.view_is)
 
 pub returns-clause-live : goal.returns-clause-live

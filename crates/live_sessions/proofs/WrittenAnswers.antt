@@ -11,13 +11,13 @@ use Rattle.live_sessions.specs.declared.live.LiveState.{LiveState}
 use Rattle.live_sessions.specs.declared.fault.LiveFault.{LiveFault}
 use Rattle.live_sessions.specs.AnswerTexts.{listing_now, IsWritten, IsReported}
 
-pub text_is_sent : {U : Type 0} (old new : Option (List ℕ)) (text : List ℕ) (delivered : Result ℕ WriteFault)
+pub text_is_written : {U : Type 0} (old new : Option (List ℕ)) (text : List ℕ) (delivered : Result ℕ WriteFault)
     (r : Result U LiveFault)
     → writing.Delivers old new text delivered → IsReported delivered r → IsWritten old new text r
-text_is_sent old new text (Ok total) (Ok u) d t = d
-text_is_sent old new text (Ok total) (Err why) d t = absurd t
-text_is_sent old new text (Err stop) (Ok u) d t = absurd t
-text_is_sent old new text (Err stop) (Err why) d t = rw t (d.0, d.1)
+text_is_written old new text (Ok total) (Ok u) d t = d
+text_is_written old new text (Ok total) (Err why) d t = absurd t
+text_is_written old new text (Err stop) (Ok u) d t = absurd t
+text_is_written old new text (Err stop) (Err why) d t = rw t (d.0, d.1)
 
 pub bank_is_listed : (counts : Counts) (s : LiveState) (b : Parts) → bank_now s.session ≡ Some b
     → listing_now counts s ≡ listing b counts

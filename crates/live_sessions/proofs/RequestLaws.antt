@@ -22,15 +22,15 @@ adds_then (Some x) (Some y) None xs ys p q = absurd q
 adds_then (Some x) (Some y) (Some z) xs ys p q = q ∙ ap (λ (l : List Saved). l ++ ys) p ∙ append_assoc x xs ys
 
 -- requests that write no frames and save nothing
-pub does_quietly : (old new : LiveState) (r : Request) (a : Answer) (pcm : Option (List ℕ)) (saved : Option (List Saved))
+pub does_without_output : (old new : LiveState) (r : Request) (a : Answer) (pcm : Option (List ℕ)) (saved : Option (List Saved))
     → RequestIs old r a new
     → frames_of old r a ≡ [] → saves_of old r a ≡ [] → Does old new r a pcm pcm saved saved
-does_quietly old new r a pcm saved h f s = record {
+does_without_output old new r a pcm saved h f s = record {
   session = h;
   frames = subst (λ (xs : List ℤ). Appends pcm pcm (flat_map sample_bytes xs)) (sym f) (Appends-nil pcm);
   saves = subst (λ (xs : List Saved). Adds saved saved xs) (sym s) (adds_nothing saved);
 }
 
-pub quietly_as : (old new : LiveState) (r s : Request) (a : Answer) (pcm : Option (List ℕ)) (saved : Option (List Saved))
+pub does_equal : (old new : LiveState) (r s : Request) (a : Answer) (pcm : Option (List ℕ)) (saved : Option (List Saved))
     → r ≡ s → Does old new s a pcm pcm saved saved → Does old new r a pcm pcm saved saved
-quietly_as old new r s a pcm saved e h = subst (λ (x : Request). Does old new x a pcm pcm saved saved) (sym e) h
+does_equal old new r s a pcm saved e h = subst (λ (x : Request). Does old new x a pcm pcm saved saved) (sym e) h

@@ -29,8 +29,8 @@ use Rattle.live_sessions.specs.AnswerTexts.{kind_of, listing_now, preamble, next
 use Rattle.live_sessions.specs.Steps.{RequestIs, StopsIn, FramesStop, Does, frames_of, saves_of, preamble_of, events_of}
 use Rattle.live_sessions.specs.Steps.{is_end}
 use Rattle.live_sessions.specs.Turns.{RequestResult, LineIs, Turn, Streams, answered, ends}
-use Rattle.live_sessions.specs.Runs.{Answers, AnswersOr, StopsLine}
-use Rattle.live_sessions.proofs.Doing.{adds_nothing}
+use Rattle.live_sessions.specs.Runs.{Answers, IsLineResult, StopsLine}
+use Rattle.live_sessions.proofs.RequestLaws.{adds_nothing}
 
 -- the outputs of a session
 abbrev pub around : Option (List ℕ) → Option (List ℕ) → Option (List Saved) → Streams
@@ -46,7 +46,7 @@ pub none_asked : (counts : Counts) (line : List ℕ) (s : LiveState) (o p : Opti
     → Answers counts line s s (around o p v) (around o p v) false
 none_asked counts line s o p v e = record {
   turn = turn_of line s None s;
-  said = refl;
+  line_is = refl;
   begins = refl;
   leaves = refl;
   passes = record {
@@ -107,63 +107,63 @@ failure_bare : (counts : Counts) (s : LiveState) (x : RequestResult) (why : Fail
 failure_bare counts s x (failures.Fault f) h = fault_bare counts s x f h
 failure_bare counts s x failures.OutOfMemory h = memory_bare counts s x
 
-failure_told : (counts : Counts) (line : List ℕ) (s : LiveState) (o n p : Option (List ℕ)) (v : Option (List Saved))
+failure_written : (counts : Counts) (line : List ℕ) (s : LiveState) (o n p : Option (List ℕ)) (v : Option (List Saved))
     (why : Failure RequestFault) (a : Answer)
     → Fails why (request_of (values_in line)) → a ≡ failure_answer why → Appends o n (answer_text a)
     → Answers counts line s s (around o p v) (around n p v) false
-failure_told counts line s o n p v why a h e sent =
+failure_written counts line s o n p v why a h e is_written =
     let b : Bare counts s (request_of (values_in line)) a =
     subst (λ (x : Answer). Bare counts s (request_of (values_in line)) x) (sym e)
     (failure_bare counts s (request_of (values_in line)) why h) in
     record {
       turn = turn_of line s (Some a) s;
-      said = refl;
+      line_is = refl;
       begins = refl;
       leaves = refl;
       passes = record {
         is = b.is;
-        answers = subst (λ (xs : List ℕ). Appends o n (xs ++ answer_text a)) (sym b.reported) sent;
+        answers = subst (λ (xs : List ℕ). Appends o n (xs ++ answer_text a)) (sym b.reported) is_written;
         pcm = subst (λ (xs : List ℤ). Appends p p (flat_map sample_bytes xs)) (sym b.frames) (Appends-nil p);
         saved = subst (λ (xs : List Saved). Adds v v xs) (sym b.saves) (adds_nothing v);
       };
       ends = b.ends;
     }
 
-failure_unsent : (counts : Counts) (line : List ℕ) (s : LiveState) (o n p : Option (List ℕ)) (v : Option (List Saved))
+failure_not_written : (counts : Counts) (line : List ℕ) (s : LiveState) (o n p : Option (List ℕ)) (v : Option (List Saved))
     (why : Failure RequestFault) (a : Answer) (f : LiveFault)
     → Fails why (request_of (values_in line)) → a ≡ failure_answer why → IsWritten {U = Next} o n (answer_text a) (Err f)
     → StopsLine counts line s (around o p v) (around n p v) f
-failure_unsent counts line s o n p v why a (fault.Answers k) h e sent =
+failure_not_written counts line s o n p v why a (fault.Answers k) h e is_written =
     let b : Bare counts s (request_of (values_in line)) a =
     subst (λ (x : Answer). Bare counts s (request_of (values_in line)) x) (sym e)
     (failure_bare counts s (request_of (values_in line)) why h) in
     record {
       turn = turn_of line s (Some a) s;
-      said = refl;
+      line_is = refl;
       begins = refl;
       stops = record {
         is = b.is;
-        within = subst (λ (xs : List ℕ). k ≤ length (xs ++ answer_text a)) (sym b.reported) sent.0;
-        answers = subst (λ (xs : List ℕ). Appends o n (take k (xs ++ answer_text a))) (sym b.reported) sent.1;
+        within = subst (λ (xs : List ℕ). k ≤ length (xs ++ answer_text a)) (sym b.reported) is_written.0;
+        answers = subst (λ (xs : List ℕ). Appends o n (take k (xs ++ answer_text a))) (sym b.reported) is_written.1;
         pcm = subst (λ (xs : List ℤ). Appends p p (flat_map sample_bytes xs)) (sym b.frames) (Appends-nil p);
         saved = subst (λ (xs : List Saved). Adds v v xs) (sym b.saves) (adds_nothing v);
       };
     }
-failure_unsent counts line s o n p v why a (fault.File g) h e sent = absurd sent
-failure_unsent counts line s o n p v why a fault.Memory h e sent = absurd sent
-failure_unsent counts line s o n p v why a fault.Input h e sent = absurd sent
-failure_unsent counts line s o n p v why a (fault.Pcm k) h e sent = absurd sent
+failure_not_written counts line s o n p v why a (fault.File g) h e is_written = absurd is_written
+failure_not_written counts line s o n p v why a fault.Memory h e is_written = absurd is_written
+failure_not_written counts line s o n p v why a fault.Input h e is_written = absurd is_written
+failure_not_written counts line s o n p v why a (fault.Pcm k) h e is_written = absurd is_written
 
 pub failure_answered : (counts : Counts) (line : List ℕ) (s : LiveState) (o n p : Option (List ℕ)) (v : Option (List Saved))
     (why : Failure RequestFault) (a : Answer) (r : Result Next LiveFault)
     → Fails why (request_of (values_in line)) → a ≡ failure_answer why → IsWritten o n (answer_text a) r
     → IfOk r (λ (x : Next). x ≡ next.Line)
-    → AnswersOr counts line s s (around o p v) (around n p v) r
-failure_answered counts line s o n p v why a (Ok x) h e sent goes =
+    → IsLineResult counts line s s (around o p v) (around n p v) r
+failure_answered counts line s o n p v why a (Ok x) h e is_written goes =
     subst (λ (y : Next). Answers counts line s s (around o p v) (around n p v) (is_last y)) (sym goes)
-    (failure_told counts line s o n p v why a h e sent)
-failure_answered counts line s o n p v why a (Err f) h e sent goes =
-    failure_unsent counts line s o n p v why a f h e sent
+    (failure_written counts line s o n p v why a h e is_written)
+failure_answered counts line s o n p v why a (Err f) h e is_written goes =
+    failure_not_written counts line s o n p v why a f h e is_written
 
 -- ---- a request
 
@@ -219,25 +219,25 @@ same_end old new asks.Quit (answer.WriteFault path n) h = absurd h
 same_end old new asks.Quit (answer.Rejected path f) h = absurd h
 
 -- the turn of a line with this request
-request_told : (counts : Counts) (line : List ℕ) (old new : LiveState) (r : Request) (a : Answer) (k : RequestKind)
+request_written : (counts : Counts) (line : List ℕ) (old new : LiveState) (r : Request) (a : Answer) (k : RequestKind)
     (next : Next) (o n p q : Option (List ℕ)) (v w : Option (List Saved))
     → request_of (values_in line) ≡ Ok (Some r) → k ≡ kind_of r → next ≡ next_of k → Does old new r a p q v w
     → Appends o n (preamble counts new k ++ answer_text a)
     → Answers counts line old new (around o p v) (around n q w) (is_last next)
-request_told counts line old new r a k next o n p q v w e kind_is next_is d sent =
+request_written counts line old new r a k next o n p q v w e kind_is next_is d is_written =
     let reported : preamble counts new k ≡ preamble_of counts old r a =
     ap (preamble counts new) kind_is ∙ same_reported counts old new r a d.session in
     let last : is_end r a ≡ is_last next =
     same_end old new r a d.session ∙ sym (ap is_last (next_is ∙ ap next_of kind_is)) in
     record {
       turn = turn_of line old (Some a) new;
-      said = refl;
+      line_is = refl;
       begins = refl;
       leaves = refl;
       passes = record {
         is = subst (λ (x : RequestResult). LineIs x old (Some a) new) (sym e) (inl d.session);
         answers = subst (λ (x : RequestResult). Appends o n (answered x (Some a) (preamble_of counts old) ++ answer_text a)) (sym e)
-            (subst (λ (xs : List ℕ). Appends o n (xs ++ answer_text a)) reported sent);
+            (subst (λ (xs : List ℕ). Appends o n (xs ++ answer_text a)) reported is_written);
         pcm =
             subst (λ (x : RequestResult). Appends p q (flat_map sample_bytes (answered x (Some a) (frames_of old)))) (sym e)
             d.frames;
@@ -246,20 +246,20 @@ request_told counts line old new r a k next o n p q v w e kind_is next_is d sent
       ends = ap (λ (x : RequestResult). ends x (Some a)) e ∙ last;
     }
 
-request_unsent : (counts : Counts) (line : List ℕ) (old new : LiveState) (r : Request) (a : Answer) (k : RequestKind)
+request_not_written : (counts : Counts) (line : List ℕ) (old new : LiveState) (r : Request) (a : Answer) (k : RequestKind)
     (o n p q : Option (List ℕ)) (v w : Option (List Saved)) (f : LiveFault)
     → request_of (values_in line) ≡ Ok (Some r) → k ≡ kind_of r → Does old new r a p q v w
     → IsWritten {U = Next} o n (preamble counts new k ++ answer_text a) (Err f)
     → StopsLine counts line old (around o p v) (around n q w) f
-request_unsent counts line old new r a k o n p q v w (fault.Answers m) e kind_is d sent =
+request_not_written counts line old new r a k o n p q v w (fault.Answers m) e kind_is d is_written =
     let reported : preamble counts new k ≡ preamble_of counts old r a =
     ap (preamble counts new) kind_is ∙ same_reported counts old new r a d.session in
     let S : List ℕ → Type 0 = λ xs. (m ≤ length (xs ++ answer_text a)) × Appends o n (take m (xs ++ answer_text a)) in
     let T : RequestResult → Type 0 = λ x. S (answered x (Some a) (preamble_of counts old)) in
-    let both : T (request_of (values_in line)) = subst T (sym e) (subst S reported sent) in
+    let both : T (request_of (values_in line)) = subst T (sym e) (subst S reported is_written) in
     record {
       turn = turn_of line old (Some a) new;
-      said = refl;
+      line_is = refl;
       begins = refl;
       stops = record {
         is = subst (λ (x : RequestResult). LineIs x old (Some a) new) (sym e) (inl d.session);
@@ -271,20 +271,20 @@ request_unsent counts line old new r a k o n p q v w (fault.Answers m) e kind_is
         saved = subst (λ (x : RequestResult). Adds v w (answered x (Some a) (saves_of old))) (sym e) d.saves;
       };
     }
-request_unsent counts line old new r a k o n p q v w (fault.File g) e kind_is d sent = absurd sent
-request_unsent counts line old new r a k o n p q v w fault.Memory e kind_is d sent = absurd sent
-request_unsent counts line old new r a k o n p q v w fault.Input e kind_is d sent = absurd sent
-request_unsent counts line old new r a k o n p q v w (fault.Pcm m) e kind_is d sent = absurd sent
+request_not_written counts line old new r a k o n p q v w (fault.File g) e kind_is d is_written = absurd is_written
+request_not_written counts line old new r a k o n p q v w fault.Memory e kind_is d is_written = absurd is_written
+request_not_written counts line old new r a k o n p q v w fault.Input e kind_is d is_written = absurd is_written
+request_not_written counts line old new r a k o n p q v w (fault.Pcm m) e kind_is d is_written = absurd is_written
 
 pub request_answered : (counts : Counts) (line : List ℕ) (old new : LiveState) (r : Request) (a : Answer) (k : RequestKind)
     (o n p q : Option (List ℕ)) (v w : Option (List Saved)) (result : Result Next LiveFault)
     → request_of (values_in line) ≡ Ok (Some r) → k ≡ kind_of r → Does old new r a p q v w
     → IsWritten o n (preamble counts new k ++ answer_text a) result → IfOk result (λ (x : Next). x ≡ next_of k)
-    → AnswersOr counts line old new (around o p v) (around n q w) result
-request_answered counts line old new r a k o n p q v w (Ok x) e kind_is d sent next_is =
-    request_told counts line old new r a k x o n p q v w e kind_is next_is d sent
-request_answered counts line old new r a k o n p q v w (Err f) e kind_is d sent next_is =
-    request_unsent counts line old new r a k o n p q v w f e kind_is d sent
+    → IsLineResult counts line old new (around o p v) (around n q w) result
+request_answered counts line old new r a k o n p q v w (Ok x) e kind_is d is_written next_is =
+    request_written counts line old new r a k x o n p q v w e kind_is next_is d is_written
+request_answered counts line old new r a k o n p q v w (Err f) e kind_is d is_written next_is =
+    request_not_written counts line old new r a k o n p q v w f e kind_is d is_written
 
 -- a request stops only by a fault of the writer of frames
 abbrev IsOfFrames : LiveFault → Type 0
@@ -317,7 +317,7 @@ pub request_stopped : (counts : Counts) (line : List ℕ) (old : LiveState) (r :
     → StopsLine counts line old (around o p v) (around o q w) f
 request_stopped counts line old r o p q v w (fault.Pcm n) e h = record {
   turn = turn_of line old None old;
-  said = refl;
+  line_is = refl;
   begins = refl;
   stops = record { request = r; is = e; stops = h; answers = Appends-nil o };
 }

@@ -5,7 +5,7 @@ use Rattle.std.proofs.lemmas.List.{length-drop, take_rest}
 use Rattle.sample_view.specs.Words.{words}
 use Rattle.voices.specs.Runs.{interpolated_pair, straight}
 use Rattle.voices.proofs.SliceLaws.{run_from, straight_is}
-use Rattle.voices.proofs.slices.fill_front.Goals as goal
+use Rattle.voices.proofs.slices.fill_prefix.Goals as goal
 
 pub read_straight-requires-clause-near : goal.read_straight-requires-clause-near
 read_straight-requires-clause-near c =

@@ -1,6 +1,6 @@
 use Rattle.std.proofs.Common.{rules, None, Some, sym}
 use Rattle.zone_select.proofs.SelectedPairLaws.{no_preset, no_zone, by_both}
-use Rattle.zone_select.proofs.selected_pair.chosen.Goals as goal
+use Rattle.zone_select.proofs.selected_pair.selected_zones.Goals as goal
 
 pub returns-in_err-preset : goal.returns-in_err-preset
 returns-in_err-preset c =

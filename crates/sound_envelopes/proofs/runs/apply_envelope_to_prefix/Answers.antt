@@ -4,7 +4,7 @@ use Rattle.sound_envelopes.specs.Envelope.{envelope}
 use Rattle.sound_envelopes.specs.Gain.{scaled_by}
 use Rattle.sound_envelopes.proofs.GainLaws.{full_level}
 use Rattle.sound_envelopes.proofs.PhaseLaws.{envelope_within}
-use Rattle.sound_envelopes.proofs.runs.apply_envelope_to_front.Goals as goal
+use Rattle.sound_envelopes.proofs.runs.apply_envelope_to_prefix.Goals as goal
 
 pub returns-clause-value : goal.returns-clause-value
 returns-clause-value c k h =
