@@ -1,2 +1,7 @@
+pub mod AppLaws
+pub mod CommandExamples
+pub mod CommandLaws
+pub mod FaultLaws
 mod GetterLaws
 mod RequestLaws
+pub mod WalkLaws

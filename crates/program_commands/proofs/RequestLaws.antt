@@ -1,9 +1,17 @@
 -- Requests of the command that was used.
-use Rattle.std.proofs.Common.{◌≡◌, ℕ, List, Option, Some, None, codes, option_map, sym, subst, arith}
-use Rattle.clap.specs.Words.{Row, Text}
+use Rattle.std.proofs.Common.{◌≡◌, ◌∙◌, ◌⊎◌, ◌&&◌, ℕ, Bool, true, false, refl, IsSome, Result, Ok, Err, List, Option}
+use Rattle.std.proofs.Common.{Some, None, codes, option_map, sym, subst, arith}
+use Rattle.clap.specs.Words.{App, HasKind, HasMatchesOf, Kinds, Row, Text, fault_of, is_simple_and_free}
+use Rattle.clap.specs.Words.{subcommand_of, subcommand_rows_of}
+use Rattle.clap.specs.declared.error.Error.{Error}
+use Rattle.clap.specs.declared.builder.ValueParser.TheVariants.{Names}
+use Rattle.clap.specs.declared.parser.matches.ArgMatches.{ArgMatches}
 use Rattle.program_commands.specs.declared.words.Request.{Request}
 use Rattle.program_commands.specs.declared.words.Request.TheVariants.{Explain}
-use Rattle.program_commands.specs.Words.{AreGiven, AsksFor, IsGiven, Number, command_of, operands_of}
+use Rattle.program_commands.specs.Commands.{IsSfbankApp, app_with, sfbank_app}
+use Rattle.program_commands.specs.Words.{AreGiven, AsksFor, AsksForNone, FailsByFault, FindsOne, IsGiven, IsParsedBy}
+use Rattle.program_commands.specs.Words.{Number, command_of, operands_of}
+use Rattle.program_commands.proofs.AppLaws.{fault_same, free_app, simple_app, subcommand_same}
 
 -- where both halves of a pair in an `Option` are known, the pair is
 pub both_known : {A X Y : Type 0} (f : A → X) (g : A → Y) (o : Option A) (x : X) (y : Y) → Some x ≡ option_map f o
@@ -33,3 +41,41 @@ explained {used} {name} {rows} used_is command request asked =
         → (n : ℕ) × IsGiven rows (Number (codes "N") 32 n)
     go (Explain n) is asked = (n, asked.1.0)
     go _ is asked = absurd (grind arith)
+
+-- what a command with the app of sfbank is asked for, the words ask sfbank for
+pub asked_of_sfbank : {app : App} → IsSfbankApp app → (words : List Text) (request : Request)
+    → IsParsedBy app words request → AsksFor (subcommand_of sfbank_app words) request
+asked_of_sfbank {app} is words request parsed =
+    let of_app : App → Type 0 = λ a. IsParsedBy a words request in
+    let of_used : Option (Text × List Row) → Type 0 = λ o. AsksFor o request in
+    subst of_used (subcommand_same is.0 is.1 words) (subst of_app is.2 parsed (simple_app is.0))
+
+-- a command with the app of sfbank fails by the faults of sfbank
+pub fails_as_sfbank : {app : App} → IsSfbankApp app → (words : List Text) (result : Result Request Error)
+    → (is_simple_and_free app ≡ true → FailsByFault app words result) → FailsByFault sfbank_app words result
+fails_as_sfbank {app} is words (Ok request) fails =
+    let of_app : App → Type 0 = λ a. is_simple_and_free a ≡ true → FailsByFault a words (Ok request) in
+    sym (fault_same is.0 is.1 words) ∙ subst of_app is.2 fails (free_app is.0)
+fails_as_sfbank {app} is words (Err e) fails =
+    let of_app : App → Type 0 = λ a. is_simple_and_free a ≡ true → FailsByFault a words (Err e) in
+    let Fails : Kinds → Option (Text × List Row) → Type 0 = λ kinds used. HasKind kinds e ⊎ AsksForNone used in
+    let with_fault : Kinds → Type 0 = λ kinds. Fails kinds (subcommand_of sfbank_app words) in
+    let with_used : Option (Text × List Row) → Type 0 = λ used. Fails (fault_of (app_with (Names is.0)) words) used in
+    subst with_fault (fault_same is.0 is.1 words)
+    (subst with_used (subcommand_same is.0 is.1 words) (subst of_app is.2 fails (free_app is.0)))
+
+-- the first of two conditions that hold
+first_of_both : (a b : Bool) → (a && b) ≡ true → a ≡ true
+first_of_both true b h = refl
+first_of_both false b h = h
+
+-- where no request is found among the matches, the words ask for none
+pub none_asked : (app : App) (words : List Text) (matches : ArgMatches) (found : Option Request)
+    → HasMatchesOf app words matches → is_simple_and_free app ≡ true
+    → FindsOne found (AsksFor (subcommand_rows_of matches)) → found ≡ None → AsksForNone (subcommand_of app words)
+none_asked app words matches found has free finds none request asked =
+    let of_used : Option (Text × List Row) → Type 0 = λ o. AsksFor o request in
+    let some : Option Request → Type 0 = λ o. IsSome o in
+    let used = (has (first_of_both _ _ free)).1 in
+    let bad : false ≡ true = subst some none (finds.1 request (subst of_used (sym used) asked)) in
+    absurd cc

@@ -1,8 +1,10 @@
 -- The operands of each request, and when the words of a command ask for it.
 use Rattle.std.specs.Prelude.{◌≡◌, ◌<◌, ◌^◌, ℕ, Bool, true, false, List, [], ◌∷◌, codes}
-use Rattle.std.specs.Prelude.{Option, Some, None, IfSome, IsSome}
+use Rattle.std.specs.Prelude.{◌⊎◌, MatchResult, Option, Result, Some, None, IfSome, IsSome}
 use Rattle.std.specs.Str.Parse.{IsNumeral, digits_value, without_leading_plus}
-use Rattle.clap.specs.Words.{App, Row, Text, first_of, found_of, is_simple, one_of, rows_of, subcommand_of}
+use Rattle.clap.specs.Words.{App, HasKind, Row, Text, fault_of, first_of, found_of, is_simple, one_of, rows_of}
+use Rattle.clap.specs.Words.{subcommand_of}
+use Rattle.clap.specs.declared.error.Error.{Error}
 use Rattle.clap.specs.declared.parser.matches.ArgMatches.{ArgMatches}
 use Rattle.bank_changes.specs.declared.members.Owner.{Owner}
 use Rattle.bank_changes.specs.declared.members.Owner.TheVariants.{Preset, Inst}
@@ -144,3 +146,14 @@ AsksFor (Some used) request = (used.0 ≡ command_of request) × AreGiven used.1
 -- these words ask a program with these commands for this request, if clap states how it reads such commands
 abbrev pub IsParsedBy : App → List Text → Request → Type 0
 IsParsedBy app words request = is_simple app ≡ true → AsksFor (subcommand_of app words) request
+
+-- the command that was used asks for no request
+abbrev pub AsksForNone : Option (Text × List Row) → Type 0
+AsksForNone used = (request : Request) → AsksFor used request → ⊥
+
+-- there is a request only if clap finds no fault in the words; an error is `OutOfMemory`, or has a kind of the fault,
+-- or the words ask for no request
+abbrev pub FailsByFault : App → List Text → Result Request Error → Type 0
+FailsByFault app words result = MatchResult result
+    (λ request. fault_of app words ≡ [])
+    (λ e. HasKind (fault_of app words) e ⊎ AsksForNone (subcommand_of app words))

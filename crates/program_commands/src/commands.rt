@@ -1,5 +1,10 @@
 //! The program's commands, described for clap.
+ghost use Rattle.std.specs.Prelude.{◌≡◌, IfOk, false, fold, map};
+ghost use Rattle.clap.specs.Words.{app_of, rule_of, shape_of, with_subcommand};
+ghost use Rattle.program_commands.specs.Commands.{argument_of, command_in, rule_for, rule_for_option};
+ghost use Rattle.program_commands.specs.Commands.{rule_for_required, shape_for, IsSfbankApp};
 
+use clap::builder::ValueParser;
 use clap::{Arg, ArgAction, Command, value_parser};
 use std::alloc::{AllocError, Global};
 
@@ -195,43 +200,64 @@ static COMMANDS: [Entry; 12] = [
 ];
 
 /// Describes the program and all its commands.
-pub(crate) fn sfbank_command<'a>(alloc: Global) -> Result<Command<'a>, AllocError> {
+pub(crate) fn sfbank_command<'a>(alloc: Global) -> Result<Command<'a>, AllocError>
+    ensures { IfOk result (λ command. IsSfbankApp (app_of command)) }
+{
     let command = Command::new(alloc, NAME)
         .bin_name(NAME)?
         .version("0.1.0")
         .about("Edits SoundFont 2 banks by scripts, writes their undo scripts, and plays banks")
         .subcommand_required(true)
         .arg_required_else_help(true);
-    with_commands(alloc, command, &COMMANDS)
+    with_commands(
+        alloc,
+        command,
+        &COMMANDS,
+        ValueParser::from(LEVELS.as_slice()),
+    )
 }
 
+/// Adds the commands. They get the parser of levels from the caller, so that the contracts can name it.
 fn with_commands<'a>(
     alloc: Global,
     mut command: Command<'a>,
     entries: &[Entry],
-) -> Result<Command<'a>, AllocError> {
+    levels: ValueParser<'a>,
+) -> Result<Command<'a>, AllocError>
+    ensures { IfOk result (λ all. app_of all ≡ fold with_subcommand (app_of command.entry)
+        (map (λ entry. shape_for levels.entry (command_in entry)) entries.now)) }
+{
     for entry in entries {
-        let subcommand = command_of(alloc, entry)?;
+        let subcommand = command_of(alloc, entry, levels)?;
         command = command.subcommand(subcommand)?;
     }
     Ok(command)
 }
 
-fn command_of<'a>(alloc: Global, entry: &Entry) -> Result<Command<'a>, AllocError> {
+fn command_of<'a>(
+    alloc: Global,
+    entry: &Entry,
+    levels: ValueParser<'a>,
+) -> Result<Command<'a>, AllocError>
+    ensures { IfOk result (λ command. shape_of command ≡ shape_for levels.entry (command_in entry.now)) }
+{
     let mut command = Command::new(alloc, entry.name)
         .about(entry.about)
         .after_help(entry.example);
     for operand in entry.operands {
-        command = command.arg(arg_of(alloc, *operand))?;
+        command = command.arg(arg_of(alloc, *operand, levels))?;
     }
     Ok(command)
 }
 
-fn arg_of<'a>(alloc: Global, operand: Operand) -> Arg<'a> {
+fn arg_of<'a>(alloc: Global, operand: Operand, levels: ValueParser<'a>) -> Arg<'a>
+    ensures rule { rule_of result ≡ rule_for levels.entry (argument_of operand) }
+    ensures local { result.global ≡ false }
+{
     match operand {
         Operand::Path(name, help) => required(alloc, name, help),
         Operand::Number(name, help) => required(alloc, name, help).value_parser(value_parser!(u32)),
-        Operand::Level(name, help) => required(alloc, name, help).value_parser(LEVELS.as_slice()),
+        Operand::Level(name, help) => required(alloc, name, help).value_parser(levels),
         Operand::Flag(name, help) => option(alloc, name, help).action(ArgAction::SetTrue),
         Operand::Minor(name, help) => option(alloc, name, help)
             .value_name("N")
@@ -242,7 +268,10 @@ fn arg_of<'a>(alloc: Global, operand: Operand) -> Arg<'a> {
 }
 
 /// A required operand.
-fn required<'a>(alloc: Global, name: &'static str, help: &'static str) -> Arg<'a> {
+fn required<'a>(alloc: Global, name: &'static str, help: &'static str) -> Arg<'a>
+    ensures rule { rule_of result ≡ rule_for_required name.entry.now }
+    ensures local { result.global ≡ false }
+{
     Arg::new(alloc, name)
         .required(true)
         .action(ArgAction::Set)
@@ -250,6 +279,9 @@ fn required<'a>(alloc: Global, name: &'static str, help: &'static str) -> Arg<'a
 }
 
 /// An optional operand, written with two hyphens.
-fn option<'a>(alloc: Global, name: &'static str, help: &'static str) -> Arg<'a> {
+fn option<'a>(alloc: Global, name: &'static str, help: &'static str) -> Arg<'a>
+    ensures rule { rule_of result ≡ rule_for_option name.entry.now }
+    ensures local { result.global ≡ false }
+{
     Arg::new(alloc, name).long(name).help(help)
 }

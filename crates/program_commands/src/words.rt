@@ -1,8 +1,10 @@
 //! Reads a request from the words that the program was started with.
-ghost use Rattle.std.specs.Prelude.{◌≡◌, IfOk, codes, map, option_map};
-ghost use Rattle.clap.specs.Words.{app_of, first_of, subcommand_rows_of};
+ghost use Rattle.std.specs.Prelude.{◌≡◌, IfOk, codes, map, option_map, true};
+ghost use Rattle.clap.specs.Words.{app_of, first_of, is_simple_and_free, subcommand_of, subcommand_rows_of};
+ghost use Rattle.program_commands.specs.Commands.{sfbank_app};
 ghost use Rattle.program_commands.specs.Words.{Number, Flag, is_neutral, owner_operands, operands_of};
-ghost use Rattle.program_commands.specs.Words.{rows_in, AreGiven, AsksFor, FindsOne, IsGiven, IsParsedBy};
+ghost use Rattle.program_commands.specs.Words.{rows_in, AreGiven, AsksFor, FailsByFault, FindsOne, IsGiven};
+ghost use Rattle.program_commands.specs.Words.{IsParsedBy};
 
 use crate::commands::sfbank_command;
 use bank_changes::Owner;
@@ -161,7 +163,10 @@ pub struct WavePaths<'a> {
 
 /// Returns what the words ask for. The first word is the program's name. For `--help` and `--version` it returns an
 /// error of clap's that has the text to print.
-pub fn request_of<'a, S: AsStr>(alloc: Global, words: &'a [S]) -> Result<Request<'a>, Error> {
+pub fn request_of<'a, S: AsStr>(alloc: Global, words: &'a [S]) -> Result<Request<'a>, Error>
+    ensures request { IfOk result (λ request. AsksFor (subcommand_of sfbank_app (map S.text words.entry.now)) request) }
+    ensures fault { FailsByFault sfbank_app (map S.text words.entry.now) result }
+{
     let mut command = sfbank_command(alloc)?;
     parse_request(&mut command, words)
 }
@@ -170,7 +175,9 @@ fn parse_request<'a, S: AsStr>(
     command: &mut Command<'a>,
     words: &'a [S],
 ) -> Result<Request<'a>, Error>
-    ensures { IfOk result (λ request. IsParsedBy (app_of command.old) (map S.text words.entry.now) request) }
+    ensures request { IfOk result (λ request. IsParsedBy (app_of command.old) (map S.text words.entry.now) request) }
+    ensures fault { is_simple_and_free (app_of command.old) ≡ true
+        → FailsByFault (app_of command.old) (map S.text words.entry.now) result }
 {
     let matches = command.try_get_matches_from_mut(words)?;
     match request_in(&matches) {
