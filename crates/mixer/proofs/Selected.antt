@@ -41,13 +41,13 @@ pub note_voices_last : (b : Parts) (n : Numbers) (qs : List (ℕ × ℕ)) (ps al
     → ps ++ map (playing n) (voices_of b n qs) ≡ all → ps ≡ all
 note_voices_last b n qs ps all e h = sym (append-nil ps) ∙ ap (λ rs. ps ++ map (playing n) (voices_of b n rs)) (sym e) ∙ h
 
-pub started_is : (n : Numbers) (o : Option Voice) (l : Live) (bank number : ℕ) → option_map starts.note_voices o ≡ Some l
+pub started_is : (n : Numbers) (o : Option Voice) (l : Live) (bank number : ℕ) → option_map starts.at_first_frame o ≡ Some l
     → bank ≡ n.bank → number ≡ n.number
     → (let p : PlayingVoice = record { voice = l; bank = bank; number = number } in p) ∷ [] ≡ map (playing n) (listed o)
 unfolding playing
 started_is n None l bank number e f g = absurd cc
 started_is n (Some v) l bank number e f g =
-    let h : l ≡ starts.note_voices v = cc in λ j. record { voice = h j; bank = f j; number = g j } ∷ []
+    let h : l ≡ starts.at_first_frame v = cc in λ j. record { voice = h j; bank = f j; number = g j } ∷ []
 
 -- ---- their releases
 
