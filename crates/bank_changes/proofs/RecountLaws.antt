@@ -38,12 +38,12 @@ swapped at t r s =
 
 -- `fewer` are the totals without the old records
 module _ (at : Level) (totals fewer now : Totals) (before after : Records)
-    (taken : with_records at fewer before ≡ totals)
+    (removal_is : with_records at fewer before ≡ totals)
     (became : with_records at now before ≡ with_records at totals after) where
   pub recounted_is : now ≡ with_records at fewer after
   recounted_is =
       (records_grow at).same now (with_records at fewer after) before
-      (became ∙ (ap (λ (t : Totals). with_records at t after) (sym taken) ∙ swapped at fewer before after))
+      (became ∙ (ap (λ (t : Totals). with_records at t after) (sym removal_is) ∙ swapped at fewer before after))
 
   pub recounted_value : broken now ≡ None → with_records_counted at fewer after ≡ now
   recounted_value e = records_within at fewer after (sym (ap broken recounted_is) ∙ e) ∙ sym recounted_is
@@ -51,7 +51,7 @@ module _ (at : Level) (totals fewer now : Totals) (before after : Records)
   pub recounted_limit : broken totals ≡ None → after ≡ all_counted after
       → broken (with_records_counted at fewer after) ≡ broken now
   recounted_limit e count =
-      records_broken at fewer after after ((records_grow at).within fewer before (ap broken taken ∙ e)) count
+      records_broken at fewer after after ((records_grow at).within fewer before (ap broken removal_is ∙ e)) count
       ∙ sym (ap broken recounted_is)
 
 -- ---- no more records than before

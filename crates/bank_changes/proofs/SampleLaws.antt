@@ -422,13 +422,13 @@ module _ (b : Parts) (i j : ℕ) (lt : i < length b.samples) (lu : j < length b.
 
 module _ (b : Parts) (t : Totals) (i : ℕ) (s : Sample) (n : ℕ) (counted : t ≡ totals_of b)
     (many : n ≡ length s.points) where
-  pub totals_grown : i ≤ length b.samples → with_sample t n ≡ totals_of (sample_added b i s)
-  totals_grown le =
+  pub totals_with_sample : i ≤ length b.samples → with_sample t n ≡ totals_of (sample_added b i s)
+  totals_with_sample le =
       ap (λ (u : Totals). with_sample u n) counted
       ∙ (ap (with_sample (totals_of b)) many ∙ sym (totals-added b i s le))
 
   pub room_for : i ≤ length b.samples → IsValid (sample_added b i s) → broken (with_sample t n) ≡ None
-  room_for le v = ap broken (totals_grown le) ∙ no_limit_of (sample_added b i s) v.limits
+  room_for le v = ap broken (totals_with_sample le) ∙ no_limit_of (sample_added b i s) v.limits
 
   pub had_sample : slice_get b.samples i ≡ Some s → (0 < t.samples) × (n + ZERO_POINTS ≤ t.points)
   had_sample e =

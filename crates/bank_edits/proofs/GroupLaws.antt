@@ -34,10 +34,10 @@ module _ (n : ℕ) (first now changed : Parts) (steps inverses : List Step) (s b
         (sym (reverse-append inverses (inverse now s ∷ [])));
   })
 
-  pub goes_on : (all : List Step) → SoFar n first now steps (drop n steps) inverses → n < length steps
+  pub one_more : (all : List Step) → SoFar n first now steps (drop n steps) inverses → n < length steps
       → s ≡ get_or steps n s → IsStepDone now changed s back
       → all ≡ inverses ++ back ∷ [] → SoFar (n + 1) first changed steps (drop (n + 1) steps) all
-  goes_on all so lt at done pushed =
+  one_more all so lt at done pushed =
       let seam : drop n steps ≡ s ∷ drop (suc n) steps =
       drop-cons steps n s lt ∙ ap (λ (x : Step). x ∷ drop (suc n) steps) (sym at) in
       let next : n + 1 ≡ suc n = omega arith in

@@ -24,7 +24,7 @@ use Rattle.edit_refusals.proofs.Accepted.{accepted, not_below}
 use Rattle.edit_forms.specs.declared.cause.Cause.TheVariants.{NoSuchInstrument, NoSuchSample}
 use Rattle.edit_refusals.proofs.Moves.{tests_move, moves_back}
 use Rattle.edit_refusals.proofs.OwnerLaws.{tests_add}
-use Rattle.edit_refusals.proofs.InstrumentLaws.{instrument_goes, sound_add_instrument, instrument_comes}
+use Rattle.edit_refusals.proofs.InstrumentLaws.{add_instrument_allowed, sound_add_instrument, remove_instrument_allowed}
 use Rattle.edit_refusals.proofs.InstrumentLaws.{sound_remove_instrument, there_of_rename_instrument}
 use Rattle.edit_refusals.proofs.InstrumentLaws.{moves_instrument, sound_move_instrument}
 use Rattle.bank_edits.proofs.UndoneBy.{IsAccepted, IsUndone, undone_by}
@@ -42,7 +42,7 @@ inverse_of_rename_instrument b i name old e = rw e refl
 pub undone_add_instrument : (b : Parts) (i : ℕ) (x : ZoneOwner (List ℕ)) → IsSound b
     → IsAccepted b (steps.Instrument (AddInstrument i x)) → IsUndone b (steps.Instrument (AddInstrument i x))
 undone_add_instrument b i x s t =
-    let le = (instrument_goes b i x t.fits.1 t.accepted).place in
+    let le = (add_instrument_allowed b i x t.fits.1 t.accepted).place in
     let size = length-insert b.instruments i x le in
     let there : slice_get (instrument_added b i x).instruments i ≡ Some x = slice_get-insert b.instruments i x le in
     undone_by b (steps.Instrument (AddInstrument i x)) (steps.Instrument (RemoveInstrument i)) s (record {
@@ -62,7 +62,7 @@ undone_add_instrument b i x s t =
 pub undone_remove_instrument : (b : Parts) (i : ℕ) → IsSound b → IsAccepted b (steps.Instrument (RemoveInstrument i))
     → IsUndone b (steps.Instrument (RemoveInstrument i))
 undone_remove_instrument b i s t =
-    let c = instrument_comes b i (accepted b (steps.Instrument (RemoveInstrument i)) t.accepted).tests in
+    let c = remove_instrument_allowed b i (accepted b (steps.Instrument (RemoveInstrument i)) t.accepted).tests in
     let lt = c.there in
     let (x, e) = slice_get-found b.instruments i lt in
     let less = length-remove b.instruments i lt in

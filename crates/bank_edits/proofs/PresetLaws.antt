@@ -21,7 +21,7 @@ use Rattle.edit_forms.specs.declared.cause.Cause.TheVariants.{NoSuchPreset, NoSu
 use Rattle.edit_refusals.proofs.Accepted.{not_below}
 use Rattle.edit_refusals.proofs.Moves.{tests_move, moves_back}
 use Rattle.edit_refusals.proofs.OwnerLaws.{tests_add}
-use Rattle.edit_refusals.proofs.PresetLaws.{preset_goes, sound_add_preset, there_of_remove_preset}
+use Rattle.edit_refusals.proofs.PresetLaws.{add_preset_allowed, sound_add_preset, there_of_remove_preset}
 use Rattle.edit_refusals.proofs.PresetLaws.{sound_remove_preset, moves_preset, sound_move_preset, there_of_set_head}
 use Rattle.bank_edits.proofs.UndoneBy.{IsAccepted, IsUndone, undone_by}
 use Rattle.edit_forms.specs.declared.presets.PresetStep.{PresetStep}
@@ -40,7 +40,7 @@ inverse_of_set_head b i name number bank old e = rw e refl
 pub undone_add_preset : (b : Parts) (i : ℕ) (p : ZoneOwner Head) → IsSound b
     → IsAccepted b (steps.Preset (AddPreset i p)) → IsUndone b (steps.Preset (AddPreset i p))
 undone_add_preset b i p s t =
-    let le = (preset_goes b i p t.fits.1 t.accepted).place in
+    let le = (add_preset_allowed b i p t.fits.1 t.accepted).place in
     let size = length-insert b.presets i p le in
     let there : slice_get (preset_added b i p).presets i ≡ Some p = slice_get-insert b.presets i p le in
     undone_by b (steps.Preset (AddPreset i p)) (steps.Preset (RemovePreset i)) s (record {
@@ -109,7 +109,8 @@ undone_set_head b i name number bank s t =
 
 -- ---- all these forms
 
-pub undone_preset : (b : Parts) (s : PresetStep) → IsSound b → IsAccepted b (steps.Preset s) → IsUndone b (steps.Preset s)
+pub undone_preset : (b : Parts) (s : PresetStep) → IsSound b → IsAccepted b (steps.Preset s)
+    → IsUndone b (steps.Preset s)
 undone_preset b (AddPreset i p) = undone_add_preset b i p
 undone_preset b (RemovePreset i) = undone_remove_preset b i
 undone_preset b (MovePreset i j) = undone_move_preset b i j

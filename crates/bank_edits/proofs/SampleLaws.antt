@@ -19,7 +19,8 @@ use Rattle.bank_changes.proofs.SampleLaws.{added_unused, length-sample_moved}
 use Rattle.edit_forms.specs.declared.samples.SampleStep.TheVariants.{RenameSample, AddSample, RemoveSample, MoveSample}
 use Rattle.edit_forms.specs.declared.step.Step.TheVariants as steps
 use Rattle.edit_refusals.proofs.Accepted.{accepted, not_below}
-use Rattle.edit_refusals.proofs.SampleLaws.{there_of_rename, goes_in, tests_add, sound_add, comes_out, sound_remove}
+use Rattle.edit_refusals.proofs.SampleLaws.{there_of_rename, add_sample_allowed, tests_add}
+use Rattle.edit_refusals.proofs.SampleLaws.{sound_add, remove_sample_allowed, sound_remove}
 use Rattle.edit_refusals.proofs.SampleLaws.{moves_sample, sound_move_sample}
 use Rattle.edit_forms.specs.declared.cause.Cause.TheVariants.{NoSuchSample}
 use Rattle.edit_refusals.proofs.Moves.{tests_move, moves_back}
@@ -61,7 +62,7 @@ undone_rename b i name s t =
 pub undone_add : (b : Parts) (i : ℕ) (x : Sample) → IsSound b → IsAccepted b (steps.Sample (AddSample i x))
     → IsUndone b (steps.Sample (AddSample i x))
 undone_add b i x s t =
-    let g = goes_in b i x (accepted b (steps.Sample (AddSample i x)) t.accepted).tests in
+    let g = add_sample_allowed b i x (accepted b (steps.Sample (AddSample i x)) t.accepted).tests in
     let le = g.place in
     let others = map (sample_renumbered (Insertion i)) b.samples in
     let same = length-map b.samples (sample_renumbered (Insertion i)) in
@@ -85,7 +86,7 @@ undone_add b i x s t =
 pub undone_remove : (b : Parts) (i : ℕ) → IsSound b → IsAccepted b (steps.Sample (RemoveSample i))
     → IsUndone b (steps.Sample (RemoveSample i))
 undone_remove b i s t =
-    let c = comes_out b i (accepted b (steps.Sample (RemoveSample i)) t.accepted).tests in
+    let c = remove_sample_allowed b i (accepted b (steps.Sample (RemoveSample i)) t.accepted).tests in
     let lt = c.there in
     let (x, e) = slice_get-found b.samples i lt in
     let less = length-remove b.samples i lt in
@@ -122,7 +123,8 @@ undone_move_sample b i j s t =
 
 -- ---- all these forms
 
-pub undone_sample : (b : Parts) (s : SampleStep) → IsSound b → IsAccepted b (steps.Sample s) → IsUndone b (steps.Sample s)
+pub undone_sample : (b : Parts) (s : SampleStep) → IsSound b → IsAccepted b (steps.Sample s)
+    → IsUndone b (steps.Sample s)
 undone_sample b (RenameSample i name) = undone_rename b i name
 undone_sample b (AddSample i s) = undone_add b i s
 undone_sample b (RemoveSample i) = undone_remove b i

@@ -24,10 +24,13 @@ use Rattle.edit_forms.specs.declared.settings.SettingStep.TheVariants.{SetGen, C
 use Rattle.edit_forms.specs.declared.step.Step.TheVariants as steps
 use Rattle.edit_refusals.proofs.Accepted.{accepted}
 use Rattle.edit_refusals.proofs.PlaceLaws.{some_settings, owner_stays_there, place_stays_there, mods_found}
-use Rattle.edit_refusals.proofs.SettingLaws.{AllowsThere, settings_allowed, GenGoes, gen_goes, tests_set_gen}
-use Rattle.edit_refusals.proofs.SettingLaws.{sound_set_gen, gen_comes, tests_clear_gen, sound_clear_gen, mods_changed}
+use Rattle.edit_refusals.proofs.SettingLaws.{AllowsThere, settings_allowed}
+use Rattle.edit_refusals.proofs.SettingLaws.{SetGenAllowed, set_gen_allowed, tests_set_gen}
+use Rattle.edit_refusals.proofs.SettingLaws.{sound_set_gen, clear_gen_allowed}
+use Rattle.edit_refusals.proofs.SettingLaws.{tests_clear_gen, sound_clear_gen, mods_changed}
 use Rattle.edit_refusals.proofs.SettingLaws.{still_no_link, none_inserted, none_left, none_exchanged, plain_found}
-use Rattle.edit_refusals.proofs.SettingLaws.{mod_goes, sound_add_mod, tests_add_mod, mod_comes, sound_remove_mod}
+use Rattle.edit_refusals.proofs.SettingLaws.{add_mod_allowed, sound_add_mod}
+use Rattle.edit_refusals.proofs.SettingLaws.{tests_add_mod, remove_mod_allowed, sound_remove_mod}
 use Rattle.edit_refusals.proofs.SettingLaws.{tests_remove_mod, mod_changes, sound_set_mod, tests_set_mod}
 use Rattle.bank_edits.proofs.UndoneBy.{IsAccepted, IsUndone, undone_by}
 use Rattle.std.proofs.lemmas.List.Edits.{length-insert, length-remove}
@@ -130,27 +133,27 @@ pub undone_set_gen : (b : Parts) (o : Owner) (at : Place) (op amount : ℕ) → 
     → IsAccepted b (steps.Setting o at (SetGen op amount)) → IsUndone b (steps.Setting o at (SetGen op amount))
 undone_set_gen b o at op amount s t = by (amount_of b o at op) refl
   where
-    goes : GenGoes b o at op amount
-    goes = gen_goes b o at op amount (accepted b (steps.Setting o at (SetGen op amount)) t.accepted).tests
+    allowed : SetGenAllowed b o at op amount
+    allowed = set_gen_allowed b o at op amount (accepted b (steps.Setting o at (SetGen op amount)) t.accepted).tests
 
     still : AllowsThere (gen_set b o at op amount) o at op
-    still = still_allows b o at op (λ s. with_gens (map.insert s.gens op amount) s) goes.allows
+    still = still_allows b o at op (λ s. with_gens (map.insert s.gens op amount) s) allowed.allows
 
     by : (found : Option ℕ) → amount_of b o at op ≡ found → IsUndone b (steps.Setting o at (SetGen op amount))
     by (Some was) e =
-        let new = read_set b o at op amount goes.allows in
+        let new = read_set b o at op amount allowed.allows in
         undone_by b (steps.Setting o at (SetGen op amount)) (steps.Setting o at (SetGen op was)) s (record {
           is = rw e refl;
           sound = sound_set_gen b o at op amount s t.fits.2.0 t.fits.2.1 t.accepted;
-          fits = (t.fits.0, t.fits.1, (t.fits.2.0, amount_fits b o at op was s goes.allows e));
+          fits = (t.fits.0, t.fits.1, (t.fits.2.0, amount_fits b o at op was s allowed.allows e));
           tests =
               tests_set_gen (gen_set b o at op amount) o at op was
-              (record { allows = still; is = is_generator b o at op was s goes.allows e });
+              (record { allows = still; is = is_generator b o at op was s allowed.allows e });
           restored = restored_set b o at op was amount e;
           redone = rw new refl;
         })
     by None e =
-        let new = read_set b o at op amount goes.allows in
+        let new = read_set b o at op amount allowed.allows in
         undone_by b (steps.Setting o at (SetGen op amount)) (steps.Setting o at (ClearGen op)) s (record {
           is = rw e refl;
           sound = sound_set_gen b o at op amount s t.fits.2.0 t.fits.2.1 t.accepted;
@@ -158,7 +161,7 @@ undone_set_gen b o at op amount s t = by (amount_of b o at op) refl
           tests =
               tests_clear_gen (gen_set b o at op amount) o at op
               (record { allows = still; was = amount; set = new });
-          restored = restored_new b o at op amount goes.allows e;
+          restored = restored_new b o at op amount allowed.allows e;
           redone = rw new refl;
         })
 
@@ -167,7 +170,7 @@ undone_set_gen b o at op amount s t = by (amount_of b o at op) refl
 pub undone_clear_gen : (b : Parts) (o : Owner) (at : Place) (op : ℕ) → IsSound b
     → IsAccepted b (steps.Setting o at (ClearGen op)) → IsUndone b (steps.Setting o at (ClearGen op))
 undone_clear_gen b o at op s t =
-    let g = gen_comes b o at op (accepted b (steps.Setting o at (ClearGen op)) t.accepted).tests in
+    let g = clear_gen_allowed b o at op (accepted b (steps.Setting o at (ClearGen op)) t.accepted).tests in
     let now : Parts = gen_cleared b o at op in
     let set = g.set in
     let none = read_cleared b o at op in
@@ -227,7 +230,7 @@ restored_set_mod b (owner.Inst i) at j was m e =
 pub undone_add_mod : (b : Parts) (o : Owner) (at : Place) (j : ℕ) (m : Modulator) → IsSound b
     → IsAccepted b (steps.Setting o at (AddMod j m)) → IsUndone b (steps.Setting o at (AddMod j m))
 undone_add_mod b o at j m s t =
-    let g = mod_goes b o at j m (accepted b (steps.Setting o at (AddMod j m)) t.accepted).tests in
+    let g = add_mod_allowed b o at j m (accepted b (steps.Setting o at (AddMod j m)) t.accepted).tests in
     let old : Settings = g.settings in
     let le = g.place in
     let size = length-insert old.mods j m le in
@@ -254,7 +257,7 @@ undone_add_mod b o at j m s t =
 pub undone_remove_mod : (b : Parts) (o : Owner) (at : Place) (j : ℕ) → IsSound b
     → IsAccepted b (steps.Setting o at (RemoveMod j)) → IsUndone b (steps.Setting o at (RemoveMod j))
 undone_remove_mod b o at j s t =
-    let c = mod_comes b o at j (accepted b (steps.Setting o at (RemoveMod j)) t.accepted).tests in
+    let c = remove_mod_allowed b o at j (accepted b (steps.Setting o at (RemoveMod j)) t.accepted).tests in
     let old : Settings = c.settings in
     let lt = c.index in
     let (m, e) = slice_get-found old.mods j lt in

@@ -30,9 +30,9 @@ use Rattle.edit_forms.specs.declared.zones.ZoneStep.TheVariants.{AddZone, Remove
 use Rattle.edit_forms.specs.declared.zones.ZoneStep.TheVariants.{JoinZone}
 use Rattle.edit_forms.specs.declared.step.Step.TheVariants as steps
 use Rattle.edit_refusals.proofs.Accepted.{accepted}
-use Rattle.edit_refusals.proofs.ZoneLaws.{zone_goes, tests_add_zone, sound_add_zone, comes_of_remove_zone}
+use Rattle.edit_refusals.proofs.ZoneLaws.{add_zone_allowed, tests_add_zone, sound_add_zone, can_remove_zone}
 use Rattle.edit_refusals.proofs.ZoneLaws.{tests_remove_zone, sound_remove_zone, moves_of_move_zone, tests_move_zone}
-use Rattle.edit_refusals.proofs.ZoneLaws.{sound_move_zone, goes_of_set_target, tests_set_target, sound_set_target}
+use Rattle.edit_refusals.proofs.ZoneLaws.{sound_move_zone, can_set_target, tests_set_target, sound_set_target}
 use Rattle.edit_refusals.proofs.ZoneLaws.{can_of_split_zone, tests_split_zone, sound_split_zone, can_of_join_zone}
 use Rattle.edit_refusals.proofs.ZoneLaws.{tests_join_zone, sound_join_zone}
 use Rattle.bank_edits.proofs.UndoneBy.{IsAccepted, IsUndone, undone_by}
@@ -41,8 +41,10 @@ use Rattle.bank_parts.specs.declared.parts.Head.{Head}
 use Rattle.bank_zone_ranges.specs.declared.axes.Axis.{Axis}
 use Rattle.bank_zone_ranges.specs.declared.axes.Keep.{Keep}
 use Rattle.bank_zone_ranges.specs.Ranges.{low_end, high_end, range_from, range_of, whole_range}
-use Rattle.bank_zone_ranges.specs.Splits.{lower_zone, upper_zone, split_in_two, zones_split, zone_split as split_in, joined}
-use Rattle.bank_zone_ranges.specs.Splits.{merged, zones_joined, zone_joined as joined_in, keep_for, is_splittable_at, is_joinable_at}
+use Rattle.bank_zone_ranges.specs.Splits.{lower_zone, upper_zone, split_in_two}
+use Rattle.bank_zone_ranges.specs.Splits.{zones_split, zone_split as split_in, joined}
+use Rattle.bank_zone_ranges.specs.Splits.{merged, zones_joined, zone_joined as joined_in}
+use Rattle.bank_zone_ranges.specs.Splits.{keep_for, is_splittable_at, is_joinable_at}
 use Rattle.bank_zone_ranges.specs.Undone.{own_low, own_amount}
 use Rattle.bank_zone_ranges.proofs.SplitLists.{first_split, second_split, first_merged, all_at}
 use Rattle.bank_zone_ranges.proofs.SplitLaws.{low_of_range, low_is_small, own_with, split_is_joinable, split_undone}
@@ -129,7 +131,7 @@ target_of_zone b (owner.Inst i) k zone e = ap (option_map (λ (z : Zone). z.targ
 pub undone_add_zone : (b : Parts) (o : Owner) (k : ℕ) (zone : Zone) → IsSound b
     → IsAccepted b (steps.Zone o (AddZone k zone)) → IsUndone b (steps.Zone o (AddZone k zone))
 undone_add_zone b o k zone s t =
-    let place = (zone_goes b o k zone (accepted b (steps.Zone o (AddZone k zone)) t.accepted).tests).place in
+    let place = (add_zone_allowed b o k zone (accepted b (steps.Zone o (AddZone k zone)) t.accepted).tests).place in
     let h = own_zones_there b o (λ count. k ≤ count) place in
     let le = h.holds in
     let size = length-insert h.member k zone le in
@@ -150,7 +152,7 @@ undone_add_zone b o k zone s t =
 pub undone_remove_zone : (b : Parts) (o : Owner) (k : ℕ) → IsSound b → IsAccepted b (steps.Zone o (RemoveZone k))
     → IsUndone b (steps.Zone o (RemoveZone k))
 undone_remove_zone b o k s t =
-    let (zone, e) = zone_found b o k (comes_of_remove_zone b o k t.accepted) in
+    let (zone, e) = zone_found b o k (can_remove_zone b o k t.accepted) in
     let h = zone_there b o k zone e in
     let lt : k < length h.member = slice_get-within h.member k zone h.holds in
     let less = length-remove h.member k lt in
@@ -197,7 +199,7 @@ undone_move_zone b o from to s t =
 pub undone_set_target : (b : Parts) (o : Owner) (k target : ℕ) → IsSound b
     → IsAccepted b (steps.Zone o (SetTarget k target)) → IsUndone b (steps.Zone o (SetTarget k target))
 undone_set_target b o k target s t =
-    let g = goes_of_set_target b o k target t.accepted in
+    let g = can_set_target b o k target t.accepted in
     let (zone, e) = zone_found b o k g.there in
     let h = zone_there b o k zone e in
     let lt : k < length h.member = slice_get-within h.member k zone h.holds in

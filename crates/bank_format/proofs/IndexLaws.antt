@@ -24,34 +24,34 @@ use Rattle.bank_format.proofs.FitLaws.{sizes-append, total-by, length-by, Holds,
 -- ---- bags
 
 -- the bag after these, when the generator and modulator indexes start at g and m
-bag_behind : (xs ys : List Bagged) (g m : ℕ)
+bag_after : (xs ys : List Bagged) (g m : ℕ)
     → slice_get
     (zip_with bag (g ∷ ends g (sizes gens_in_bag (xs ++ ys))) (m ∷ ends m (sizes mods_in_bag (xs ++ ys))))
     (length xs)
     ≡ Some (bag (g + total (sizes gens_in_bag xs)) (m + total (sizes mods_in_bag xs)))
-bag_behind [] ys g m =
+bag_after [] ys g m =
     let gens : g ≡ g + 0 = omega arith in
     let mods : m ≡ m + 0 = omega arith in
     λ i. Some (bag (gens i) (mods i))
-bag_behind (x ∷ xs) ys g m =
+bag_after (x ∷ xs) ys g m =
     let gens : g + length x.gens + total (sizes gens_in_bag xs) ≡ g + total (sizes gens_in_bag (x ∷ xs)) =
     omega arith in
     let mods : m + length x.mods + total (sizes mods_in_bag xs) ≡ m + total (sizes mods_in_bag (x ∷ xs)) =
     omega arith in
-    bag_behind xs ys (g + length x.gens) (m + length x.mods) ∙ λ i. Some (bag (gens i) (mods i))
+    bag_after xs ys (g + length x.gens) (m + length x.mods) ∙ λ i. Some (bag (gens i) (mods i))
 
 -- the same, by the numbers of generators and modulators of these bags
-says : (bags xs ys : List Bagged) (zones gens mods : ℕ) → xs ++ ys ≡ bags → Holds xs zones gens mods
+split_holds : (bags xs ys : List Bagged) (zones gens mods : ℕ) → xs ++ ys ≡ bags → Holds xs zones gens mods
     → slice_get (bag_list bags) zones ≡ Some (bag gens mods)
 unfolding bag_list
-says bags xs ys zones gens mods all h =
+split_holds bags xs ys zones gens mods all h =
     let hg = h.gens_are in
     let hm = h.mods_are in
     let gens_are : 0 + total (sizes gens_in_bag xs) ≡ gens = omega (arith, hg) in
     let mods_are : 0 + total (sizes mods_in_bag xs) ≡ mods = omega (arith, hm) in
     ap (λ (l : List Bagged). slice_get (bag_list l) zones) (sym all)
     ∙ ap (slice_get (bag_list (xs ++ ys))) (sym h.zones_are)
-    ∙ bag_behind xs ys 0 0
+    ∙ bag_after xs ys 0 0
     ∙ λ i. Some (bag (gens_are i) (mods_are i))
 
 both_hold : (xs ys : List Bagged) (z g m z2 g2 m2 : ℕ) → Holds xs z g m → Holds ys z2 g2 m2
@@ -143,10 +143,10 @@ module _ {H : Type 0} (at : Level) where
         omega arith in ap (λ is. slice_get is i) e ∙ index_at i 0 os le ∙ ap Some sum;
     at_start =
         λ i le.
-        says (flat_map own_bags os) (flat_map own_bags (take i os)) (flat_map own_bags (drop i os)) _ _ _
+        split_holds (flat_map own_bags os) (flat_map own_bags (take i os)) (flat_map own_bags (drop i os)) _ _ _
         (split i os) (all_hold (take i os));
     at_zone = λ i j o found lt.
-        says (flat_map own_bags os) (flat_map own_bags (take i os) ++ bags_written at o.global (take j o.zones))
+        split_holds (flat_map own_bags os) (flat_map own_bags (take i os) ++ bags_written at o.global (take j o.zones))
         (map (zone_written at) (drop j o.zones) ++ flat_map own_bags (drop (suc i) os)) _ _ _
         (split-zones i j os o found)
         (both_hold _ _ _ _ _ _ _ _ (all_hold (take i os)) (holds at o.global (take j o.zones)));

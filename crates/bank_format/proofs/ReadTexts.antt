@@ -13,7 +13,7 @@ use Rattle.bank_format.specs.Texts.{text_in, engine_read, texts_read}
 use Rattle.bank_format.specs.Chunks.{body_in}
 use Rattle.bank_format.proofs.NameLaws.{before_zero-bytes, length-before_zero}
 use Rattle.bank_format.proofs.ReadBytes.{OfBytes, in_turn, body_bytes}
-use Rattle.bank_format.proofs.ReadWindows.{all_taken}
+use Rattle.bank_format.proofs.ReadWindows.{all_of_take}
 
 pub name_valid : (name : List ℕ) → AreBytes name → length name ≡ 20 → IsName (before_zero name)
 name_valid name b e = (omega (arith, e, length-before_zero name), before_zero-bytes name (in_turn name b))
@@ -23,7 +23,7 @@ text_valid : (n : ℕ) (name : List ℕ) (info : List Chunk) → AllByRecursion 
 text_valid n name info h =
     let bytes = in_turn (body_in name info) (body_bytes name info h) in (
       omega (arith, length-take n (text_in name info)),
-      all_taken IsTextByte n (text_in name info) (before_zero-bytes (body_in name info) bytes),
+      all_of_take IsTextByte n (text_in name info) (before_zero-bytes (body_in name info) bytes),
     )
 
 engine_valid : (text : List ℕ) → IsText 255 text → IsText 255 (engine_read text) × (0 < length (engine_read text))

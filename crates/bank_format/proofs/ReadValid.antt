@@ -33,12 +33,13 @@ use Rattle.bank_format.proofs.ReadBytes.{OfBytes, body_bytes, chunk_bytes, windo
 use Rattle.bank_format.proofs.ReadSamples.{ReadHead, heads_read, GoodHead, samples_valid, samples_fit}
 use Rattle.bank_format.proofs.ReadSamples.{point_total-read, total_small}
 use Rattle.bank_format.proofs.ReadTexts.{texts_valid, texts_fit}
-use Rattle.bank_format.proofs.ReadWindows.{all_taken, length-zip_with-le}
+use Rattle.bank_format.proofs.ReadWindows.{all_of_take, length-zip_with-le}
 use Rattle.bank_format.proofs.ReadTables.{windows_fit}
 use Rattle.bank_format.proofs.ReadMembers.{ReadPresetHead, ReadInstrumentHead, preset_heads_read}
 use Rattle.bank_format.proofs.ReadMembers.{instrument_heads_read, owners_valid, owners_fit, owners_within}
 use Rattle.bank_format.proofs.ReadMembers.{preset_named, preset_fits, instrument_named}
-use Rattle.bank_format.proofs.ReadUnbroken.{Unbroken, file_unbroken, few_records, few_in_windows, length-without_terminal}
+use Rattle.bank_format.proofs.ReadUnbroken.{Unbroken, file_unbroken}
+use Rattle.bank_format.proofs.ReadUnbroken.{few_records, few_in_windows, length-without_terminal}
 use Rattle.bank_format.proofs.ReadUnbroken.{good_heads}
 
 -- ---- tables read from bytes
@@ -57,7 +58,7 @@ or_zero_fit [] v = (modulator_end_fits, tt)
 or_zero_fit (m ∷ ms) v = v
 
 rows_hold : {X : Type 0} (P : X → Type 0) (xs : List X) → AllByRecursion P xs → AllByRecursion P (without_terminal xs)
-rows_hold P xs v = all_taken P (length xs - 1) xs v
+rows_hold P xs v = all_of_take P (length xs - 1) xs v
 
 tables_read : (pdta : List Chunk) → AllByRecursion OfBytes pdta → AreRead (tables_in pdta)
 unfolding tables_in

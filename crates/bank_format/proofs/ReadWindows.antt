@@ -27,10 +27,10 @@ indexes_held is n e =
 -- ---- a property of each element of the table
 
 module _ {X : Type 0} (P : X → Type 0) where
-  pub all_taken : (n : ℕ) (xs : List X) → AllByRecursion P xs → AllByRecursion P (take n xs)
-  all_taken zero xs v = tt
-  all_taken (suc n) [] v = tt
-  all_taken (suc n) (x ∷ xs) v = (v.0, all_taken n xs v.1)
+  pub all_of_take : (n : ℕ) (xs : List X) → AllByRecursion P xs → AllByRecursion P (take n xs)
+  all_of_take zero xs v = tt
+  all_of_take (suc n) [] v = tt
+  all_of_take (suc n) (x ∷ xs) v = (v.0, all_of_take n xs v.1)
 
   all_dropped : (n : ℕ) (xs : List X) → AllByRecursion P xs → AllByRecursion P (drop n xs)
   all_dropped zero xs v = v
@@ -42,7 +42,7 @@ module _ {X : Type 0} (P : X → Type 0) where
 
   all_from : (table : List X) (at : ℕ) (is : List ℕ) → AllOf table → AllByRecursion AllOf (windows_from table at is)
   all_from table at [] v = tt
-  all_from table at (i ∷ is) v = (all_taken (i - at) (drop at table) (all_dropped at table v), all_from table i is v)
+  all_from table at (i ∷ is) v = (all_of_take (i - at) (drop at table) (all_dropped at table v), all_from table i is v)
 
   pub all_windows : (table : List X) (is : List ℕ) → AllOf table → AllByRecursion AllOf (windows table is)
   all_windows table [] v = tt

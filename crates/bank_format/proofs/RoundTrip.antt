@@ -19,7 +19,8 @@ use Rattle.bank_format.specs.Tables.{Tables, tables_of}
 use Rattle.bank_format.specs.Canon.{list_of, info, sdta, pdta, lists, canon}
 use Rattle.bank_format.specs.Chunks.{window, list_window, chunks_of, tables_in}
 use Rattle.bank_format.specs.Reading.{content_of, content_in, no_counts}
-use Rattle.bank_format.specs.ReadChecks.{frame_checks, list_checks, content_checks, window_checks, checks, fault_of, ReadsAs}
+use Rattle.bank_format.specs.ReadChecks.{frame_checks, list_checks, content_checks}
+use Rattle.bank_format.specs.ReadChecks.{window_checks, checks, fault_of, ReadsAs}
 use Rattle.bank_format.proofs.CheckLaws.{then_none}
 use Rattle.bank_format.proofs.FormLaws.{same_bytes, form_window, form_holds}
 use Rattle.bank_format.proofs.BankLaws.{content, content-again}
@@ -193,13 +194,13 @@ module _ (b : Parts) (v : IsValid b) (f : Fits b) where
       then_none (frame_checks (canon b)) _ frame_holds
       (ap (λ (w : List ℕ). first_fault (window_checks w)) window_is ∙ window_holds)
 
-  says-again : content_in (window (canon b)) ≡ content b
+  same_content : content_in (window (canon b)) ≡ content b
   unfolding content_in
-  says-again =
+  same_content =
       ap content_in window_is
       ∙ (λ i. content_of (info_is i) (sdta_is i) (tables_are i))
       ∙ content-again b v f
 
   -- a canonical file reads as its bank, with all counts zero
   pub reads-again : ReadsAs (canon b) b no_counts
-  reads-again = (fault-again, says-again)
+  reads-again = (fault-again, same_content)

@@ -184,7 +184,7 @@ module _ {t : Flat} {owners : List (List Bag)} {i k : ℕ} {P : Bag → Type 0} 
       let more = b.more in
       let place : i + 1 ≡ suc (length b.front) = omega arith in
       let from = past_owner (end past_owner 0 b.front) s.gap.owner in
-      let behind : drop (i + 1) t.begins ≡ starts past_owner from b.back =
+      let following : drop (i + 1) t.begins ≡ starts past_owner from b.back =
       ap (λ p. drop p t.begins) place
       ∙
       (ap (λ (t : Flat). drop (suc (length b.front)) t.begins) b.same
@@ -193,7 +193,7 @@ module _ {t : Flat} {owners : List (List Bag)} {i k : ℕ} {P : Bag → Type 0} 
       record {
         place = omega arith;
         fits =
-            subst (All (λ at. 1 ≤ at)) (sym behind)
+            subst (All (λ at. 1 ≤ at)) (sym following)
             (All-starts past_owner (λ at. 1 ≤ at) (λ m x p. omega arith) from b.back (omega arith));
       }
 

@@ -130,9 +130,9 @@ rest_next zones k z e =
 
 -- ---- an owner without bags has no records
 
-pub none_behind : (owners : List (List Bag)) → all_bags (owners ++ [] ∷ []) ≡ all_bags owners
-none_behind [] = refl
-none_behind (xs ∷ os) = ap (λ bs. xs ++ bs) (none_behind os)
+pub append_no_bags : (owners : List (List Bag)) → all_bags (owners ++ [] ∷ []) ≡ all_bags owners
+append_no_bags [] = refl
+append_no_bags (xs ∷ os) = ap (λ bs. xs ++ bs) (append_no_bags os)
 
 -- ---- the bag of a zone, inserted and then given its target
 
@@ -296,7 +296,7 @@ pub owner_opens : (s t : Stored) (more : Records) (n : ℕ) → n ≡ length s.o
     → t.spare ≡ s.spare → HasRoom s more → HasRoom t more
 owner_opens s t more n last e spare h =
     let to : t.owners ≡ s.owners ++ [] ∷ [] = e ∙ (ap (λ n. insert s.owners n []) last ∙ insert-last s.owners []) in
-    let bags = ap all_bags to ∙ none_behind s.owners in
+    let bags = ap all_bags to ∙ append_no_bags s.owners in
     let b = ap (λ (c : Counts). c.bags) spare in
     let g = ap (λ (c : Counts). c.gens) spare in
     let m = ap (λ (c : Counts). c.mods) spare in

@@ -37,12 +37,12 @@ one_counted (Some b) gens mods r g m e =
     e ∙ (one_more (length gens + length mods) ∙ (λ t. length (g t) + length (m t) == 1))
 
 -- a record is removed from the bag, and the bag too if it was the last record
-pub record_goes : (owners : List (List Bag)) (i k : ℕ) (F : Bag → Bag) (one : Bool) {new : List (List Bag)}
+pub remove_record_at : (owners : List (List Bag)) (i k : ℕ) (F : Bag → Bag) (one : Bool) {new : List (List Bag)}
     {r : Bool}
     → IfSome (bag_at owners i k) (λ (b : Bag). r ≡ (bag_size b == 1)) → r ≡ one
     → new ≡ (if one then changed owners i (λ own. remove own k) else bag_changed owners i k F)
     → IfSome (bag_at owners i k) (λ (b : Bag). new ≡ record_removed owners i k F b)
-record_goes owners i k F one {new} {r} h is e =
+remove_record_at owners i k F one {new} {r} h is e =
     (elim (bag_at owners i k) as (λ o. IfSome o (λ (b : Bag). r ≡ (bag_size b == 1))
     → IfSome o (λ (b : Bag). new ≡ record_removed owners i k F b)) [
       | None ↦ λ h. tt

@@ -98,12 +98,12 @@ zone_read : (op : ℕ) (b : Bag) → ends_in op b.gens ≡ true → is_plain op 
     → FitEntries b.gens → ZoneRead op b
 unfolding map_of
 zone_read op b ends plain fit =
-    let stands = target_is_last op b.gens ends in
+    let ends_with_target = target_is_last op b.gens ends in
     let front =
-    all-front FitsEntry (without_last b.gens) ((op, last_amount b.gens) ∷ []) (subst FitEntries stands fit) in
+    all-front FitsEntry (without_last b.gens) ((op, last_amount b.gens) ∷ []) (subst FitEntries ends_with_target fit) in
     let m = plain_map op (without_last b.gens) plain front in
     let gens : entries (zone_in b).gens ++ (op, last_amount b.gens) ∷ [] ≡ b.gens =
-    ap (λ es. es ++ (op, last_amount b.gens) ∷ []) m.same ∙ sym stands in
+    ap (λ es. es ++ (op, last_amount b.gens) ∷ []) m.same ∙ sym ends_with_target in
     record { same = λ i. record { gens = gens i; mods = b.mods }; plain = m.plain }
 
 a_zone : (op : ℕ) (b : Bag) → is_own_bag op false b ≡ true

@@ -21,7 +21,8 @@ use Rattle.bank_parts.specs.Flat.{RepresentOwners}
 use Rattle.bank_parts.proofs.ListLaws.{set-left, put-left, cut-left, put-one, cut-one, length-insert, length-cut}
 use Rattle.bank_parts.proofs.BagSettings.{PlaceAt}
 use Rattle.bank_parts.proofs.PlaceChanges.{BagPlace, BarePlace, entries_are, place_at, place_gap, amount_is, of_mods}
-use Rattle.bank_parts.proofs.PlaceChanges.{no_entries, gens_size, place_kept, place_opened, place_sent, place_record_removed}
+use Rattle.bank_parts.proofs.PlaceChanges.{no_entries, gens_size, place_kept}
+use Rattle.bank_parts.proofs.PlaceChanges.{place_opened, place_sent, place_record_removed}
 use Rattle.bank_parts.proofs.GenLaws.{found_amount, no_amount, entries-set, entries-removed, nothing_removed}
 use Rattle.bank_parts.proofs.GenLaws.{entries-inserted, empty_gap, plain-insert, plain-remove}
 
@@ -183,7 +184,7 @@ module _ {H : Type 0} {op : ℕ} {heads : List H} {bags : List (List Bag)} {owne
         → IfSome (mods_at owners i at) (λ (mods : List Modulator). j < length mods)
         → IfSome (bag_at bags i n) (λ (b : Bag). bs ≡ mod_record_removed bags i n j b)
         → RepresentOwners op heads bs (mod_removed owners i at j)
-    mod_is_removed bs h taken =
+    mod_is_removed bs h removed =
         let own = b.own in
         let within = of_mods b.place (λ (mods : List Modulator). j < length mods) h in
         let same = ap length own.mods in
@@ -194,4 +195,4 @@ module _ {H : Type 0} {op : ℕ} {heads : List H} {bags : List (List Bag)} {owne
         ((λ t. record { gens = own.gens t; mods = cut (own.mods t) j 1 })
         ∙ ap (λ mods. record { gens = entries b.place.settings.gens ++ own.last; mods = mods })
         (cut-one b.place.settings.mods j within))
-        (omega arith) (omega arith) taken
+        (omega arith) (omega arith) removed

@@ -8,8 +8,9 @@ use Rattle.base_numbered_lists.specs.declared.renumbering.Renumbering.TheVariant
 use Rattle.base_numbered_lists.specs.Moved.{moved}
 use Rattle.base_numbered_lists.specs.Renumbered.{renumbered}
 use Rattle.base_numbered_lists.proofs.Lists.{slice_get-found, slice_get-insert_below, slice_get-insert_above}
-use Rattle.base_numbered_lists.proofs.Lists.{slice_get-remove_below, slice_get-remove_above, moved-found, slice_get-moved}
-use Rattle.base_numbered_lists.proofs.Numbers.{move_in_two, move_takes}
+use Rattle.base_numbered_lists.proofs.Lists.{slice_get-remove_below, slice_get-remove_above}
+use Rattle.base_numbered_lists.proofs.Lists.{moved-found, slice_get-moved}
+use Rattle.base_numbered_lists.proofs.Numbers.{move_in_two, move_renumbers}
 
 -- The cases of a number.
 insertion_at : (i k : ℕ)
@@ -42,7 +43,7 @@ pub move_followed : {X : Type 0} (xs : List X) (i j k : ℕ) → i < length xs �
     → slice_get (moved xs i j) (renumbered (Move i j) k) ≡ slice_get xs k
 move_followed xs i j k h l =
     elim (cases_eq k i) [
-      | inl same ↦ ap (slice_get (moved xs i j)) (move_takes i j k same)
+      | inl same ↦ ap (slice_get (moved xs i j)) (move_renumbers i j k same)
           ∙ (slice_get-moved xs i j h l ∙ ap (slice_get xs) (sym same))
       | inr ne ↦
           let (x, e) = slice_get-found xs i h in

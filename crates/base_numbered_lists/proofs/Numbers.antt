@@ -32,8 +32,8 @@ move_below i j x n k l h = grind (arith, nat_tests)
 pub move_in_two : (i j x : ℕ) → x ≢ i → renumbered (Move i j) x ≡ renumbered (Insertion j) (renumbered (Removal i) x)
 move_in_two i j x h = grind (arith, nat_tests)
 
-pub move_takes : (i j x : ℕ) → x ≡ i → renumbered (Move i j) x ≡ j
-move_takes i j x h = grind (arith, nat_tests)
+pub move_renumbers : (i j x : ℕ) → x ≡ i → renumbered (Move i j) x ≡ j
+move_renumbers i j x h = grind (arith, nat_tests)
 
 -- A change at the end of a list renumbers nothing
 

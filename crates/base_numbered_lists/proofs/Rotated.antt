@@ -28,9 +28,9 @@ slice_get-drop xs j i x e h =
     ∙ ap Some (get_or-drop j xs (i - j) x ∙ (ap (λ n. get_or xs n x) place ∙ get_or_from_slice_get xs i x x e))
 
 -- `rotate_left(1)` of the range from i to j.
-pub first_goes_last : {X : Type 0} (xs : List X) (i j k : ℕ) (x : X) → slice_get xs i ≡ Some x → i ≤ j → k ≡ suc (j - i)
+pub first_to_last : {X : Type 0} (xs : List X) (i j k : ℕ) (x : X) → slice_get xs i ≡ Some x → i ≤ j → k ≡ suc (j - i)
     → take i xs ++ ((drop 1 (take k (drop i xs)) ++ take 1 (take k (drop i xs))) ++ drop k (drop i xs)) ≡ moved xs i j
-first_goes_last xs i j k x e h size =
+first_to_last xs i j k x e h size =
     let within = slice_get-within xs i x e in
     let q = drop (suc i) xs in
     let before : length (take i xs) ≡ i = omega (arith, length-take i xs) in
@@ -43,10 +43,10 @@ first_goes_last xs i j k x e h size =
     ∙ sym (moved-found xs i j x e))))
 
 -- `rotate_right(1)` of the range from j to i.
-pub last_goes_first : {X : Type 0} (xs : List X) (i j k m : ℕ) (x : X) → slice_get xs i ≡ Some x → j ≤ i
+pub last_to_first : {X : Type 0} (xs : List X) (i j k m : ℕ) (x : X) → slice_get xs i ≡ Some x → j ≤ i
     → k ≡ suc (i - j) → m ≡ i - j
     → take j xs ++ ((drop m (take k (drop j xs)) ++ take m (take k (drop j xs))) ++ drop k (drop j xs)) ≡ moved xs i j
-last_goes_first xs i j k m x e h size most =
+last_to_first xs i j k m x e h size most =
     let within = slice_get-within xs i x e in
     let r = drop j xs in
     let n = i - j in

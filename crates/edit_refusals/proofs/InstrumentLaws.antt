@@ -22,7 +22,7 @@ use Rattle.edit_forms.specs.declared.cause.Cause.TheVariants.{NoSuchInstrument, 
 use Rattle.edit_forms.specs.Steps.{refusal, causes}
 use Rattle.edit_refusals.proofs.Accepted.{NoneApplies, accepted, below}
 use Rattle.edit_refusals.proofs.Moves.{Moves, moves}
-use Rattle.edit_refusals.proofs.OwnerLaws.{GoesIn, goes_in}
+use Rattle.edit_refusals.proofs.OwnerLaws.{AddOwnerAllowed, add_owner_allowed}
 use Rattle.edit_forms.specs.declared.instruments.InstrumentStep.{InstrumentStep}
 use Rattle.edit_forms.specs.Instruments as instruments
 use Rattle.edit_refusals.proofs.Rises.{rises}
@@ -30,18 +30,19 @@ use Rattle.edit_refusals.proofs.Rises.{rises}
 -- ---- add-inst
 
 module _ (b : Parts) (i : ℕ) (x : ZoneOwner (List ℕ)) where
-  abbrev pub InstrumentGoes : Type 0
-  InstrumentGoes = GoesIn (λ name. name) level.Inst (length b.samples) (length b.instruments) i x
+  abbrev pub AddInstrumentAllowed : Type 0
+  AddInstrumentAllowed = AddOwnerAllowed (λ name. name) level.Inst (length b.samples) (length b.instruments) i x
 
-  pub instrument_goes : FitsOwner IsName x → refusal b (steps.Instrument (AddInstrument i x)) ≡ None → InstrumentGoes
-  instrument_goes fits h =
-      goes_in (λ name. name) level.Inst (length b.samples) (length b.instruments) i x NoSuchSample fits.head
+  pub add_instrument_allowed : FitsOwner IsName x → refusal b (steps.Instrument (AddInstrument i x)) ≡ None
+      → AddInstrumentAllowed
+  add_instrument_allowed fits h =
+      add_owner_allowed (λ name. name) level.Inst (length b.samples) (length b.instruments) i x NoSuchSample fits.head
       (accepted b (steps.Instrument (AddInstrument i x)) h).tests
 
   pub sound_add_instrument : IsSound b → FitsOwner IsName x → refusal b (steps.Instrument (AddInstrument i x)) ≡ None
       → IsSound (instrument_added b i x)
   sound_add_instrument sound fits h =
-      let g = instrument_goes fits h in
+      let g = add_instrument_allowed fits h in
       sound_added_instrument b i x sound g.place g.is fits
       (accepted b (steps.Instrument (AddInstrument i x)) h).limits
 
@@ -54,17 +55,18 @@ module _ (b : Parts) (i : ℕ) (x : ZoneOwner (List ℕ)) where
 -- ---- remove-inst
 
 module _ (b : Parts) (i : ℕ) where
-  pub record InstrumentComes : Type 0 where
+  pub record RemoveInstrumentAllowed : Type 0 where
     pub there : i < length b.instruments
     pub free : instrument_in_use b i ≡ false
 
-  pub instrument_comes : NoneApplies (causes b (steps.Instrument (RemoveInstrument i))) → InstrumentComes
-  instrument_comes (there, (free, end)) = record { there = below (length b.instruments) i there; free = free }
+  pub remove_instrument_allowed : NoneApplies (causes b (steps.Instrument (RemoveInstrument i)))
+      → RemoveInstrumentAllowed
+  remove_instrument_allowed (there, (free, end)) = record { there = below (length b.instruments) i there; free = free }
 
   pub sound_remove_instrument : IsSound b → refusal b (steps.Instrument (RemoveInstrument i)) ≡ None
       → IsSound (instrument_removed b i)
   sound_remove_instrument sound h =
-      let c = instrument_comes (accepted b (steps.Instrument (RemoveInstrument i)) h).tests in
+      let c = remove_instrument_allowed (accepted b (steps.Instrument (RemoveInstrument i)) h).tests in
       sound_removed_instrument b i sound c.there c.free
 
   pub within_remove_instrument : IsSound b → i < length b.instruments → instrument_in_use b i ≡ false

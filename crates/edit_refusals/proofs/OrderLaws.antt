@@ -22,7 +22,7 @@ use Rattle.edit_refusals.specs.Order.{NumbersNeverFall, CauseApplies, IsLowest, 
 use Rattle.edit_forms.specs.declared.step.Step.TheVariants.{Preset, Instrument, Sample, Points, Zone, Setting, Text}
 use Rattle.edit_forms.specs.Zones as zones
 use Rattle.edit_forms.specs.Settings as settings
-use Rattle.edit_refusals.proofs.Rises.{rises, behind_owner, behind_place}
+use Rattle.edit_refusals.proofs.Rises.{rises, after_owner, after_place}
 use Rattle.edit_refusals.proofs.PresetLaws.{preset_rises}
 use Rattle.edit_refusals.proofs.InstrumentLaws.{instrument_rises}
 use Rattle.edit_refusals.proofs.SampleLaws.{sample_rises}
@@ -36,10 +36,10 @@ each_rises b (Preset s) = preset_rises b s
 each_rises b (Instrument s) = instrument_rises b s
 each_rises b (Sample s) = sample_rises b s
 each_rises b (Points i s) = points_rises b i s
-each_rises b (Zone o s) = behind_owner b o (zones.causes b o s) (zone_rises b o s)
+each_rises b (Zone o s) = after_owner b o (zones.causes b o s) (zone_rises b o s)
 each_rises b (Setting o at s) =
-    behind_owner b o (no_such_zone_at b o at ∷ settings.causes b o at s)
-    (behind_place b o at (settings.causes b o at s) (setting_rises b o at s))
+    after_owner b o (no_such_zone_at b o at ∷ settings.causes b o at s)
+    (after_place b o at (settings.causes b o at s) (setting_rises b o at s))
 each_rises b (Text s) = text_rises b s
 
 both : (x y : Bool) → (x && y) ≡ true → (x ≡ true) × (y ≡ true)
@@ -128,10 +128,10 @@ later t ts l other off (inl (suc k, x, lt, at, is)) = inl (k, x, omega (arith, l
 later t ts l other off (inr e) = inr e
 
 -- a cause that applies by a later test applies by the whole list
-behind : (t : Test) (ts : List Test) (l : Option Limit) (cause : Cause) → AppliesIn ts l cause
+following : (t : Test) (ts : List Test) (l : Option Limit) (cause : Cause) → AppliesIn ts l cause
     → AppliesIn (t ∷ ts) l cause
-behind t ts l cause (inl (k, x, lt, at, is)) = inl (suc k, x, omega (arith, lt), at, is)
-behind t ts l cause (inr e) = inr e
+following t ts l cause (inl (k, x, lt, at, is)) = inl (suc k, x, omega (arith, lt), at, is)
+following t ts l cause (inr e) = inr e
 
 none_is_there : (other : Cause) (l : Option Limit) → AppliesIn [] l other → option_map Full l ≡ Some other
 none_is_there other l (inl (k, x, lt, at, is)) = absurd (omega (arith, lt))
@@ -146,7 +146,7 @@ lowest_of n t ts l cause up (inl is) = record {
   lowest = λ other s. let e = is.1 in rw (sym (ap number_of e)) (first_is n t ts l other up s);
 }
 lowest_of n t ts l cause up (inr rest) = record {
-  applies = behind t ts l cause rest.1.applies;
+  applies = following t ts l cause rest.1.applies;
   lowest = λ other s. rest.1.lowest other (later t ts l other rest.0 s);
 }
 

@@ -22,7 +22,7 @@ use Rattle.edit_refusals.specs.Answers.{IsRefuseResult}
 use Rattle.edit_refusals.proofs.Accepted.{NoneApplies, by_limit, up_to, not_above}
 
 module _ {H : Type 0} (name_of : H → List ℕ) (at : Level) (targets count i : ℕ) (x : ZoneOwner H) where
-  pub record GoesIn : Type 0 where
+  pub record AddOwnerAllowed : Type 0 where
     pub place : i ≤ count
     pub is : IsOwner name_of at targets x
 
@@ -30,15 +30,15 @@ module _ {H : Type 0} (name_of : H → List ℕ) (at : Level) (targets count i :
     abbrev tests_of : List Test
     tests_of = no_such_target targets x cause ∷ bad_insert_index count i ∷ bad_generator at x ∷ bad_range x ∷ []
 
-    pub goes_in : IsName (name_of x.head) → NoneApplies tests_of → GoesIn
-    goes_in named (target, (place, (generator, (range, end)))) = record {
+    pub add_owner_allowed : IsName (name_of x.head) → NoneApplies tests_of → AddOwnerAllowed
+    add_owner_allowed named (target, (place, (generator, (range, end)))) = record {
       place = up_to count i place;
       is =
           owner_from_tests name_of at targets x named
           (record { targets = target; operators = generator; ranges = range });
     }
 
-    pub tests_add : GoesIn → NoneApplies tests_of
+    pub tests_add : AddOwnerAllowed → NoneApplies tests_of
     tests_add g =
         let t = tests_from_owner name_of at targets x g.is in
         (t.targets, (not_above count i g.place, (t.operators, (t.ranges, tt))))

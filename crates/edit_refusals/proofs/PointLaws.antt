@@ -11,7 +11,8 @@ use Rattle.bank_parts.specs.Fits.{FitsKind}
 use Rattle.bank_parts.specs.Sound.{IsSound}
 use Rattle.bank_validity.specs.Limits.{totals_of, broken, broken_limit}
 use Rattle.bank_validity.proofs.LimitLaws.{no_limit_of}
-use Rattle.bank_changes.specs.Points.{points_of, loop_of, with_loop, with_kind, with_tune, sample_changed, sample_trimmed}
+use Rattle.bank_changes.specs.Points.{points_of, loop_of, with_loop}
+use Rattle.bank_changes.specs.Points.{with_kind, with_tune, sample_changed, sample_trimmed}
 use Rattle.bank_changes.specs.Points.{sample_extended, loop_set, kind_set, tune_set}
 use Rattle.bank_changes.proofs.Everywhere.{or_left, or_right, or_none}
 use Rattle.bank_changes.proofs.References.{link_weaker}
@@ -178,9 +179,9 @@ module _ (b : Parts) (i rate key : ℕ) (correction : ℤ) where
   there_of_tune h = below (length b.samples) i (accepted b (steps.Points i (SetTune rate key correction)) h).tests.0
 
   -- set-tune is accepted for every existing sample
-  pub takes_tune : IsSound b → (no_such_sample b i).applies ≡ false
+  pub tune_is_accepted : IsSound b → (no_such_sample b i).applies ≡ false
       → refusal b (steps.Points i (SetTune rate key correction)) ≡ None
-  takes_tune sound there =
+  tune_is_accepted sound there =
       by_limit b (steps.Points i (SetTune rate key correction)) None (Ok tt) (there, tt)
       (within_change b i (with_tune rate key correction) sound (below (length b.samples) i there) (λ s. refl)) refl
 

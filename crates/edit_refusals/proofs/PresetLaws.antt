@@ -19,7 +19,7 @@ use Rattle.edit_forms.specs.declared.cause.Cause.TheVariants.{NoSuchPreset, NoSu
 use Rattle.edit_forms.specs.Steps.{refusal}
 use Rattle.edit_refusals.proofs.Accepted.{accepted, below}
 use Rattle.edit_refusals.proofs.Moves.{Moves, moves}
-use Rattle.edit_refusals.proofs.OwnerLaws.{GoesIn, goes_in}
+use Rattle.edit_refusals.proofs.OwnerLaws.{AddOwnerAllowed, add_owner_allowed}
 use Rattle.edit_forms.specs.declared.presets.PresetStep.{PresetStep}
 use Rattle.edit_forms.specs.Presets as presets
 use Rattle.edit_refusals.proofs.Rises.{rises}
@@ -27,18 +27,18 @@ use Rattle.edit_refusals.proofs.Rises.{rises}
 -- ---- add-preset
 
 module _ (b : Parts) (i : ℕ) (p : ZoneOwner Head) where
-  abbrev pub PresetGoes : Type 0
-  PresetGoes = GoesIn (λ (h : Head). h.name) level.Preset (length b.instruments) (length b.presets) i p
+  abbrev pub AddPresetAllowed : Type 0
+  AddPresetAllowed = AddOwnerAllowed (λ (h : Head). h.name) level.Preset (length b.instruments) (length b.presets) i p
 
-  pub preset_goes : FitsOwner FitsHead p → refusal b (steps.Preset (AddPreset i p)) ≡ None → PresetGoes
-  preset_goes fits h =
-      goes_in (λ (h : Head). h.name) level.Preset (length b.instruments) (length b.presets) i p NoSuchInstrument
+  pub add_preset_allowed : FitsOwner FitsHead p → refusal b (steps.Preset (AddPreset i p)) ≡ None → AddPresetAllowed
+  add_preset_allowed fits h =
+      add_owner_allowed (λ (h : Head). h.name) level.Preset (length b.instruments) (length b.presets) i p NoSuchInstrument
       fits.head.name (accepted b (steps.Preset (AddPreset i p)) h).tests
 
   pub sound_add_preset : IsSound b → FitsOwner FitsHead p → refusal b (steps.Preset (AddPreset i p)) ≡ None
       → IsSound (preset_added b i p)
   sound_add_preset sound fits h =
-      let g = preset_goes fits h in
+      let g = add_preset_allowed fits h in
       sound_added_preset b i p sound g.is fits (accepted b (steps.Preset (AddPreset i p)) h).limits
 
   -- the broken limit, computed from totals

@@ -22,12 +22,12 @@ from_below n m [] le h = h
 from_below n m (t ∷ ts) le h = also_above n m (number_of t.cause) (rises (number_of t.cause) ts) le h
 
 -- after the tests that the owner, and the place, exist
-pub behind_owner : (b : Parts) (o : Owner) (ts : List Test) → rises 21 ts ≡ true
+pub after_owner : (b : Parts) (o : Owner) (ts : List Test) → rises 21 ts ≡ true
     → rises 0 (no_such_owner b o ∷ ts) ≡ true
-behind_owner b (owner.Preset p) ts h = from_below 20 21 ts (omega arith) h
-behind_owner b (owner.Inst i) ts h = h
+after_owner b (owner.Preset p) ts h = from_below 20 21 ts (omega arith) h
+after_owner b (owner.Inst i) ts h = h
 
-pub behind_place : (b : Parts) (o : Owner) (at : Place) (ts : List Test) → rises 23 ts ≡ true
+pub after_place : (b : Parts) (o : Owner) (at : Place) (ts : List Test) → rises 23 ts ≡ true
     → rises 21 (no_such_zone_at b o at ∷ ts) ≡ true
-behind_place b o place.Global ts h = h
-behind_place b o (place.Zone k) ts h = h
+after_place b o place.Global ts h = h
+after_place b o (place.Zone k) ts h = h

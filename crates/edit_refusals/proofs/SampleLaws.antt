@@ -62,13 +62,13 @@ module _ (b : Parts) (i : ℕ) (name : List ℕ) where
 -- ---- add-sample
 
 module _ (b : Parts) (i : ℕ) (s : Sample) where
-  pub record Goes : Type 0 where
+  pub record AddSampleAllowed : Type 0 where
     pub link : IsLink (length b.samples + 1) s.kind
     pub place : i ≤ length b.samples
     pub looped : IsLoop (length s.points) s.looped
 
-  pub goes_in : NoneApplies (causes b (steps.Sample (AddSample i s))) → Goes
-  goes_in (link, (place, (looped, end))) =
+  pub add_sample_allowed : NoneApplies (causes b (steps.Sample (AddSample i s))) → AddSampleAllowed
+  add_sample_allowed (link, (place, (looped, end))) =
       record {
         link =
             link_hits (length b.samples + 1) s.kind link;
@@ -77,7 +77,7 @@ module _ (b : Parts) (i : ℕ) (s : Sample) where
         looped = loop_hits (length s.points) s.looped looped;
       }
 
-  pub tests_add : Goes → NoneApplies (causes b (steps.Sample (AddSample i s)))
+  pub tests_add : AddSampleAllowed → NoneApplies (causes b (steps.Sample (AddSample i s)))
   tests_add g = (
     hit_link (length b.samples + 1) s.kind g.link,
     (not_above (length b.samples) i g.place, (hit_loop (length s.points) s.looped g.looped, tt)),
@@ -87,7 +87,7 @@ module _ (b : Parts) (i : ℕ) (s : Sample) where
       → IsSound (sample_added b i s)
   sound_add sound fits h =
       let a = accepted b (steps.Sample (AddSample i s)) h in
-      let g = goes_in a.tests in
+      let g = add_sample_allowed a.tests in
       added_sound b i s sound g.place (record { name = fits.name; looped = g.looped; kind = g.link }) fits a.limits
 
   -- the broken limit, computed from totals
@@ -98,16 +98,16 @@ module _ (b : Parts) (i : ℕ) (s : Sample) where
 -- ---- remove-sample
 
 module _ (b : Parts) (i : ℕ) where
-  pub record Comes : Type 0 where
+  pub record RemoveSampleAllowed : Type 0 where
     pub there : i < length b.samples
     pub free : sample_in_use b i ≡ false
 
-  pub comes_out : NoneApplies (causes b (steps.Sample (RemoveSample i))) → Comes
-  comes_out (there, (free, end)) = record { there = below (length b.samples) i there; free = free }
+  pub remove_sample_allowed : NoneApplies (causes b (steps.Sample (RemoveSample i))) → RemoveSampleAllowed
+  remove_sample_allowed (there, (free, end)) = record { there = below (length b.samples) i there; free = free }
 
   pub sound_remove : IsSound b → refusal b (steps.Sample (RemoveSample i)) ≡ None → IsSound (sample_removed b i)
   sound_remove sound h =
-      let c = comes_out (accepted b (steps.Sample (RemoveSample i)) h).tests in
+      let c = remove_sample_allowed (accepted b (steps.Sample (RemoveSample i)) h).tests in
       removed_sound b i sound c.there c.free
 
   pub within_remove : IsSound b → i < length b.samples → sample_in_use b i ≡ false

@@ -88,17 +88,17 @@ settings_allowed b o at op h = place_found b o at h.owner h.zone
 -- ---- set-gen
 
 module _ (b : Parts) (o : Owner) (at : Place) (op amount : ℕ) where
-  pub record GenGoes : Type 0 where
+  pub record SetGenAllowed : Type 0 where
     pub allows : AllowsThere b o at op
     pub is : IsGenerator (level_of o) (op, amount)
 
-  pub gen_goes : NoneApplies (causes b (steps.Setting o at (SetGen op amount))) → GenGoes
-  gen_goes (owner, (zone, (own, (good, end)))) = record {
+  pub set_gen_allowed : NoneApplies (causes b (steps.Setting o at (SetGen op amount))) → SetGenAllowed
+  set_gen_allowed (owner, (zone, (own, (good, end)))) = record {
     allows = record { owner = owner; zone = zone; operator = own };
     is = generator_from_tests (level_of o) op amount own good;
   }
 
-  pub tests_set_gen : GenGoes → NoneApplies (causes b (steps.Setting o at (SetGen op amount)))
+  pub tests_set_gen : SetGenAllowed → NoneApplies (causes b (steps.Setting o at (SetGen op amount)))
   tests_set_gen g =
       let tests = tests_from_generator (level_of o) op amount g.is in
       (g.allows.owner, (g.allows.zone, (tests.0, (tests.1, tt))))
@@ -107,7 +107,7 @@ module _ (b : Parts) (o : Owner) (at : Place) (op amount : ℕ) where
       → refusal b (steps.Setting o at (SetGen op amount)) ≡ None → IsSound (gen_set b o at op amount)
   sound_set_gen sound p q h =
       let a = accepted b (steps.Setting o at (SetGen op amount)) h in
-      sound_gen_set b o at sound op amount (gen_goes a.tests).is p q a.limits
+      sound_gen_set b o at sound op amount (set_gen_allowed a.tests).is p q a.limits
 
 -- ---- clear-gen
 
@@ -119,17 +119,17 @@ found_some : (o : Option ℕ) (x : ℕ) → o ≡ Some x → not (is_some o) ≡
 found_some o x e = rw e refl
 
 module _ (b : Parts) (o : Owner) (at : Place) (op : ℕ) where
-  pub record GenComes : Type 0 where
+  pub record ClearGenAllowed : Type 0 where
     pub allows : AllowsThere b o at op
     pub was : ℕ
     pub set : amount_of b o at op ≡ Some was
 
-  pub gen_comes : NoneApplies (causes b (steps.Setting o at (ClearGen op))) → GenComes
-  gen_comes (owner, (zone, (own, (set, end)))) =
+  pub clear_gen_allowed : NoneApplies (causes b (steps.Setting o at (ClearGen op))) → ClearGenAllowed
+  clear_gen_allowed (owner, (zone, (own, (set, end)))) =
       let (was, e) = some_found (amount_of b o at op) set in
       record { allows = record { owner = owner; zone = zone; operator = own }; was = was; set = e }
 
-  pub tests_clear_gen : GenComes → NoneApplies (causes b (steps.Setting o at (ClearGen op)))
+  pub tests_clear_gen : ClearGenAllowed → NoneApplies (causes b (steps.Setting o at (ClearGen op)))
   tests_clear_gen g =
       (g.allows.owner, (g.allows.zone, (g.allows.operator, (found_some (amount_of b o at op) g.was g.set, tt))))
 
@@ -137,7 +137,7 @@ module _ (b : Parts) (o : Owner) (at : Place) (op : ℕ) where
       → IsSound (gen_cleared b o at op)
   sound_clear_gen sound h = sound_gen_cleared b o at sound op (accepted b (steps.Setting o at (ClearGen op)) h).limits
 
-  pub within_clear_gen : IsSound b → GenComes → broken_limit (gen_cleared b o at op) ≡ None
+  pub within_clear_gen : IsSound b → ClearGenAllowed → broken_limit (gen_cleared b o at op) ≡ None
   within_clear_gen sound g =
       let (s, e) = settings_allowed b o at op g.allows in
       let set = sym (amount_found b o at op s e) ∙ g.set in
@@ -183,8 +183,8 @@ module _ (b : Parts) (o : Owner) (at : Place) (m : Modulator) where
   no_link_before : (linked_modulator b o at m).applies ≡ false → (linked_place b o at).applies ≡ false
   no_link_before link = or_left (list_any is_link (mods_there b o at)) (is_link m) link
 
-  no_link_comes : (linked_modulator b o at m).applies ≡ false → is_link m ≡ false
-  no_link_comes link = or_right (list_any is_link (mods_there b o at)) (is_link m) link
+  is_no_link : (linked_modulator b o at m).applies ≡ false → is_link m ≡ false
+  is_no_link link = or_right (list_any is_link (mods_there b o at)) (is_link m) link
 
 -- ---- links
 
@@ -215,14 +215,14 @@ none_exchanged ms j m h plain =
 -- ---- add-mod
 
 module _ (b : Parts) (o : Owner) (at : Place) (j : ℕ) (m : Modulator) where
-  pub record ModGoes : Type 0 where
+  pub record AddModAllowed : Type 0 where
     pub settings : Settings
     pub holds : HoldsNoLink b o at settings
     pub place : j ≤ length settings.mods
     pub plain : is_link m ≡ false
 
-  pub mod_goes : NoneApplies (causes b (steps.Setting o at (AddMod j m))) → ModGoes
-  mod_goes (owner, (zone, (place, (link, end)))) =
+  pub add_mod_allowed : NoneApplies (causes b (steps.Setting o at (AddMod j m))) → AddModAllowed
+  add_mod_allowed (owner, (zone, (place, (link, end)))) =
       let p = free_place b o at owner zone (no_link_before b o at m link) in
       record {
         settings =
@@ -231,10 +231,10 @@ module _ (b : Parts) (o : Owner) (at : Place) (j : ℕ) (m : Modulator) where
             p.holds;
         place =
             up_to (length p.settings.mods) j (rw p.are at place);
-        plain = no_link_comes b o at m link;
+        plain = is_no_link b o at m link;
       }
 
-  pub tests_add_mod : ModGoes → NoneApplies (causes b (steps.Setting o at (AddMod j m)))
+  pub tests_add_mod : AddModAllowed → NoneApplies (causes b (steps.Setting o at (AddMod j m)))
   tests_add_mod g =
       let s = g.settings in
       let are = mods_there_are b o at s g.holds.there in (
@@ -256,17 +256,17 @@ module _ (b : Parts) (o : Owner) (at : Place) (j : ℕ) (m : Modulator) where
 -- ---- remove-mod
 
 module _ (b : Parts) (o : Owner) (at : Place) (j : ℕ) where
-  pub record ModComes : Type 0 where
+  pub record RemoveModAllowed : Type 0 where
     pub settings : Settings
     pub holds : HoldsNoLink b o at settings
     pub index : j < length settings.mods
 
-  pub mod_comes : NoneApplies (causes b (steps.Setting o at (RemoveMod j))) → ModComes
-  mod_comes (owner, (zone, (index, (link, end)))) =
+  pub remove_mod_allowed : NoneApplies (causes b (steps.Setting o at (RemoveMod j))) → RemoveModAllowed
+  remove_mod_allowed (owner, (zone, (index, (link, end)))) =
       let p = free_place b o at owner zone link in
       record { settings = p.settings; holds = p.holds; index = below (length p.settings.mods) j (rw p.are at index) }
 
-  pub tests_remove_mod : ModComes → NoneApplies (causes b (steps.Setting o at (RemoveMod j)))
+  pub tests_remove_mod : RemoveModAllowed → NoneApplies (causes b (steps.Setting o at (RemoveMod j)))
   tests_remove_mod c =
       let s = c.settings in
       let are = mods_there_are b o at s c.holds.there in
@@ -276,7 +276,7 @@ module _ (b : Parts) (o : Owner) (at : Place) (j : ℕ) where
       → IsSound (mod_removed b o at j)
   sound_remove_mod sound h = sound_mod_removed b o at sound j (accepted b (steps.Setting o at (RemoveMod j)) h).limits
 
-  pub within_remove_mod : IsSound b → ModComes → broken_limit (mod_removed b o at j) ≡ None
+  pub within_remove_mod : IsSound b → RemoveModAllowed → broken_limit (mod_removed b o at j) ≡ None
   within_remove_mod sound c = within_mod_removed b o at j c.settings c.holds.there sound c.index
 
 -- ---- set-mod
@@ -298,7 +298,7 @@ module _ (b : Parts) (o : Owner) (at : Place) (j : ℕ) (m : Modulator) where
             p.holds;
         index =
             below (length p.settings.mods) j (rw p.are at index);
-        plain = no_link_comes b o at m link;
+        plain = is_no_link b o at m link;
       }
 
   pub tests_set_mod : ModChanges → NoneApplies (causes b (steps.Setting o at (SetMod j m)))

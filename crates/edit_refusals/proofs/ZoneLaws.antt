@@ -109,17 +109,17 @@ module _ (at : Level) (count : ℕ) (zone : Zone) where
 -- ---- add-zone
 
 module _ (b : Parts) (o : Owner) (at : ℕ) (zone : Zone) where
-  pub record ZoneGoes : Type 0 where
+  pub record AddZoneAllowed : Type 0 where
     pub place : IsSomeAnd (owner_zone_count b o) (λ count. at ≤ count)
     pub is : IsZone (level_of o) (target_count b o) zone
 
-  pub zone_goes : NoneApplies (causes b (steps.Zone o (AddZone at zone))) → ZoneGoes
-  zone_goes (there, (target, (place, (operators, (ranges, end))))) = record {
+  pub add_zone_allowed : NoneApplies (causes b (steps.Zone o (AddZone at zone))) → AddZoneAllowed
+  add_zone_allowed (there, (target, (place, (operators, (ranges, end))))) = record {
     place = total_there b o (λ count. at ≤ count) there (up_to (zone_total b o) at place);
     is = zone_from_tests (level_of o) (target_count b o) zone target operators ranges;
   }
 
-  pub tests_add_zone : ZoneGoes → NoneApplies (causes b (steps.Zone o (AddZone at zone)))
+  pub tests_add_zone : AddZoneAllowed → NoneApplies (causes b (steps.Zone o (AddZone at zone)))
   tests_add_zone g =
       let t = tests_from_zone (level_of o) (target_count b o) zone g.is in
       let place = total_is (owner_zone_count b o) (λ count. at ≤ count) g.place in (
@@ -131,15 +131,15 @@ module _ (b : Parts) (o : Owner) (at : ℕ) (zone : Zone) where
       → IsSound (zone_added b o at zone)
   sound_add_zone sound fits h =
       let a = accepted b (steps.Zone o (AddZone at zone)) h in
-      let g = zone_goes a.tests in
+      let g = add_zone_allowed a.tests in
       sound_zone_added b o at zone g.place sound g.is fits a.limits
 
 -- ---- remove-zone
 
 module _ (b : Parts) (o : Owner) (k : ℕ) where
-  pub zone_comes : NoneApplies (causes b (steps.Zone o (RemoveZone k)))
+  pub remove_zone_allowed : NoneApplies (causes b (steps.Zone o (RemoveZone k)))
       → IsSomeAnd (owner_zone_count b o) (λ count. k < count)
-  zone_comes (there, (zone, end)) = total_there b o (λ count. k < count) there (below (zone_total b o) k zone)
+  remove_zone_allowed (there, (zone, end)) = total_there b o (λ count. k < count) there (below (zone_total b o) k zone)
 
   pub tests_remove_zone : IsSomeAnd (owner_zone_count b o) (λ count. k < count)
       → NoneApplies (causes b (steps.Zone o (RemoveZone k)))
@@ -148,17 +148,17 @@ module _ (b : Parts) (o : Owner) (k : ℕ) where
     (not_below (zone_total b o) k (total_is (owner_zone_count b o) (λ count. k < count) h), tt),
   )
 
-  pub comes_of_remove_zone : refusal b (steps.Zone o (RemoveZone k)) ≡ None
+  pub can_remove_zone : refusal b (steps.Zone o (RemoveZone k)) ≡ None
       → IsSomeAnd (owner_zone_count b o) (λ count. k < count)
-  comes_of_remove_zone h = zone_comes (accepted b (steps.Zone o (RemoveZone k)) h).tests
+  can_remove_zone h = remove_zone_allowed (accepted b (steps.Zone o (RemoveZone k)) h).tests
 
   pub sound_remove_zone : IsSound b → refusal b (steps.Zone o (RemoveZone k)) ≡ None → IsSound (zone_removed b o k)
-  sound_remove_zone sound h = sound_zone_removed b o k (comes_of_remove_zone h) sound
+  sound_remove_zone sound h = sound_zone_removed b o k (can_remove_zone h) sound
 
   pub within_remove_zone : IsSound b → NoneApplies (causes b (steps.Zone o (RemoveZone k)))
       → broken_limit (zone_removed b o k) ≡ None
   within_remove_zone sound h =
-      no_limit_of (zone_removed b o k) (sound_zone_removed b o k (zone_comes h) sound).valid.limits
+      no_limit_of (zone_removed b o k) (sound_zone_removed b o k (remove_zone_allowed h) sound).valid.limits
 
 -- ---- move-zone
 
@@ -197,17 +197,17 @@ module _ (b : Parts) (o : Owner) (from to : ℕ) where
 -- ---- set-target
 
 module _ (b : Parts) (o : Owner) (k target : ℕ) where
-  pub record TargetGoes : Type 0 where
+  pub record SetTargetAllowed : Type 0 where
     pub there : IsSomeAnd (owner_zone_count b o) (λ count. k < count)
     pub target_is : target < target_count b o
 
-  pub target_goes : NoneApplies (causes b (steps.Zone o (SetTarget k target))) → TargetGoes
-  target_goes (there, (names, (zone, end))) = record {
+  pub set_target_allowed : NoneApplies (causes b (steps.Zone o (SetTarget k target))) → SetTargetAllowed
+  set_target_allowed (there, (names, (zone, end))) = record {
     there = total_there b o (λ count. k < count) there (below (zone_total b o) k zone);
     target_is = below (target_count b o) target names;
   }
 
-  pub tests_set_target : TargetGoes → NoneApplies (causes b (steps.Zone o (SetTarget k target)))
+  pub tests_set_target : SetTargetAllowed → NoneApplies (causes b (steps.Zone o (SetTarget k target)))
   tests_set_target g = (
     owner_is_there b o (λ count. k < count) g.there,
     (
@@ -216,18 +216,18 @@ module _ (b : Parts) (o : Owner) (k target : ℕ) where
     ),
   )
 
-  pub goes_of_set_target : refusal b (steps.Zone o (SetTarget k target)) ≡ None → TargetGoes
-  goes_of_set_target h = target_goes (accepted b (steps.Zone o (SetTarget k target)) h).tests
+  pub can_set_target : refusal b (steps.Zone o (SetTarget k target)) ≡ None → SetTargetAllowed
+  can_set_target h = set_target_allowed (accepted b (steps.Zone o (SetTarget k target)) h).tests
 
   pub sound_set_target : IsSound b → target < 2 ^ 16 → refusal b (steps.Zone o (SetTarget k target)) ≡ None
       → IsSound (target_set b o k target)
   sound_set_target sound fits h =
-      let g = goes_of_set_target h in sound_target_set b o k target g.there sound g.target_is fits
+      let g = can_set_target h in sound_target_set b o k target g.there sound g.target_is fits
 
   pub within_set_target : IsSound b → NoneApplies (causes b (steps.Zone o (SetTarget k target)))
       → broken_limit (target_set b o k target) ≡ None
   within_set_target sound h =
-      ap broken (totals-target_set b o k target (target_goes h).there) ∙ no_limit_of b sound.valid.limits
+      ap broken (totals-target_set b o k target (set_target_allowed h).there) ∙ no_limit_of b sound.valid.limits
 
 -- ---- zones of a sound bank are few
 

@@ -6,7 +6,7 @@ use Rattle.script_tokens.specs.declared.fault.LineFault.{LineFault}
 use Rattle.script_tokens.specs.Parsers.{Parsed, pure, is_next}
 use Rattle.script_grammar.specs.Names.{fixed}
 use Rattle.script_grammar.proofs.RepeatedLaws.{Shortens, shortens_keeps, pure_keeps, then_keeps, then_shortens}
-use Rattle.script_grammar.proofs.RepeatedLaws.{repeated_ends, repeated_goes_on, repeated_fails}
+use Rattle.script_grammar.proofs.RepeatedLaws.{repeated_ends, repeated_continues, repeated_fails}
 use Rattle.script_grammar.proofs.ItemLaws.{fixed_shortens}
 use Rattle.script_steps.specs.Grammar.{step}
 use Rattle.script_steps.proofs.StepLaws.{step_keeps}
@@ -27,7 +27,7 @@ steps_end ss line e = repeated_ends is_over pure braced_step with_step ss line e
 pub steps_go_on : (ss : List Step) (line : List TokenValue) (t : Parsed Step) → is_over line ≡ false
     → braced_step line ≡ Ok t → remaining_steps ss line ≡ remaining_steps (with_step ss t.value) t.rest
 unfolding remaining_steps
-steps_go_on ss line t e i = repeated_goes_on is_over pure braced_step with_step braced_shortens ss line t e i
+steps_go_on ss line t e i = repeated_continues is_over pure braced_step with_step braced_shortens ss line t e i
 
 pub steps_fail : (ss : List Step) (line : List TokenValue) (d : LineFault) → is_over line ≡ false
     → braced_step line ≡ Err d → remaining_steps ss line ≡ Err d

@@ -146,7 +146,7 @@ later_lowered {t} {bags} {k} s n m h1 h2 =
     let more = b.more in
     let place : k + 1 ≡ suc (length b.front) = omega arith in
     let from = past_bag (end past_bag (0, 0) b.front) s.bag in
-    let behind : drop (k + 1) t.bags ≡ starts past_bag from b.back =
+    let following : drop (k + 1) t.bags ≡ starts past_bag from b.back =
     ap (λ p. drop p t.bags) place
     ∙
     (ap (λ (t : Tables). drop (suc (length b.front)) t.bags) b.same
@@ -157,7 +157,7 @@ later_lowered {t} {bags} {k} s n m h1 h2 =
     record {
       place = omega arith;
       fits =
-          subst (All (CanLower (n, m))) (sym behind)
+          subst (All (CanLower (n, m))) (sym following)
           (All-starts past_bag (CanLower (n, m))
           (λ a b p. let g = p.gens in let d = p.mods in record { gens = omega arith; mods = omega arith }) from
           b.back (record { gens = first; mods = second }));

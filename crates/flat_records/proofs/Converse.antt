@@ -146,14 +146,14 @@ same_read {bags} {index} {gens} {others} {mods} {more} are e f g =
 
 -- ---- the records of bags
 
-ends-behind : {X : Type 0} (xs : List X) (x : X) → slice_get (xs ++ x ∷ []) (length xs) ≡ Some x
-ends-behind [] x = refl
-ends-behind (y ∷ ys) x = ends-behind ys x
+last_of_append : {X : Type 0} (xs : List X) (x : X) → slice_get (xs ++ x ∷ []) (length xs) ≡ Some x
+last_of_append [] x = refl
+last_of_append (y ∷ ys) x = last_of_append ys x
 
 ends-in : {X : Type 0} (xs : List X) (x : X) → EndsIn (xs ++ x ∷ []) x
 ends-in xs x =
     let n : length (xs ++ x ∷ []) - 1 ≡ length xs = omega (arith, length-append xs (x ∷ [])) in
-    ap (slice_get (xs ++ x ∷ [])) n ∙ ends-behind xs x
+    ap (slice_get (xs ++ x ∷ [])) n ∙ last_of_append xs x
 
 starts-rise : (at : ℕ × ℕ) (bags : List Bag) (k : ℕ) → k + 1 < length (starts past_bag at bags)
     → Rises (starts past_bag at bags) k

@@ -105,9 +105,9 @@ within_of xs a b f h =
     λ i. take a xs ++ (map f (window xs a b h i) ++ rest i)
 
 -- A change g of the first range keeps the second range.
-pub behind : {X : Type 0} (xs : List X) (a b c : ℕ) (g : X → X) → a ≤ b → b ≤ c → c ≤ length xs
+pub following : {X : Type 0} (xs : List X) (a b c : ℕ) (g : X → X) → a ≤ b → b ≤ c → c ≤ length xs
     → changed_within a b g xs ≡ take a xs ++ (map g (drop a (take b xs)) ++ (drop b (take c xs) ++ drop c xs))
-behind xs a b c g h1 h2 h3 =
+following xs a b c g h1 h2 h3 =
     let front : length (take b xs) ≡ b = length-take-le b xs (omega arith) in
     let whole : take b xs ++ (drop b (take c xs) ++ drop c xs) ≡ xs =
     sym (append_assoc (take b xs) (drop b (take c xs)) (drop c xs))
@@ -127,7 +127,7 @@ second_stays xs a b c g h1 h2 h3 =
     let p =
     parts (take a xs) (map g (drop a (take b xs))) (drop b (take c xs)) (drop c xs) a b c e1 (omega arith)
     (omega arith) in
-    ap (λ ys. drop b (take c ys)) (behind xs a b c g h1 h2 h3) ∙ p.third
+    ap (λ ys. drop b (take c ys)) (following xs a b c g h1 h2 h3) ∙ p.third
 
 -- Changes of both ranges, then their exchange.
 pub changed-exchanged : {X : Type 0} (xs : List X) (a b c : ℕ) (f g : X → X) → a ≤ b → b ≤ c → c ≤ length xs
@@ -148,7 +148,7 @@ changed-exchanged xs a b c f g h1 h2 h3 =
     ap (take b) (sym (append_assoc ws (map g ps) (qs ++ zs)))
     ∙ take_at (ws ++ map g ps) (qs ++ zs) b (omega (arith, length-append ws (map g ps))) in
     let inner : changed_within b c f (changed_within a b g xs) ≡ ws ++ (map g ps ++ (map f qs ++ zs)) =
-    ap (changed_within b c f) (behind xs a b c g h1 h2 h3)
+    ap (changed_within b c f) (following xs a b c g h1 h2 h3)
     ∙ ((λ i. front i ++ (map f (p.third i) ++ p.last i)) ∙ append_assoc ws (map g ps) (map f qs ++ zs)) in
     ap (λ xs. exchanged xs a b c) inner
     ∙ exchanged-parts ws (map g ps) (map f qs) zs a b c e1 (omega arith) (omega arith)

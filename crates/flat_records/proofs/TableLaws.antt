@@ -13,7 +13,8 @@ use Rattle.flat_records.specs.Bags.{bags_from, bags_of_records, bags_in, AreRead
 use Rattle.flat_records.specs.Raised.{raised, lowered}
 use Rattle.flat_records.specs.Stored.{Counts, Stored}
 use Rattle.std.proofs.lemmas.Option.{get_or_from_slice_get}
-use Rattle.flat_records.proofs.Starts.{end, length-starts, starts-end, flat-among, at-starts, next-starts, starts-replaced}
+use Rattle.flat_records.proofs.Starts.{end, length-starts, starts-end}
+use Rattle.flat_records.proofs.Starts.{flat-among, at-starts, next-starts, starts-replaced}
 use Rattle.flat_records.proofs.Starts.{starts-same, starts-put, starts-cut, changed_from-undone, length-put}
 use Rattle.flat_records.proofs.Starts.{length-cut, flat-put, flat-cut, flat-set, flat-none, flat-kept}
 
@@ -220,13 +221,13 @@ module _ {t : Tables} {bags : List Bag} {k : ℕ} {b : Bag} (s : Begin t bags k 
     mods_at : at.1 ≡ length (mods_in s.front)
     mods_at = ap (λ (m : ℕ × ℕ). m.1) e ∙ s.mods
 
-    pub grown : (j i : ℕ) (gens : List (ℕ × ℕ)) (mods : List Modulator) → j ≤ length b.gens → i ≤ length b.mods
+    pub records_put : (j i : ℕ) (gens : List (ℕ × ℕ)) (mods : List Modulator) → j ≤ length b.gens → i ≤ length b.mods
         → {index new_gens : List (ℕ × ℕ)} {new_mods : List Modulator}
         → index ≡ changed_from (k + 1) (raised (length gens, length mods)) t.bags
         → new_gens ≡ put t.gens (at.0 + j) gens → new_mods ≡ put t.mods (at.1 + i) mods
         → AreOf (record { bags = index; gens = new_gens; mods = new_mods })
         (changed bags k (λ b. record { gens = put b.gens j gens; mods = put b.mods i mods }))
-    grown j i gens mods h1 h2 index_is gens_are mods_are =
+    records_put j i gens mods h1 h2 index_is gens_are mods_are =
         let f : Bag → Bag = λ b. record { gens = put b.gens j gens; mods = put b.mods i mods } in
         let by : ℕ × ℕ = (length gens, length mods) in
         rebuilt f

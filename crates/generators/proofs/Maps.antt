@@ -85,16 +85,16 @@ without_rises op es rises =
     from_T (is_sorted operator_cmp (without op es))
     (is_sorted-where_key operator_cmp (λ x. not (tied op x)) es (to_T rises))
 
-other_way_round : (b : Bool) (o : Option ℕ) → cond (not b) o None ≡ cond b None o
-other_way_round true o = refl
-other_way_round false o = refl
+if_not : (b : Bool) (o : Option ℕ) → cond (not b) o None ≡ cond b None o
+if_not true o = refl
+if_not false o = refl
 
 find-without : (op q : ℕ) (es : Entries)
     → find operator_cmp q (without op es) ≡ cond (tied q op) None (find operator_cmp q es)
 find-without op q es =
     find-where_key operator_cmp (λ x. not (tied op x)) q
     (λ x t. ap (λ r. not (is_eq r)) (sym (alike_right operator_cmp-IsTotalOrder q x op t))) es
-    ∙ other_way_round (tied op q) (find operator_cmp q es)
+    ∙ if_not (tied op q) (find operator_cmp q es)
     ∙ ap (λ b. cond b None (find operator_cmp q es)) ((eq_by_cmp_equiv operator_cmp-IsTotalOrder).symm op q)
 
 pub entries-remove : (m : Gens) (op : ℕ) → entries (map.remove m op) ≡ without op (entries m)

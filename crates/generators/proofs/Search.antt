@@ -43,11 +43,11 @@ module _ (es : Entries) (rises : IsTrue (is_sorted operator_cmp es)) (op : ℕ) 
         absent =
             tt;
       }
-  searched (Err at) within parted = record {
+  searched (Err at) within is_partition = record {
     found = tt;
     absent = record {
       within = within;
-      before = λ j l. (parted comparisons_rise).0 j (0, 0) (omega arith) l;
-      after = λ j le l. (parted comparisons_rise).1 j (0, 0) le l;
+      before = λ j l. (is_partition comparisons_rise).0 j (0, 0) (omega arith) l;
+      after = λ j le l. (is_partition comparisons_rise).1 j (0, 0) le l;
     };
   }

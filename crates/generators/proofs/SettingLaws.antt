@@ -12,8 +12,8 @@ use Rattle.generators.proofs.Entries.{Entries}
 use Rattle.generators.proofs.MapLaws.{same_gens, get-insert_any, len-insert_absent}
 
 -- Whether an operator is among the entries.
-abbrev stands : ℕ → Entries → Bool
-stands op es = list_any (λ (x : ℕ × ℕ). eqb x.0 op) es
+abbrev has_op : ℕ → Entries → Bool
+has_op op es = list_any (λ (x : ℕ × ℕ). eqb x.0 op) es
 
 -- The first option, or else the second.
 abbrev or_else : Option ℕ → Option ℕ → Option ℕ
@@ -39,23 +39,23 @@ is_none None e = refl
 is_none (Some w) e = absurd (true≢false e)
 
 -- An operator is among the last entries if it is among the entries.
-find-last_of_each : (op : ℕ) (es : Entries) → is_some (find operator_cmp op (last_of_each es)) ≡ stands op es
+find-last_of_each : (op : ℕ) (es : Entries) → is_some (find operator_cmp op (last_of_each es)) ≡ has_op op es
 find-last_of_each op [] = refl
 find-last_of_each op (e ∷ es) =
     let lasts = last_of_each es in
     let rest = find-last_of_each op es in
-    elim (stands e.0 es) as
+    elim (has_op e.0 es) as
     (λ s.
-    stands e.0 es ≡ s
-    → is_some (find operator_cmp op (cond s lasts (e ∷ lasts))) ≡ (eqb e.0 op || stands op es)) [
-      | true ↦ λ p. rest ∙ elim (eqb e.0 op) as (λ t. eqb e.0 op ≡ t → stands op es ≡ (t || stands op es)) [
-        | true ↦ λ t. ap (λ x. stands x es) (sym (eqb-true e.0 op t)) ∙ p
+    has_op e.0 es ≡ s
+    → is_some (find operator_cmp op (cond s lasts (e ∷ lasts))) ≡ (eqb e.0 op || has_op op es)) [
+      | true ↦ λ p. rest ∙ elim (eqb e.0 op) as (λ t. eqb e.0 op ≡ t → has_op op es ≡ (t || has_op op es)) [
+        | true ↦ λ t. ap (λ x. has_op x es) (sym (eqb-true e.0 op t)) ∙ p
         | false ↦ λ t. refl
       ] refl
       | false ↦ λ p.
           rw (tied_eqb e.0 op)
           (elim (tied op e.0) as
-          (λ t. is_some (cond t (Some e.1) (find operator_cmp op lasts)) ≡ (t || stands op es))
+          (λ t. is_some (cond t (Some e.1) (find operator_cmp op lasts)) ≡ (t || has_op op es))
           [ true ↦ refl | false ↦ rest ])
     ] refl
 
@@ -67,15 +67,15 @@ get-set_in_order m (e ∷ es) q =
     let found = find operator_cmp q lasts in
     let stood = find-last_of_each q es in
     get-set_in_order (insert m e.0 e.1) es q ∙ ap (or_else found) (get-insert_any m e.0 e.1 q)
-    ∙ elim (stands e.0 es) as
+    ∙ elim (has_op e.0 es) as
     (λ s.
-    stands e.0 es ≡ s
+    has_op e.0 es ≡ s
     → or_else found (cond (tied q e.0) (Some e.1) (get m q))
     ≡ or_else (find operator_cmp q (cond s lasts (e ∷ lasts))) (get m q)) [
       | true ↦ λ p.
           elim (tied q e.0) as
           (λ t. tied q e.0 ≡ t → or_else found (cond t (Some e.1) (get m q)) ≡ or_else found (get m q)) [
-            | true ↦ λ t. or_else-some found (Some e.1) (get m q) (stood ∙ ap (λ x. stands x es) (tied_is_same q e.0 t) ∙ p)
+            | true ↦ λ t. or_else-some found (Some e.1) (get m q) (stood ∙ ap (λ x. has_op x es) (tied_is_same q e.0 t) ∙ p)
             | false ↦ λ t. refl
           ] refl
       | false ↦ λ p.
@@ -84,7 +84,7 @@ get-set_in_order m (e ∷ es) q =
           tied q e.0 ≡ t
           → or_else found (cond t (Some e.1) (get m q)) ≡ or_else (cond t (Some e.1) found) (get m q)) [
             | true ↦ λ t.
-                ap (λ o. or_else o (Some e.1)) (is_none found (stood ∙ ap (λ x. stands x es) (tied_is_same q e.0 t) ∙ p))
+                ap (λ o. or_else o (Some e.1)) (is_none found (stood ∙ ap (λ x. has_op x es) (tied_is_same q e.0 t) ∙ p))
             | false ↦ λ t. refl
           ] refl
     ] refl
@@ -101,9 +101,9 @@ len-from_last : (es : Entries) → len (from_entries {R = operator_cmp} (last_of
 len-from_last [] = len-empty operator_cmp ℕ
 len-from_last (e ∷ es) =
     let lasts = last_of_each es in
-    elim (stands e.0 es) as
+    elim (has_op e.0 es) as
     (λ s.
-    stands e.0 es ≡ s
+    has_op e.0 es ≡ s
     → len (from_entries {R = operator_cmp} (cond s lasts (e ∷ lasts)))
     ≡ length (cond s lasts (e ∷ lasts))) [
       | true ↦ λ p. len-from_last es

@@ -111,8 +111,8 @@ NewSettingAddsOne = (m : Gens) (op w : ℕ) → get m op ≡ None → len (inser
 abbrev pub SettingAnewAddsNone : Type 0
 SettingAnewAddsNone = (m : Gens) (op w : ℕ) → IsSome (get m op) → len (insert m op w) ≡ len m
 
-abbrev pub ClearingTakesOne : Type 0
-ClearingTakesOne = (m : Gens) (op : ℕ) → IsSome (get m op) → len (remove m op) + 1 ≡ len m
+abbrev pub ClearingRemovesOne : Type 0
+ClearingRemovesOne = (m : Gens) (op : ℕ) → IsSome (get m op) → len (remove m op) + 1 ≡ len m
 
 -- ---- numbers that fit
 

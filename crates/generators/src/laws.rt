@@ -3,7 +3,7 @@
 ghost use Rattle.std.specs.Cmp.{IsTotalOrder};
 ghost use Rattle.std.specs.FinMap.{IsAntisymmetric};
 ghost use Rattle.generators.specs.Gens.{operator_cmp};
-ghost use Rattle.generators.specs.Laws.{KeyRangeIsFirst, VelRangeIsSecond, OthersGoByNumber, RanksRise, EachOperatorOnce, EntriesAreSet, SetIsEntry, AlikeAreEqual, EntriesGiveTheMap, SettingBackRestores, ClearingRestores, SettingAgainRestores, ClearingNoneKeeps, SettingSameKeeps, LastSettingCounts, SettingsCommute, ClearingsCommute, SettingAndClearingCommute, LastOfEachCount, LastOfEachAreAll, NewSettingAddsOne, SettingAnewAddsNone, ClearingTakesOne, NoneFit, SettingFits, ClearingFits, TargetsAreNotAllowed, RangesAreAllowed, InstrumentsAllowMore, PlayedIsAllowed};
+ghost use Rattle.generators.specs.Laws.{KeyRangeIsFirst, VelRangeIsSecond, OthersGoByNumber, RanksRise, EachOperatorOnce, EntriesAreSet, SetIsEntry, AlikeAreEqual, EntriesGiveTheMap, SettingBackRestores, ClearingRestores, SettingAgainRestores, ClearingNoneKeeps, SettingSameKeeps, LastSettingCounts, SettingsCommute, ClearingsCommute, SettingAndClearingCommute, LastOfEachCount, LastOfEachAreAll, NewSettingAddsOne, SettingAnewAddsNone, ClearingRemovesOne, NoneFit, SettingFits, ClearingFits, TargetsAreNotAllowed, RangesAreAllowed, InstrumentsAllowMore, PlayedIsAllowed};
 
 /// The canonical order is a total order: the key range, the velocity range, the others by number.
 pub fn order_is_canonical()
@@ -51,7 +51,7 @@ pub fn last_settings_count()
 pub fn lengths_follow()
     ensures new { NewSettingAddsOne }
     ensures anew { SettingAnewAddsNone }
-    ensures cleared { ClearingTakesOne }
+    ensures cleared { ClearingRemovesOne }
 {}
 
 /// Edits with 16-bit numbers keep a map's numbers in 16 bits.

@@ -126,9 +126,9 @@ inverses b (e ∷ undos) s t =
     ∙ (ap (λ (l : List Edit). l ++ inverse c (inverse b e) ∷ []) (inverses c undos u.sound t.1)
     ∙ (ap (λ (x : Edit). reverse undos ++ x ∷ []) u.redone ∙ sym (reverse_cons undos e)))
 
-pub way_back_is : (b : Parts) (undos next : List Edit) → IsSound b → AllAccepted b undos
+pub undo_list_is : (b : Parts) (undos next : List Edit) → IsSound b → AllAccepted b undos
     → undo_edits (history_of b undos next) ≡ reverse undos
-way_back_is b undos next s t =
+undo_list_is b undos next s t =
     let f = λ (step : Parts × Edit). inverse step.0 step.1 in
     let cut : take (length undos) (zip (banks_before b undos ++ b ∷ banks_after b next) (undo_list b undos ++ next))
     ≡ zip (banks_before b undos) (undo_list b undos)

@@ -13,7 +13,8 @@ use Rattle.riff_chunks.specs.Finding.{first_body}
 use Rattle.riff_chunks.specs.First.{index_of, KeptBodies, kept_at, AreFirst, AreFirstSoFar, KeepsFirst}
 
 -- The id at the index of an id is that id.
-at_index : (ids : List (List ℕ)) (id : List ℕ) (id_index : ℕ) → index_of id ids ≡ Some id_index → get_or ids id_index [] ≡ id
+at_index : (ids : List (List ℕ)) (id : List ℕ) (id_index : ℕ) → index_of id ids ≡ Some id_index
+    → get_or ids id_index [] ≡ id
 at_index ids id id_index h =
     (bytes_eq-Decides (get_or ids id_index []) id).0
     ((position-Some (λ (other : List ℕ). bytes_eq other id) ids id_index [] h).1)
@@ -56,7 +57,8 @@ put_first ids bodies id id_index body here long lt none other at h within =
           (ap (option_or (kept_at bodies at)) (not_alone other (record { id = id; body = body.now }) differs)))
     ]
   where
-    cc_place : (ids : List (List ℕ)) (id other : List ℕ) (id_index at : ℕ) → id ≡ other → index_of id ids ≡ Some id_index
+    cc_place : (ids : List (List ℕ)) (id other : List ℕ) (id_index at : ℕ) → id ≡ other
+        → index_of id ids ≡ Some id_index
         → index_of other ids ≡ Some at → at ≡ id_index
     cc_place ids id other id_index at e h k =
         let both : index_of id ids ≡ index_of other ids = ap (λ (i : List ℕ). index_of i ids) e in cc
@@ -76,8 +78,8 @@ first_or_later id c cs = elim (cases_Bool (bytes_eq c.id id)) [
 
 pub first_more : (ids : List (List ℕ)) (old new : KeptBodies) (c : Chunk) (rest all : List Chunk)
     → AreFirstSoFar ids old (c ∷ rest) all → KeepsFirst ids old new c → AreFirstSoFar ids new rest all
-first_more ids old new c rest all held takes id id_index h lt =
-    ap (λ (o : Option (List ℕ)). option_or o (first_body id rest)) (takes id id_index h lt)
+first_more ids old new c rest all held first_is id id_index h lt =
+    ap (λ (o : Option (List ℕ)). option_or o (first_body id rest)) (first_is id id_index h lt)
     ∙ or_more (kept_at old id_index) (first_body id (c ∷ [])) (first_body id rest)
     ∙ ap (option_or (kept_at old id_index)) (sym (first_or_later id c rest))
     ∙ held id id_index h lt

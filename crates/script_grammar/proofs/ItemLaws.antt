@@ -12,11 +12,12 @@ use Rattle.script_grammar.specs.declared.items.Item.{Item}
 use Rattle.script_grammar.specs.Names.{fixed_by, fixed}
 use Rattle.script_grammar.specs.Items.{amount, generator, modulator, item_after_word, an_item, closed, with_item}
 use Rattle.script_grammar.specs.Items.{items_on, items, no_content}
-use Rattle.script_grammar.specs.Zones.{opened, zone_after_brace, zone, is_end, with_zone, remaining_zones, global_after_brace}
+use Rattle.script_grammar.specs.Zones.{opened, zone_after_brace, zone}
+use Rattle.script_grammar.specs.Zones.{is_end, with_zone, remaining_zones, global_after_brace}
 use Rattle.script_grammar.specs.Zones.{first_zone_after_brace, zones_after_brace, zones}
 use Rattle.script_grammar.proofs.RepeatedLaws.{Keeps, Shortens, shortens_keeps, pure_keeps, fault_keeps, then_keeps}
 use Rattle.script_grammar.proofs.RepeatedLaws.{then_shortens, either_keeps, word_shortens, number_shortens}
-use Rattle.script_grammar.proofs.RepeatedLaws.{signed_shortens, range_shortens, repeated_ends, repeated_goes_on}
+use Rattle.script_grammar.proofs.RepeatedLaws.{signed_shortens, range_shortens, repeated_ends, repeated_continues}
 use Rattle.script_grammar.proofs.RepeatedLaws.{repeated_fails, repeated_keeps}
 
 -- ---- consumed tokens
@@ -99,7 +100,7 @@ pub items_go_on : (content : GlobalZone) (line : List TokenValue) (t : Parsed It
     → an_item line ≡ Ok t → items_on content line ≡ items_on (with_item content t.value) t.rest
 unfolding items_on
 items_go_on content line t e i =
-    repeated_goes_on (is_next (codes "}")) closed an_item with_item item_shortens content line t e i
+    repeated_continues (is_next (codes "}")) closed an_item with_item item_shortens content line t e i
 
 pub items_fail : (content : GlobalZone) (line : List TokenValue) (d : LineFault) → is_next (codes "}") line ≡ false
     → an_item line ≡ Err d → items_on content line ≡ Err d
@@ -115,7 +116,7 @@ zones_end zs line e = repeated_ends is_end pure zone with_zone zs line e
 pub zones_go_on : (zs : List Zone) (line : List TokenValue) (t : Parsed Zone) → is_end line ≡ false → zone line ≡ Ok t
     → remaining_zones zs line ≡ remaining_zones (with_zone zs t.value) t.rest
 unfolding remaining_zones
-zones_go_on zs line t e i = repeated_goes_on is_end pure zone with_zone zone_shortens zs line t e i
+zones_go_on zs line t e i = repeated_continues is_end pure zone with_zone zone_shortens zs line t e i
 
 pub zones_fail : (zs : List Zone) (line : List TokenValue) (d : LineFault) → is_end line ≡ false → zone line ≡ Err d
     → remaining_zones zs line ≡ Err d
@@ -124,11 +125,13 @@ zones_fail zs line d e i = repeated_fails is_end pure zone with_zone zs line d e
 
 -- ---- after the first brace
 
-pub global_first : (line : List TokenValue) → is_next (codes "global") line ≡ true → zones_after_brace line ≡ global_after_brace line
+pub global_first : (line : List TokenValue) → is_next (codes "global") line ≡ true
+    → zones_after_brace line ≡ global_after_brace line
 unfolding zones_after_brace
 global_first line e = rw e refl
 
-pub zone_first : (line : List TokenValue) → is_next (codes "global") line ≡ false → zones_after_brace line ≡ first_zone_after_brace line
+pub zone_first : (line : List TokenValue) → is_next (codes "global") line ≡ false
+    → zones_after_brace line ≡ first_zone_after_brace line
 unfolding zones_after_brace
 zone_first line e = rw e refl
 

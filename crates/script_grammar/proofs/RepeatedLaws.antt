@@ -46,20 +46,20 @@ pub either_keeps : {X : Type 0} (b : Bool) (p q : Parser X) → Keeps p → Keep
 either_keeps true p q h k = h
 either_keeps false p q h k = k
 
-first_taken : (s : TokenValue) (line rest : List TokenValue) → line ≡ s ∷ rest → length rest < length line
-first_taken s line rest e = omega (arith, ap length e)
+rest_is_shorter : (s : TokenValue) (line rest : List TokenValue) → line ≡ s ∷ rest → length rest < length line
+rest_is_shorter s line rest e = omega (arith, ap length e)
 
 pub word_shortens : Shortens word
-word_shortens line t e = first_taken (Word t.value) line t.rest (word_is line t e)
+word_shortens line t e = rest_is_shorter (Word t.value) line t.rest (word_is line t e)
 
 pub number_shortens : (limit : ℕ) → Shortens (number limit)
-number_shortens limit line t e = let k = number_is limit line t e in first_taken (Word k.digits) line t.rest k.parts
+number_shortens limit line t e = let k = number_is limit line t e in rest_is_shorter (Word k.digits) line t.rest k.parts
 
 pub signed_shortens : (limit : ℕ) → Shortens (signed limit)
-signed_shortens limit line t e = let k = signed_is limit line t e in first_taken (Word k.digits) line t.rest k.parts
+signed_shortens limit line t e = let k = signed_is limit line t e in rest_is_shorter (Word k.digits) line t.rest k.parts
 
 pub range_shortens : Shortens range
-range_shortens line t e = let k = range_is line t e in first_taken (Word k.digits) line t.rest k.parts
+range_shortens line t e = let k = range_is line t e in rest_is_shorter (Word k.digits) line t.rest k.parts
 
 -- ---- a repeated part
 
@@ -74,11 +74,11 @@ module _ {X Y : Type 0} (ends : List TokenValue → Bool) (last : Y → Parser Y
   unfolding repeated_within
   within_ends n y line e = rw e refl
 
-  pub within_goes_on : (n : ℕ) (y : Y) (line : List TokenValue) → ends line ≡ false
+  pub within_continues : (n : ℕ) (y : Y) (line : List TokenValue) → ends line ≡ false
       → repeated_within ends last part with (suc n) y line
       ≡ and_then (part line) (λ x. repeated_within ends last part with n (with y x))
   unfolding repeated_within
-  within_goes_on n y line e = rw e refl
+  within_continues n y line e = rw e refl
 
   -- a bound above the number of tokens changes nothing
   enough : Shortens part → (n m : ℕ) (y : Y) (line : List TokenValue) → length line < n → length line < m
@@ -99,19 +99,20 @@ module _ {X Y : Type 0} (ends : List TokenValue → Bool) (last : Y → Parser Y
           → repeated_within ends last part with (suc n) y line ≡ repeated_within ends last part with (suc m) y line
       from on true e = within_ends n y line e ∙ sym (within_ends m y line e)
       from on false e =
-          within_goes_on n y line e
+          within_continues n y line e
           ∙ then_alike (part line) (λ x. repeated_within ends last part with n (with y x))
           (λ x. repeated_within ends last part with m (with y x)) on
-          ∙ sym (within_goes_on m y line e)
+          ∙ sym (within_continues m y line e)
 
-  pub repeated_ends : (y : Y) (line : List TokenValue) → ends line ≡ true → repeated ends last part with y line ≡ last y line
+  pub repeated_ends : (y : Y) (line : List TokenValue) → ends line ≡ true
+      → repeated ends last part with y line ≡ last y line
   repeated_ends y line e = within_ends (length line) y line e
 
-  pub repeated_goes_on : Shortens part → (y : Y) (line : List TokenValue) (t : Parsed X) → ends line ≡ false
+  pub repeated_continues : Shortens part → (y : Y) (line : List TokenValue) (t : Parsed X) → ends line ≡ false
       → part line ≡ Ok t → repeated ends last part with y line ≡ repeated ends last part with (with y t.value) t.rest
-  repeated_goes_on h y line t e i =
+  repeated_continues h y line t e i =
       let s = h line t i in
-      within_goes_on (length line) y line e
+      within_continues (length line) y line e
       ∙ ap
       (λ (r : Result (Parsed X) LineFault).
       and_then r (λ x. repeated_within ends last part with (length line) (with y x)))
@@ -121,7 +122,7 @@ module _ {X Y : Type 0} (ends : List TokenValue → Bool) (last : Y → Parser Y
   pub repeated_fails : (y : Y) (line : List TokenValue) (d : LineFault) → ends line ≡ false → part line ≡ Err d
       → repeated ends last part with y line ≡ Err d
   repeated_fails y line d e i =
-      within_goes_on (length line) y line e
+      within_continues (length line) y line e
       ∙ ap
       (λ (r : Result (Parsed X) LineFault).
       and_then r (λ x. repeated_within ends last part with (length line) (with y x)))
@@ -138,7 +139,7 @@ module _ {X Y : Type 0} (ends : List TokenValue → Bool) (last : Y → Parser Y
       from on true i = h y line t (sym (within_ends n y line i) ∙ e)
       from on false i =
           then_keeps part (λ x. repeated_within ends last part with n (with y x)) k on line t
-          (sym (within_goes_on n y line i) ∙ e)
+          (sym (within_continues n y line i) ∙ e)
 
   pub repeated_keeps : ((y : Y) → Keeps (last y)) → Keeps part → (y : Y) → Keeps (repeated ends last part with y)
   repeated_keeps h k y line t e = within_keeps h k (suc (length line)) y line t e
@@ -164,7 +165,7 @@ module _ {X Y : Type 0} (ends : List TokenValue → Bool) (last : Y → Parser Y
           from on false i =
               let x =
               both (part line) (λ x. repeated_within ends last part with n (with y x)) t
-              (sym (within_goes_on n y line i) ∙ e) in
+              (sym (within_continues n y line i) ∙ e) in
               more y line x.first t h x.is (λ holds. on x.first.value x.first.rest t holds x.second)
 
       pub repeated_reads : (y : Y) (line : List TokenValue) (t : Parsed Y) → AllHoldBytes line

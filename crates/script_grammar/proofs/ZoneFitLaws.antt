@@ -45,18 +45,18 @@ other_operator op x h = elim (cases_eq x op) [
   | inr n ↦ ne_eqb x op n
 ]
 
-none_behind : (op : ℕ) (es : List (ℕ × ℕ)) → IsTrue (below_all operator_cmp op es)
+append_no_bags : (op : ℕ) (es : List (ℕ × ℕ)) → IsTrue (below_all operator_cmp op es)
     → list_any (λ (x : ℕ × ℕ). x.0 == op) es ≡ false
-none_behind op [] h = refl
-none_behind op (e ∷ es) h =
+append_no_bags op [] h = refl
+append_no_bags op (e ∷ es) h =
     let both = both_true (is_lt (operator_cmp op e.0)) (below_all operator_cmp op es) h in
-    rw (other_operator op e.0 both.0) (none_behind op es both.1)
+    rw (other_operator op e.0 both.0) (append_no_bags op es both.1)
 
 each_is_last : (es : List (ℕ × ℕ)) → IsTrue (is_sorted operator_cmp es) → last_of_each es ≡ es
 each_is_last [] h = refl
 each_is_last (e ∷ es) h =
     let both = both_true (below_all operator_cmp e.0 es) (is_sorted operator_cmp es) h in
-    rw (none_behind e.0 es both.0) (ap (λ (xs : List (ℕ × ℕ)). e ∷ xs) (each_is_last es both.1))
+    rw (append_no_bags e.0 es both.0) (ap (λ (xs : List (ℕ × ℕ)). e ∷ xs) (each_is_last es both.1))
 
 entries_set : (m : Gens) → set_in_order no_gens (entries m) ≡ m
 entries_set m =
@@ -83,45 +83,45 @@ with_modulators (m ∷ ms) content =
     with_modulators ms (record content { mods = content.mods ++ m ∷ [] })
     ∙ ap (λ (xs : List Modulator). record content { mods = xs }) (append_assoc content.mods (m ∷ []) ms)
 
-content_stands : (content : GlobalZone) → content_of (items_of content.gens content.mods) ≡ content
-content_stands content =
+content_reads_back : (content : GlobalZone) → content_of (items_of content.gens content.mods) ≡ content
+content_reads_back content =
     with_generators (entries content.gens) no_content (modulator_items content.mods)
     ∙ with_modulators content.mods (record no_content { gens = set_in_order no_gens (entries content.gens) })
     ∙ ap (λ (m : Gens). record content { gens = m }) (entries_set content.gens)
 
-pub zone_stands : (z : Zone) → zone_in (written_zone z) ≡ z
-zone_stands z = ap (zone_of z.target) (content_stands (record { gens = z.gens; mods = z.mods }))
+pub zone_reads_back : (z : Zone) → zone_in (written_zone z) ≡ z
+zone_reads_back z = ap (zone_of z.target) (content_reads_back (record { gens = z.gens; mods = z.mods }))
 
-all_stand : (zs : List Zone) → map zone_in (map written_zone zs) ≡ zs
-all_stand [] = refl
-all_stand (z ∷ zs) =
-    ap (λ (x : Zone). x ∷ map zone_in (map written_zone zs)) (zone_stands z)
-    ∙ ap (λ (xs : List Zone). z ∷ xs) (all_stand zs)
+all_read_back : (zs : List Zone) → map zone_in (map written_zone zs) ≡ zs
+all_read_back [] = refl
+all_read_back (z ∷ zs) =
+    ap (λ (x : Zone). x ∷ map zone_in (map written_zone zs)) (zone_reads_back z)
+    ∙ ap (λ (xs : List Zone). z ∷ xs) (all_read_back zs)
 
 no_modulators : (ms : List Modulator) → length ms ≡ 0 → ms ≡ []
 no_modulators [] h = refl
 no_modulators (m ∷ ms) h = absurd (omega (arith, h))
 
-none_stands : (g : GlobalZone) → len g.gens + length g.mods ≡ 0 → no_content ≡ g
-none_stands g n =
+no_content_reads_back : (g : GlobalZone) → len g.gens + length g.mods ≡ 0 → no_content ≡ g
+no_content_reads_back g n =
     let gens : g.gens ≡ no_gens = empty_of_len g.gens (omega (arith, n)) in
     let mods = no_modulators g.mods (omega (arith, n)) in
     sym
     (ap (λ (m : Gens). record g { gens = m }) gens
     ∙ ap (λ (ms : List Modulator). record no_content { mods = ms }) mods)
 
-global_stands : (g : GlobalZone) → global_in (global_of g) ≡ g
-global_stands g = from (len g.gens + length g.mods == 0) refl
+global_reads_back : (g : GlobalZone) → global_in (global_of g) ≡ g
+global_reads_back g = from (len g.gens + length g.mods == 0) refl
   where
     from : (b : Bool) → (len g.gens + length g.mods == 0) ≡ b
         → global_in (cond b None (Some (items_of g.gens g.mods))) ≡ g
-    from true k = none_stands g (eqb-true (len g.gens + length g.mods) 0 k)
-    from false k = content_stands g
+    from true k = no_content_reads_back g (eqb-true (len g.gens + length g.mods) 0 k)
+    from false k = content_reads_back g
 
-pub zones_stand : (g : GlobalZone) (zs : List Zone) → zones_in (written_of g zs) ≡ (g, zs)
-zones_stand g zs =
-    ap (λ (x : GlobalZone). (x, map zone_in (map written_zone zs))) (global_stands g)
-    ∙ ap (λ (ys : List Zone). (g, ys)) (all_stand zs)
+pub zones_read_back : (g : GlobalZone) (zs : List Zone) → zones_in (written_of g zs) ≡ (g, zs)
+zones_read_back g zs =
+    ap (λ (x : GlobalZone). (x, map zone_in (map written_zone zs))) (global_reads_back g)
+    ∙ ap (λ (ys : List Zone). (g, ys)) (all_read_back zs)
 
 -- ---- the value of zones on a line fits
 
@@ -151,10 +151,10 @@ modulator_fits m h = record {
   transform = word_low m.transform h.1.1.1.1.0;
 }
 
-behind_others : {X : Type 0} (P : X → Type 0) (xs : List X) (x : X) → AllByRecursion P xs → P x
+after_others : {X : Type 0} (P : X → Type 0) (xs : List X) (x : X) → AllByRecursion P xs → P x
     → AllByRecursion P (xs ++ x ∷ [])
-behind_others P [] x h p = (p, tt)
-behind_others P (y ∷ ys) x h p = (h.0, behind_others P ys x h.1 p)
+after_others P [] x h p = (p, tt)
+after_others P (y ∷ ys) x h p = (h.0, after_others P ys x h.1 p)
 
 item_fits : (content : GlobalZone) (i : Item) → FitsGlobal content → AllRanged (item_operands i)
     → FitsGlobal (with_item content i)
@@ -162,7 +162,7 @@ item_fits content (item.Generator operator a) f h =
     record
     { gens = All-insert FitsEntry content.gens operator a (generator_fits operator a h.1) f.gens; mods = f.mods }
 item_fits content (item.Modulator m) f h =
-    record { gens = f.gens; mods = behind_others FitsModulator content.mods m f.mods (modulator_fits m h.1) }
+    record { gens = f.gens; mods = after_others FitsModulator content.mods m f.mods (modulator_fits m h.1) }
 
 items_fit_on : (is : List Item) (content : GlobalZone) → FitsGlobal content → AllRanged (flat_map item_operands is)
     → FitsGlobal (with_items content is)
@@ -246,7 +246,8 @@ content_operands_fit gens mods h k =
 pub zone_operands_fit : (z : Zone) → FitsZone z → AllFit (zone_operands (written_zone z))
 zone_operands_fit z h = ((refl, refl), (word16 z.target h.target, content_operands_fit z.gens z.mods h.gens h.mods))
 
-zones_operands_fit : (zs : List Zone) → AllByRecursion FitsZone zs → AllFit (flat_map zone_operands (map written_zone zs))
+zones_operands_fit : (zs : List Zone) → AllByRecursion FitsZone zs
+    → AllFit (flat_map zone_operands (map written_zone zs))
 zones_operands_fit [] h = tt
 zones_operands_fit (z ∷ zs) h =
     both_fit (zone_operands (written_zone z)) (flat_map zone_operands (map written_zone zs)) (zone_operands_fit z h.0)

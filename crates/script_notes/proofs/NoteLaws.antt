@@ -10,16 +10,19 @@ use Rattle.script_tokens.proofs.GatherLaws.{gather_none, gather_on}
 use Rattle.script_notes.specs.declared.limits.TheConstants.{MOST_NOTES}
 use Rattle.script_notes.specs.declared.fault.NoteFault.{NoteFault}
 use Rattle.script_notes.specs.declared.fault.NoteFault.TheVariants as faults
-use Rattle.script_notes.specs.Notes.{Numbers, NoteResult, note, in_time, note_of_line, token_lines, notes_after, notes_of, with_note}
+use Rattle.script_notes.specs.Notes.{Numbers, NoteResult, note, in_time}
+use Rattle.script_notes.specs.Notes.{note_of_line, token_lines, notes_after, notes_of, with_note}
 use Rattle.script_notes.proofs.BareLaws.{judged_alike, nothing_alike, something_alike}
 
 -- ---- the line of a note or of its fault
 
-pub line_without_tokens : (n : ℕ) (token_values : List TokenValue) (notes : List Numbers) → token_values ≡ [] → with_note n token_values notes ≡ Ok notes
+pub line_without_tokens : (n : ℕ) (token_values : List TokenValue) (notes : List Numbers) → token_values ≡ []
+    → with_note n token_values notes ≡ Ok notes
 line_without_tokens n [] notes e = refl
 line_without_tokens n (s ∷ token_values) notes e = cc
 
-pub line_with_tokens : (n : ℕ) (token_values : List TokenValue) (notes : List Numbers) (r : NoteResult Numbers) → (token_values ≡ [] → ⊥)
+pub line_with_tokens : (n : ℕ) (token_values : List TokenValue) (notes : List Numbers) (r : NoteResult Numbers)
+    → (token_values ≡ [] → ⊥)
     → note_of_line (length notes) n (note token_values) ≡ r
     → with_note n token_values notes ≡ and_then r (λ x. Ok (notes ++ x ∷ []))
 line_with_tokens n [] notes r some e = absurd (some refl)
@@ -57,11 +60,11 @@ passed : (n : ℕ) (notes : List Numbers) (ls : List (List TokenValue))
 unfolding token_lines
 passed n notes ls = refl
 
-taken : (notes : List Numbers) (x : Numbers) (r s : NoteResult (List Numbers)) → r ≡ s
+result_same : (notes : List Numbers) (x : Numbers) (r s : NoteResult (List Numbers)) → r ≡ s
     → and_then (and_then r (λ xs. Ok (x ∷ xs))) (λ xs. Ok (notes ++ xs))
     ≡ and_then s (λ xs. Ok ((notes ++ x ∷ []) ++ xs))
-taken notes x (Ok xs) s e = rw (← e) (ap (λ (l : List Numbers). Ok l) (sym (append_assoc notes (x ∷ []) xs)))
-taken notes x (Err d) s e = rw (← e) refl
+result_same notes x (Ok xs) s e = rw (← e) (ap (λ (l : List Numbers). Ok l) (sym (append_assoc notes (x ∷ []) xs)))
+result_same notes x (Err d) s e = rw (← e) refl
 
 read : (n : ℕ) (notes : List Numbers) (s : TokenValue) (l : List TokenValue) (ls : List (List TokenValue)) (x : Numbers)
     → note_of_line (length notes) n (note (s ∷ l)) ≡ Ok x
@@ -77,7 +80,7 @@ read n notes s l ls x e =
     (λ x. and_then (notes_after (suc (length notes)) (token_lines (suc n) ls)) (λ xs. Ok (x ∷ xs))))
     (λ xs. Ok (notes ++ xs)))
     e
-    ∙ taken notes x _ _ (ap (λ (k : ℕ). notes_after k (token_lines (suc n) ls)) len)
+    ∙ result_same notes x _ _ (ap (λ (k : ℕ). notes_after k (token_lines (suc n) ls)) len)
 
 failed : (n : ℕ) (notes : List Numbers) (s : TokenValue) (l : List TokenValue) (ls : List (List TokenValue)) (d : NoteFault)
     → note_of_line (length notes) n (note (s ∷ l)) ≡ Err d
@@ -92,7 +95,8 @@ failed n notes s l ls d e =
     (λ xs. Ok (notes ++ xs)))
     e
 
-went_on : (n : ℕ) (notes more : List Numbers) (l : List TokenValue) (ls : List (List TokenValue)) → with_note n l notes ≡ Ok more
+went_on : (n : ℕ) (notes more : List Numbers) (l : List TokenValue) (ls : List (List TokenValue))
+    → with_note n l notes ≡ Ok more
     → then_notes n notes (l ∷ ls) ≡ then_notes (suc n) more ls
 went_on n notes more [] ls e =
     let same : notes ≡ more = cc in passed n notes ls ∙ ap (λ (xs : List Numbers). then_notes (suc n) xs ls) same
@@ -121,7 +125,8 @@ unfolding token_lines notes_after
 none_left n notes = ap (λ (xs : List Numbers). Ok xs) (append-nil notes)
 
 -- the lines, read one by one, give the same notes
-gathered : (n : ℕ) (notes : List Numbers) (ls : List (List TokenValue)) → gather with_note n ls notes ≡ then_notes n notes ls
+gathered : (n : ℕ) (notes : List Numbers) (ls : List (List TokenValue))
+    → gather with_note n ls notes ≡ then_notes n notes ls
 gathered n notes [] = gather_none with_note n notes ∙ sym (none_left n notes)
 gathered n notes (l ∷ ls) =
     gather_on with_note n l ls notes ∙ from (λ more. gathered (suc n) more ls) (with_note n l notes) refl

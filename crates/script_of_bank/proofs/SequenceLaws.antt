@@ -67,7 +67,7 @@ module _ {X : Type 0} (state : List X → List X → Parts) (edits : ℕ → X �
         ∙ (after_turns (done ++ x ∷ []) xs ∙ ap (λ (l : List X). state l []) (append_assoc done (x ∷ []) xs)))
 
     module _ (whole : List X)
-        (takes : (done : List X) (x : X) (rest : List X) → done ++ x ∷ rest ≡ whole
+        (each_writes : (done : List X) (x : X) (rest : List X) → done ++ x ∷ rest ≡ whole
         → AllAccepted (state done (x ∷ rest)) (edits (length done) x))
       where
         pub accepted_turns : (done xs : List X) → done ++ xs ≡ whole
@@ -77,7 +77,7 @@ module _ {X : Type 0} (state : List X → List X → Parts) (edits : ℕ → X �
             is_accepted-then (state done (x ∷ xs)) (state (done ++ x ∷ []) xs) (edits (length done) x)
             (in_turn edits (suc (length done)) xs)
             (step done x xs)
-            (takes done x xs e)
+            (each_writes done x xs e)
             (subst (λ (n : ℕ). AllAccepted (state (done ++ x ∷ []) xs) (in_turn edits n xs)) (next done x)
             (accepted_turns (done ++ x ∷ []) xs (append_assoc done (x ∷ []) xs ∙ e)))
 

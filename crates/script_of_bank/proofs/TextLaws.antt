@@ -122,9 +122,9 @@ same_samples : (ss : List Sample) → map (selected_sample Kept) ss ≡ ss
 same_samples [] = refl
 same_samples (s ∷ ss) = ap (λ (xs : List Sample). s ∷ xs) (same_samples ss)
 
-told_turns : (how : SamplePoints) (n : ℕ) (ss : List Sample)
+sample_turns : (how : SamplePoints) (n : ℕ) (ss : List Sample)
     → in_turn (selected_edits how) n ss ≡ in_turn sample_edits n (map (selected_sample how) ss)
-told_turns how n ss = turns_of (selected_edits how) sample_edits (selected_sample how) (λ n s. refl) n ss
+sample_turns how n ss = turns_of (selected_edits how) sample_edits (selected_sample how) (λ n s. refl) n ss
 
 link_turns : (how : SamplePoints) (n : ℕ) (ss : List Sample)
     → in_turn link_edits n ss ≡ in_turn link_edits n (map (selected_sample how) ss)
@@ -153,7 +153,7 @@ bank_lines how b =
     (λ i.
     texts_of es0
     ++
-    (texts_of (told_turns how 0 b.samples i)
+    (texts_of (sample_turns how 0 b.samples i)
     ++
     (texts_of (link_turns how 0 b.samples i)
     ++ (instruments_lines 0 b.instruments i ++ presets_lines 0 b.presets i))))

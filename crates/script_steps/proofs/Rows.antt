@@ -34,7 +34,7 @@ use Rattle.script_steps.proofs.Lawful.{IsLawful, ◌&◌, of_two, of_more, index
 use Rattle.script_steps.proofs.Lawful.{an_id, a_text, a_body, some_points, a_kind, a_loop, a_tune}
 use Rattle.script_steps.proofs.Lawful.{a_generator, a_modulator}
 use Rattle.script_steps.proofs.OwnerLaws.{names, moves, heads, owner_zones, owner_places}
-use Rattle.script_steps.proofs.TextFormLaws.{HasLawfulForms, in_one_way, adds_zone, added, adds_owner, owner_parts}
+use Rattle.script_steps.proofs.TextFormLaws.{HasLawfulForms, one_form, adds_zone, added, adds_owner, owner_parts}
 
 -- the step has the word, only these operands encode it, they are printed, and it fits where its values do
 abbrev pub IsOf : List ℕ → Step → (List Operand → Type 0) → List Operand → Type 0 → Type 1
@@ -75,14 +75,14 @@ spelt {p = p} {S} {o} {F} l make reads is =
 abbrev one : {f : Form} {X : Type 0} {p : Parser X} {o : X → List Operand} {F : X → Type 0} → IsLawful p o F
     → (make : X → Step) → f.1 ≡ (p >>= λ x. pure (make x))
     → ((x : X) → IsOf f.0 (make x) (λ os. os ≡ o x) (o x) (F x)) → Row f
-one l make reads is = spelt (in_one_way l) make (λ line. ap (λ (p : Parser Step). p line) reads) is
+one l make reads is = spelt (one_form l) make (λ line. ap (λ (p : Parser Step). p line) reads) is
 
 abbrev two : {f : Form} {X Y : Type 0} {p : Parser X} {q : Parser Y} {o : X → List Operand} {r : Y → List Operand}
     {F : X → Type 0} {G : Y → Type 0}
     → IsLawful p o F → IsLawful q r G → (make : X → Y → Step) → f.1 ≡ (p >>= λ x. q >>= λ y. pure (make x y))
     → ((x : X) (y : Y) → IsOf f.0 (make x y) (λ os. os ≡ o x ++ r y) (o x ++ r y) (F x × G y)) → Row f
 two {p = p} {q} l m make reads is =
-    spelt (in_one_way (l & m)) (λ a. make a.0 a.1)
+    spelt (one_form (l & m)) (λ a. make a.0 a.1)
     (λ line. ap (λ (p : Parser Step). p line) reads ∙ of_two p q make line) (λ a. is a.0 a.1)
 
 abbrev three : {f : Form} {X Y Z : Type 0} {p : Parser X} {q : Parser Y} {t : Parser Z} {o : X → List Operand}
@@ -94,7 +94,7 @@ abbrev three : {f : Form} {X Y Z : Type 0} {p : Parser X} {q : Parser Y} {t : Pa
     → IsOf f.0 (make x y z) (λ os. os ≡ o x ++ (r y ++ u z)) (o x ++ (r y ++ u z)) (F x × (G y × H z)))
     → Row f
 three {p = p} {q} {t} l m n make reads is =
-    spelt (in_one_way (l & m & n)) (λ a. make a.0 a.1.0 a.1.1)
+    spelt (one_form (l & m & n)) (λ a. make a.0 a.1.0 a.1.1)
     (λ line.
     ap (λ (p : Parser Step). p line) reads
     ∙ of_more p (m & n) (λ x b. make x b.0 b.1) (λ x. of_two q t (make x)) line)

@@ -21,7 +21,7 @@ use Rattle.script_grammar.proofs.KeepLaws.{zone_keeps, zones_keep}
 use Rattle.script_grammar.proofs.FitLaws as fit
 use Rattle.script_grammar.proofs.FitLaws.{AllRanged}
 use Rattle.script_grammar.proofs.ZoneFitLaws as zone_fit
-use Rattle.script_grammar.proofs.ZoneFitLaws.{zone_fits, zones_ranged, zone_stands, zones_stand, zones_fit}
+use Rattle.script_grammar.proofs.ZoneFitLaws.{zone_fits, zones_ranged, zone_reads_back, zones_read_back, zones_fit}
 use Rattle.script_grammar.proofs.OperandLaws.{AllFit, both_fit}
 use Rattle.script_steps.specs.Members.{place, printed_owner, EncodesOwner, owner_of, zones_of, owner}
 use Rattle.script_steps.specs.Owners.{of_zone, owner_zone}
@@ -42,9 +42,9 @@ pub record HasLawfulForms {X : Type 0} (part : Parser X) (Encodes : X → List O
   pub printed_encodes : (x : X) → Encodes x (printed x)
 
 -- a part with one text form
-pub in_one_way : {X : Type 0} {p : Parser X} {o : X → List Operand} {F : X → Type 0} → IsLawful p o F
+pub one_form : {X : Type 0} {p : Parser X} {o : X → List Operand} {F : X → Type 0} → IsLawful p o F
     → HasLawfulForms p (λ x os. os ≡ o x) o F
-in_one_way {X} {p} {o} l = record {
+one_form {X} {p} {o} l = record {
   gives = λ x os more end e line h. l.gives x line more (subst (λ (os : List Operand). AllEncode line (os ++ more)) e h);
   encoded = λ line t g e. record { operands = o t.value; encoding = refl; prefix = l.prefix line t g e };
   keeps = l.keeps;
@@ -113,7 +113,7 @@ a_zone = record {
   keeps = zone_keeps;
   fits = λ z os s h. subst FitsZone s.2 (zone_fits s.0 (subst AllRanged s.1 h));
   fit = zone_fit.zone_operands_fit;
-  printed_encodes = λ z. (written_zone z, refl, zone_stands z);
+  printed_encodes = λ z. (written_zone z, refl, zone_reads_back z);
 }
 
 -- `GLOBAL? ZONE*`
@@ -134,7 +134,7 @@ some_zones = record {
       subst (λ (z : GlobalZone × List Zone). FitsGlobal z.0 × AllByRecursion FitsZone z.1) s.2
       (zones_ranged s.0 (subst AllRanged s.1 h));
   fit = λ z h. zones_fit z.0 z.1 h.0 h.1;
-  printed_encodes = λ z. (written_of z.0 z.1, refl, zones_stand z.0 z.1);
+  printed_encodes = λ z. (written_of z.0 z.1, refl, zones_read_back z.0 z.1);
 }
 
 -- ---- an owner of zones, and where it is inserted

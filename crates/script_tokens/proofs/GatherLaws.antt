@@ -54,9 +54,10 @@ lines_over f n xs all whole e h = sym (rw e at h) ∙ gather_none f n xs
 
 -- ---- the literals of a line
 
-pub literals_taken : (n : ℕ) (pool more : List ℕ) (s : TokenValue) (line all : List TokenValue) (whole : ListOrFault ℕ) → all ≡ s ∷ line
+pub all_added : (n : ℕ) (pool more : List ℕ) (s : TokenValue) (line all : List TokenValue) (whole : ListOrFault ℕ)
+    → all ≡ s ∷ line
     → literals_of n all pool ≡ whole → literal_of n s pool ≡ Ok more → literals_of n line more ≡ whole
-literals_taken n pool more s line all whole e h a =
+all_added n pool more s line all whole e h a =
     let on = literals_on n s line pool in
     rw (e, on, a) at h
 

@@ -12,7 +12,8 @@ use Rattle.script_tokens.specs.declared.cursor.TokenValue.{TokenValue}
 use Rattle.script_tokens.specs.declared.cursor.TokenValue.TheVariants.{Word, Literal, Malformed}
 use Rattle.script_tokens.specs.Lines.{lines_of}
 use Rattle.script_tokens.specs.Tokens.{tokens_of}
-use Rattle.script_tokens.specs.TokenValue.{is_plain, is_hex, decoded, token_value, values_in, values_of_lines, size_of, value_over}
+use Rattle.script_tokens.specs.TokenValue.{is_plain, is_hex, decoded, token_value}
+use Rattle.script_tokens.specs.TokenValue.{values_in, values_of_lines, size_of, value_over}
 use Rattle.script_tokens.specs.TokenValue.{values_over, pool_after, line_values_over}
 use Rattle.script_tokens.specs.Pool.{ListOrFault, and_then, gather, literal_of, literals_of, pool_bytes}
 
@@ -37,7 +38,8 @@ pub record Through {X : Type 0} (r : ListOrFault X) (f : List X → ListOrFault 
   pub first : r ≡ Ok between
   pub second : f between ≡ Ok ys
 
-pub through : {X : Type 0} (r : ListOrFault X) (f : List X → ListOrFault X) (ys : List X) → and_then r f ≡ Ok ys → Through r f ys
+pub through : {X : Type 0} (r : ListOrFault X) (f : List X → ListOrFault X) (ys : List X) → and_then r f ≡ Ok ys
+    → Through r f ys
 through (Ok xs) f ys e = record { between = xs; first = refl; second = e }
 through (Err d) f ys e = cc
 
@@ -49,13 +51,13 @@ pub record LiteralInPool (t : Token) (pool more : List ℕ) : Type 0 where
   pub size : size_of t ≡ length bytes
   pub same : (rest : List ℕ) → value_over (bytes ++ rest) t ≡ token_value t
 
-taken : (n : ℕ) (bytes pool more : List ℕ) → literal_of n (Literal bytes) pool ≡ Ok more → more ≡ pool ++ bytes
+literal_added : (n : ℕ) (bytes pool more : List ℕ) → literal_of n (Literal bytes) pool ≡ Ok more → more ≡ pool ++ bytes
 unfolding literal_of
-taken n bytes pool more e = cc
+literal_added n bytes pool more e = cc
 
-not_taken : (n : ℕ) (w pool more : List ℕ) → literal_of n (Word w) pool ≡ Ok more → more ≡ pool ++ []
+pool_stays : (n : ℕ) (w pool more : List ℕ) → literal_of n (Word w) pool ≡ Ok more → more ≡ pool ++ []
 unfolding literal_of
-not_taken n w pool more e = let same : pool ≡ more = cc in sym same ∙ sym (append-nil pool)
+pool_stays n w pool more e = let same : pool ≡ more = cc in sym same ∙ sym (append-nil pool)
 
 never : (n : ℕ) (pool more : List ℕ) → literal_of n Malformed pool ≡ Ok more → ⊥
 unfolding literal_of
@@ -85,7 +87,7 @@ digits_in_pool n w pool more (Ok bytes) x d e =
     let len : (length w - 1) / 2 ≡ length bytes = (let a = h.2 in omega (arith, a, length-drop 1 w)) in
     record {
       bytes = bytes;
-      parts = taken n bytes pool more e;
+      parts = literal_added n bytes pool more e;
       size = rw (x, len) refl;
       same =
           λ rest.
@@ -94,14 +96,15 @@ digits_in_pool n w pool more (Ok bytes) x d e =
     }
 digits_in_pool n w pool more (Err f) x d e = absurd (never n pool more e)
 
-plain_in_pool : (n : ℕ) (w pool more : List ℕ) (t : Bool) → is_hex w ≡ t → literal_of n (token_value (Plain w)) pool ≡ Ok more
+plain_in_pool : (n : ℕ) (w pool more : List ℕ) (t : Bool) → is_hex w ≡ t
+    → literal_of n (token_value (Plain w)) pool ≡ Ok more
     → LiteralInPool (Plain w) pool more
 unfolding size_of value_over
 plain_in_pool n w pool more true x e =
     digits_in_pool n w pool more (decode_of (drop 1 w)) x refl (rw (value_of_digits w x) at e)
 plain_in_pool n w pool more false x e = record {
   bytes = [];
-  parts = not_taken n w pool more (rw (value_of_word w x) at e);
+  parts = pool_stays n w pool more (rw (value_of_word w x) at e);
   size = rw x refl;
   same = λ rest. rw (value_of_word w x, x) refl;
 }
@@ -111,7 +114,7 @@ quoted_in_pool : (n : ℕ) (i pool more : List ℕ) (t : Bool) → list_all is_p
 unfolding size_of value_over
 quoted_in_pool n i pool more true x e = record {
   bytes = i;
-  parts = taken n i pool more (rw (value_of_quoted i x) at e);
+  parts = literal_added n i pool more (rw (value_of_quoted i x) at e);
   size = refl;
   same = λ rest. rw (value_of_quoted i x) (ap (λ (b : List ℕ). Literal b) (take_at i rest (length i) refl));
 }
@@ -121,7 +124,8 @@ value_of_broken : token_value Broken ≡ Malformed
 unfolding token_value
 value_of_broken = refl
 
-pub literal_in_pool : (n : ℕ) (t : Token) (pool more : List ℕ) → literal_of n (token_value t) pool ≡ Ok more → LiteralInPool t pool more
+pub literal_in_pool : (n : ℕ) (t : Token) (pool more : List ℕ) → literal_of n (token_value t) pool ≡ Ok more
+    → LiteralInPool t pool more
 literal_in_pool n (Plain w) pool more e = plain_in_pool n w pool more (is_hex w) refl e
 literal_in_pool n (Quoted i) pool more e = quoted_in_pool n i pool more (list_all is_plain i) refl e
 literal_in_pool n Broken pool more e = absurd (never n pool more (rw value_of_broken at e))
@@ -145,7 +149,8 @@ pub literals_through : (n : ℕ) (s : TokenValue) (line : List TokenValue) (pool
 unfolding literals_of
 literals_through n s line pool more e = through (literal_of n s pool) (λ p. literals_of n line p) more e
 
-pub literals_in_pool : (n : ℕ) (ts : List Token) (pool more : List ℕ) → literals_of n (map token_value ts) pool ≡ Ok more
+pub literals_in_pool : (n : ℕ) (ts : List Token) (pool more : List ℕ)
+    → literals_of n (map token_value ts) pool ≡ Ok more
     → LiteralsInPool ts pool more
 literals_in_pool n [] pool more e = no_literals_in_pool n pool more e
 literals_in_pool n (t ∷ ts) pool more e =

@@ -21,7 +21,8 @@ use Rattle.script_tokens.specs.Tokens.{is_blank, is_quote, after_blanks, ends_we
 use Rattle.script_tokens.specs.Tokens.{token_at, and_tokens_after, tokens_of}
 use Rattle.script_tokens.specs.TokenValue.{is_plain, is_hex, decoded, token_value, values_in}
 use Rattle.script_tokens.specs.Parsers.{Parsed, Parser, and_then, or_fault, word, literal, number, number_of, signed}
-use Rattle.script_tokens.specs.Parsers.{signed_of, dots_at, both_of, number_word, numeral, range, range_of, digits_value}
+use Rattle.script_tokens.specs.Parsers.{signed_of, dots_at, both_of, number_word}
+use Rattle.script_tokens.specs.Parsers.{numeral, range, range_of, digits_value}
 use Rattle.script_tokens.specs.Parsers.{is_digit, is_name, name_of, name, ended}
 use Rattle.script_tokens.specs.Pool.{gather, literal_of, literals_of}
 use Rattle.script_tokens.specs.TextForm.{not_blank, Shows, is_silent, HasNoTokens, Begins, LineHasValues, Writes}
@@ -96,7 +97,8 @@ pub record Shown (rest : List ℕ) (s : TokenValue) (after : List ℕ) : Type 0 
   pub shows : Shows token s
   pub apart : ends_well after ≡ true
 
-value_of_quoted : (i : List ℕ) (t : Bool) → list_all is_plain i ≡ t → token_value (Quoted i) ≡ cond t (Literal i) Malformed
+value_of_quoted : (i : List ℕ) (t : Bool) → list_all is_plain i ≡ t
+    → token_value (Quoted i) ≡ cond t (Literal i) Malformed
 unfolding token_value
 value_of_quoted i t e = rw e refl
 
@@ -104,7 +106,8 @@ value_of_broken : token_value Broken ≡ Malformed
 unfolding token_value
 value_of_broken = refl
 
-value_of_plain : (w : List ℕ) (t : Bool) → is_hex w ≡ t → token_value (Plain w) ≡ cond t (decoded (decode_of (drop 1 w))) (Word w)
+value_of_plain : (w : List ℕ) (t : Bool) → is_hex w ≡ t
+    → token_value (Plain w) ≡ cond t (decoded (decode_of (drop 1 w))) (Word w)
 unfolding token_value
 value_of_plain w t e = rw e refl
 
@@ -143,7 +146,8 @@ quoted_good r true e lt w g = record {
 }
 quoted_good r false e lt w g = absurd (rw (value_of_quoted (before_first is_quote r) false e) at g)
 
-quoted_shown : (r : List ℕ) (f : FirstToken) → quoted_at r ≡ f → Good (token_value f.token) → Shown (34 ∷ r) (token_value f.token) f.after
+quoted_shown : (r : List ℕ) (f : FirstToken) → quoted_at r ≡ f → Good (token_value f.token)
+    → Shown (34 ∷ r) (token_value f.token) f.after
 unfolding quoted_at
 quoted_shown r f e g =
     from (nat_lt (position_or_len is_quote r) (length r)) (ends_well (after_first is_quote r)) refl refl e
@@ -237,13 +241,15 @@ line_has_values : (ts : List Token) (line : List ℕ) → tokens_of line ≡ ts 
     → LineHasValues line (map token_value ts)
 line_has_values [] line e g = from (token_at (after_blanks line)) refl (sym (tokens_once line) ∙ e)
   where
-    from : (o : Option FirstToken) → token_at (after_blanks line) ≡ o → and_tokens_after o tokens_of ≡ [] → HasNoTokens line
+    from : (o : Option FirstToken) → token_at (after_blanks line) ≡ o → and_tokens_after o tokens_of ≡ []
+        → HasNoTokens line
     from None x k = no_token line x
     from (Some f) x k = cc
 line_has_values (t ∷ ts) line e g =
     from (λ after k. line_has_values ts after k g.1) (token_at (after_blanks line)) refl (sym (tokens_once line) ∙ e)
   where
-    from : ((after : List ℕ) → tokens_of after ≡ ts → LineHasValues after (map token_value ts)) → (o : Option FirstToken)
+    from : ((after : List ℕ) → tokens_of after ≡ ts → LineHasValues after (map token_value ts))
+        → (o : Option FirstToken)
         → token_at (after_blanks line) ≡ o → and_tokens_after o tokens_of ≡ t ∷ ts → LineHasValues line (map token_value (t ∷ ts))
     from more None x k = cc
     from more (Some f) x k =
@@ -263,7 +269,8 @@ literal_good n (Word w) pool more e = tt
 literal_good n (Literal bytes) pool more e = tt
 literal_good n Malformed pool more e = cc
 
-literals_good : (n : ℕ) (token_values : List TokenValue) (pool more : List ℕ) → literals_of n token_values pool ≡ Ok more → AllGood token_values
+literals_good : (n : ℕ) (token_values : List TokenValue) (pool more : List ℕ)
+    → literals_of n token_values pool ≡ Ok more → AllGood token_values
 literals_good n [] pool more e = tt
 literals_good n (s ∷ token_values) pool more e =
     let t = literals_through n s token_values pool more e in
@@ -297,23 +304,23 @@ decoded_bytes : (w : List ℕ) (r : Result (List ℕ) FromHexError) → decode_o
 decoded_bytes w (Ok bytes) e = (decode_of-ok w bytes e).3
 decoded_bytes w (Err f) e = tt
 
-said_bytes : (t : Token) → HoldsBytes (token_value t)
+value_has_bytes : (t : Token) → HoldsBytes (token_value t)
 unfolding token_value
-said_bytes (Plain w) = from (is_hex w)
+value_has_bytes (Plain w) = from (is_hex w)
   where
     from : (b : Bool) → HoldsBytes (cond b (decoded (decode_of (drop 1 w))) (Word w))
     from true = decoded_bytes (drop 1 w) (decode_of (drop 1 w)) refl
     from false = tt
-said_bytes (Quoted i) = from (list_all is_plain i) refl
+value_has_bytes (Quoted i) = from (list_all is_plain i) refl
   where
     from : (b : Bool) → list_all is_plain i ≡ b → HoldsBytes (cond b (Literal i) Malformed)
     from true e = plain_bytes i e
     from false e = tt
-said_bytes Broken = tt
+value_has_bytes Broken = tt
 
 pub tokens_bytes : (ts : List Token) → AllHoldBytes (map token_value ts)
 tokens_bytes [] = tt
-tokens_bytes (t ∷ ts) = (said_bytes t, tokens_bytes ts)
+tokens_bytes (t ∷ ts) = (value_has_bytes t, tokens_bytes ts)
 
 -- ---- parts
 
@@ -460,7 +467,8 @@ numeral_is W f writes line t e =
       writes = writes b.first.value t.value k.0;
     }
 
-pub number_is : (limit : ℕ) (line : List TokenValue) (t : Parsed ℕ) → number limit line ≡ Ok t → Numbered (Writes limit) line t
+pub number_is : (limit : ℕ) (line : List TokenValue) (t : Parsed ℕ) → number limit line ≡ Ok t
+    → Numbered (Writes limit) line t
 unfolding number
 number_is limit line t e = numeral_is (Writes limit) (number_of limit) (writes limit) line t e
 
@@ -506,7 +514,8 @@ name_is line t h e =
     let n = name_is_name b.first.value t.value bytes o.0 in
     (l ∙ ap (λ (x : List ℕ). Literal x ∷ b.first.rest) n.0 ∙ ap (λ (x : List TokenValue). Literal t.value ∷ x) o.1, n.1)
 
-pub ended_is : {X : Type 0} (x : X) (line : List TokenValue) (t : Parsed X) → ended x line ≡ Ok t → (line ≡ []) × (x ≡ t.value)
+pub ended_is : {X : Type 0} (x : X) (line : List TokenValue) (t : Parsed X) → ended x line ≡ Ok t
+    → (line ≡ []) × (x ≡ t.value)
 unfolding ended
 ended_is x [] t e = let k : record { value = x; rest = [] } ≡ t = cc in (refl, ap (λ (u : Parsed _). u.value) k)
 ended_is x (s ∷ line) t e = cc

@@ -35,10 +35,10 @@ all_of : {X : Type 0} (P Q : X → Type 0) (xs : List X) → ((x : X) → P x �
 all_of P Q [] f h = tt
 all_of P Q (x ∷ xs) f h = (f x h.0, all_of P Q xs f h.1)
 
-all_taken : {X : Type 0} (P : X → Type 0) (n : ℕ) (xs : List X) → AllByRecursion P xs → AllByRecursion P (take n xs)
-all_taken P zero xs h = tt
-all_taken P (suc n) [] h = tt
-all_taken P (suc n) (x ∷ xs) h = (h.0, all_taken P n xs h.1)
+all_of_take : {X : Type 0} (P : X → Type 0) (n : ℕ) (xs : List X) → AllByRecursion P xs → AllByRecursion P (take n xs)
+all_of_take P zero xs h = tt
+all_of_take P (suc n) [] h = tt
+all_of_take P (suc n) (x ∷ xs) h = (h.0, all_of_take P n xs h.1)
 
 all_left : {X : Type 0} (P : X → Type 0) (n : ℕ) (xs : List X) → AllByRecursion P xs → AllByRecursion P (drop n xs)
 all_left P zero xs h = h
@@ -171,7 +171,7 @@ few_slice bags from to h =
       few =
           omega (arith, h.few, length-slice bags from to);
       short =
-          all_taken IsShort (to - from) (drop from bags) (all_left IsShort from bags h.short);
+          all_of_take IsShort (to - from) (drop from bags) (all_left IsShort from bags h.short);
     }
 
 few_windows_from : (bags : List Bagged) (at : ℕ) (is : List ℕ) → IsFew bags

@@ -65,9 +65,9 @@ pub map_len : (es : List (ℕ × ℕ)) (start : ℕ) → EndsInMap start es → 
 map_len es start m = len_held m.own refl ∙ length-drop start es
 
 -- the list is the old entries followed by the entries of the map
-pub entries_behind : (old new : List (ℕ × ℕ)) (start : ℕ) (m : Gens) → start ≡ length old
+pub entries_after : (old new : List (ℕ × ℕ)) (start : ℕ) (m : Gens) → start ≡ length old
     → take start new ≡ take start old → EndsInMap start new → map_from start new ≡ m → new ≡ old ++ map.entries m
-entries_behind old new start m from front ends is =
+entries_after old new start m from front ends is =
     let first : take start new ≡ old = front ∙ ap (λ n. take n old) from ∙ take-all old in
     let rest = sym (entries_held ends.own is) in
     front-and-rest start new ∙ (λ i. first i ++ rest i)

@@ -17,16 +17,16 @@ use Rattle.sf_reader.specs.Gens.{entry_of, entries_in, one_if}
 
 -- ---- the last record, or entry, of each operator
 
-stands_entry : (op : ℕ) (rs : List Generator)
+is_listed_entry : (op : ℕ) (rs : List Generator)
     → list_any (λ (x : ℕ × ℕ). eqb x.0 op) (map entry_of rs) ≡ list_any (λ (x : Generator). eqb x.operator op) rs
-stands_entry op [] = refl
-stands_entry op (r ∷ rs) = rw (stands_entry op rs) refl
+is_listed_entry op [] = refl
+is_listed_entry op (r ∷ rs) = rw (is_listed_entry op rs) refl
 
 last_entries : (rs : List Generator) → map entry_of (last_of_each rs) ≡ map_of.last_of_each (map entry_of rs)
 last_entries [] = refl
 last_entries (r ∷ rs) =
     let rest = last_entries rs in
-    rw (stands_entry r.operator rs) (
+    rw (is_listed_entry r.operator rs) (
     elim (list_any (λ (x : Generator). eqb x.operator r.operator) rs) as
     (λ s.
     map entry_of (cond s (last_of_each rs) (r ∷ last_of_each rs))

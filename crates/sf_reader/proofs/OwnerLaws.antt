@@ -258,7 +258,8 @@ module _ {O H : Type 0} (k : Headers O H) (targets : ℕ) (missing : ReadFault) 
           here)
 
       -- adding its counts does not overflow
-      pub left_small : AreFew (counts_over k.level all) → AreSmall (added read.counts (counts_read k.level (between h n)))
+      pub left_small : AreFew (counts_over k.level all)
+          → AreSmall (added read.counts (counts_read k.level (between h n)))
       left_small few =
           let rest = windows table (map k.first_bag (n ∷ ns)) in
           let so_far = remaining.so_far in
@@ -349,6 +350,6 @@ pub between_as : {H : Type 0} (P : Level → List Bagged → Type 0) (first_bag 
     (at found : Level) (part : List Bag) (i j : ℕ)
     → found ≡ at → part ≡ slice_range l.bags i (j + 1) → i ≡ first_bag h → j ≡ first_bag n
     → P found (bags_in part l.generators l.modulators) → P at (window_of first_bag l h n)
-between_as P first_bag l h n at found part i j same is first next said =
+between_as P first_bag l h n at found part i j same is first next same_bags =
     let bags = bags_between l.bags part l.generators l.modulators i j (first_bag h) (first_bag n) is first next in
-    subst (λ (a : Level). P a (window_of first_bag l h n)) same (subst (P found) bags said)
+    subst (λ (a : Level). P a (window_of first_bag l h n)) same (subst (P found) bags same_bags)

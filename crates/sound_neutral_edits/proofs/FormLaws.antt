@@ -31,8 +31,8 @@ use Rattle.edit_refusals.specs.declared.refusal.Refusal.TheVariants.{Of}
 use Rattle.edit_forms.specs.Steps.{raw, refusal, is_neutral_step}
 use Rattle.edit_refusals.specs.Edits as edits
 use Rattle.edit_refusals.proofs.Accepted.{accepted}
-use Rattle.edit_refusals.proofs.SampleLaws.{goes_in, comes_out, moves_sample}
-use Rattle.edit_refusals.proofs.InstrumentLaws.{instrument_goes, instrument_comes, moves_instrument}
+use Rattle.edit_refusals.proofs.SampleLaws.{add_sample_allowed, remove_sample_allowed, moves_sample}
+use Rattle.edit_refusals.proofs.InstrumentLaws.{add_instrument_allowed, remove_instrument_allowed, moves_instrument}
 use Rattle.edit_refusals.proofs.ZoneLaws.{can_of_split_zone, can_of_join_zone}
 use Rattle.bank_edits.specs.Undone.{IsAccepted}
 use Rattle.zone_select.specs.Select.{Voice}
@@ -68,11 +68,11 @@ module _ {X : Type 0} (g : Option Voice → List X) (R : Parts → Parts → Typ
   instrument_kept : (b : Parts) (s : InstrumentStep) → FitsStep (steps.Instrument s)
       → refusal b (steps.Instrument s) ≡ None → R b (raw b (steps.Instrument s))
   instrument_kept b (AddInstrument at x) fits h =
-      instrument_added_alike R same b at x (instrument_goes b at x fits.1 h).place
+      instrument_added_alike R same b at x (add_instrument_allowed b at x fits.1 h).place
   instrument_kept b (RemoveInstrument i) fits h =
       instrument_removed_alike R same b i
       (untargeted_instrument b i
-      (instrument_comes b i (accepted b (steps.Instrument (RemoveInstrument i)) h).tests).free)
+      (remove_instrument_allowed b i (accepted b (steps.Instrument (RemoveInstrument i)) h).tests).free)
   instrument_kept b (RenameInstrument i name) fits h = instrument_renamed_alike R same b i name
   instrument_kept b (MoveInstrument i j) fits h =
       let m = moves_instrument b i j h in instrument_moved_alike R same b i j m.there m.place
@@ -80,10 +80,10 @@ module _ {X : Type 0} (g : Option Voice → List X) (R : Parts → Parts → Typ
   sample_kept : (b : Parts) (s : SampleStep) → refusal b (steps.Sample s) ≡ None → R b (raw b (steps.Sample s))
   sample_kept b (RenameSample i name) h = sample_renamed_alike R same b i name
   sample_kept b (AddSample at s) h =
-      sample_added_alike R same b at s (goes_in b at s (accepted b (steps.Sample (AddSample at s)) h).tests).place
+      sample_added_alike R same b at s (add_sample_allowed b at s (accepted b (steps.Sample (AddSample at s)) h).tests).place
   sample_kept b (RemoveSample i) h =
       sample_removed_alike R same b i
-      (untargeted_sample b i (comes_out b i (accepted b (steps.Sample (RemoveSample i)) h).tests).free)
+      (untargeted_sample b i (remove_sample_allowed b i (accepted b (steps.Sample (RemoveSample i)) h).tests).free)
   sample_kept b (MoveSample i j) h = let m = moves_sample b i j h in sample_moved_alike R same b i j m.there m.place
 
   points_kept : (b : Parts) (i : ℕ) (s : PointStep) → is_neutral_step (steps.Points i s) ≡ true
@@ -120,7 +120,8 @@ module _ {X : Type 0} (g : Option Voice → List X) (R : Parts → Parts → Typ
   neutral_kept b (One s) sound t n = step_kept b s sound t.fits (no_cause (refusal b s) t.accepted) n
   neutral_kept b (Group group) sound t n = absurd cc
 
-pub neutral_alike : (b : Parts) (e : Edit) → IsSound b → IsAccepted b e → is_neutral e ≡ true → AreAlike b (edits.raw b e)
+pub neutral_alike : (b : Parts) (e : Edit) → IsSound b → IsAccepted b e → is_neutral e ≡ true
+    → AreAlike b (edits.raw b e)
 neutral_alike = neutral_kept listed AreAlike alike_by_same alike
 
 pub neutral_pairs : (b : Parts) (e : Edit) → IsSound b → IsAccepted b e → is_neutral e ≡ true

@@ -2,14 +2,14 @@ use Rattle.std.proofs.Common.{◌≤◌, length}
 use Rattle.edit_forms.specs.declared.settings.SettingStep.TheVariants.{AddMod}
 use Rattle.edit_forms.specs.declared.step.Step.TheVariants as steps
 use Rattle.edit_refusals.proofs.Accepted.{accepted}
-use Rattle.edit_refusals.proofs.SettingLaws.{mod_goes, sound_add_mod}
+use Rattle.edit_refusals.proofs.SettingLaws.{add_mod_allowed, sound_add_mod}
 use Rattle.edit_refusals.proofs.PlaceLaws.{some_settings, mods_hold}
 use Rattle.bank_edits.proofs.settings.add_mod.Goals as goal
 
 pub add_mod-requires-clause-there : goal.add_mod-requires-clause-there
 add_mod-requires-clause-there c =
     let g =
-    mod_goes c.args.bank.now c.args.owner c.args.place c.args.index c.args.modulator
+    add_mod_allowed c.args.bank.now c.args.owner c.args.place c.args.index c.args.modulator
     (accepted c.args.bank.now
     (steps.Setting c.args.owner c.args.place (AddMod c.args.index c.args.modulator)) c.requires.accepted).tests
     in
@@ -18,7 +18,7 @@ add_mod-requires-clause-there c =
 pub add_mod-requires-clause-place : goal.add_mod-requires-clause-place
 add_mod-requires-clause-place c =
     let g =
-    mod_goes c.args.bank.now c.args.owner c.args.place c.args.index c.args.modulator
+    add_mod_allowed c.args.bank.now c.args.owner c.args.place c.args.index c.args.modulator
     (accepted c.args.bank.now
     (steps.Setting c.args.owner c.args.place (AddMod c.args.index c.args.modulator)) c.requires.accepted).tests
     in

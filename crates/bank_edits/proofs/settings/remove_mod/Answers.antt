@@ -2,7 +2,7 @@ use Rattle.std.proofs.Common.{◌<◌, length}
 use Rattle.edit_refusals.proofs.Accepted.{accepted}
 use Rattle.edit_forms.specs.declared.settings.SettingStep.TheVariants.{RemoveMod}
 use Rattle.edit_forms.specs.declared.step.Step.TheVariants as steps
-use Rattle.edit_refusals.proofs.SettingLaws.{mod_comes, sound_remove_mod}
+use Rattle.edit_refusals.proofs.SettingLaws.{remove_mod_allowed, sound_remove_mod}
 use Rattle.bank_edits.proofs.SettingLaws.{inverse_of_remove_mod}
 use Rattle.edit_refusals.proofs.PlaceLaws.{some_settings, mods_hold}
 use Rattle.bank_edits.proofs.settings.remove_mod.Goals as goal
@@ -10,7 +10,7 @@ use Rattle.bank_edits.proofs.settings.remove_mod.Goals as goal
 pub remove_mod-modulator-requires-clause-there : goal.remove_mod-modulator-requires-clause-there
 remove_mod-modulator-requires-clause-there c =
     let g =
-    mod_comes c.args.bank.now c.args.owner c.args.place c.args.index
+    remove_mod_allowed c.args.bank.now c.args.owner c.args.place c.args.index
     (accepted c.args.bank.now (steps.Setting c.args.owner c.args.place (RemoveMod c.args.index))
     c.requires.accepted).tests
     in
@@ -19,7 +19,7 @@ remove_mod-modulator-requires-clause-there c =
 pub remove_mod-modulator-requires-clause-place : goal.remove_mod-modulator-requires-clause-place
 remove_mod-modulator-requires-clause-place c =
     let g =
-    mod_comes c.args.bank.now c.args.owner c.args.place c.args.index
+    remove_mod_allowed c.args.bank.now c.args.owner c.args.place c.args.index
     (accepted c.args.bank.now (steps.Setting c.args.owner c.args.place (RemoveMod c.args.index))
     c.requires.accepted).tests
     in

@@ -1,10 +1,10 @@
-use Rattle.edit_refusals.proofs.ZoneLaws.{goes_of_set_target, sound_set_target}
+use Rattle.edit_refusals.proofs.ZoneLaws.{can_set_target, sound_set_target}
 use Rattle.bank_edits.proofs.ZoneLaws.{inverse_of_set_target}
 use Rattle.bank_edits.proofs.zones.set_target.Goals as goal
 
 pub set_target-was-requires-clause-there : goal.set_target-was-requires-clause-there
 set_target-was-requires-clause-there c =
-    (goes_of_set_target c.args.bank.now c.args.owner c.args.zone c.args.target c.requires.accepted).there
+    (can_set_target c.args.bank.now c.args.owner c.args.zone c.args.target c.requires.accepted).there
 
 pub set_target-was-requires-clause-sound : goal.set_target-was-requires-clause-sound
 set_target-was-requires-clause-sound c =

@@ -2,7 +2,7 @@ use Rattle.std.proofs.Common.{◌<◌, true, false, length}
 use Rattle.flat_records.specs.Runs.{cut}
 use Rattle.flat_records.specs.Bags.{Bag, with_mods}
 use Rattle.bank_owner_bags.specs.Owned.{bag_at}
-use Rattle.bank_parts.proofs.BagLaws.{some_of, next_of, record_goes}
+use Rattle.bank_parts.proofs.BagLaws.{some_of, next_of, remove_record_at}
 use Rattle.bank_parts.proofs.bag_changes.remove_mod_record.Goals as goal
 
 pub has_one_record-requires : goal.has_one_record-requires
@@ -19,10 +19,10 @@ cut_mods-requires c =
 
 pub returns-then-has_one_record : goal.returns-then-has_one_record
 returns-then-has_one_record c =
-    record_goes c.args.bags.now.owners c.args.i c.args.k (λ (b : Bag). with_mods (cut b.mods c.args.j 1) b) true
+    remove_record_at c.args.bags.now.owners c.args.i c.args.k (λ (b : Bag). with_mods (cut b.mods c.args.j 1) b) true
     c.has_one_record.ensures c.if-has_one_record.true c.cut_bag.ensures.owners
 
 pub returns-else-has_one_record : goal.returns-else-has_one_record
 returns-else-has_one_record c =
-    record_goes c.args.bags.now.owners c.args.i c.args.k (λ (b : Bag). with_mods (cut b.mods c.args.j 1) b) false
+    remove_record_at c.args.bags.now.owners c.args.i c.args.k (λ (b : Bag). with_mods (cut b.mods c.args.j 1) b) false
     c.has_one_record.ensures c.if-has_one_record.false c.cut_mods.ensures.owners

@@ -5,7 +5,7 @@ use Rattle.edit_forms.specs.declared.step.Step.TheVariants as steps
 use Rattle.edit_forms.specs.Causes.{no_such_owner, no_such_zone_at, no_such_modulator, linked_place}
 use Rattle.edit_forms.specs.Steps.{raw}
 use Rattle.edit_refusals.proofs.Accepted.{by_last}
-use Rattle.edit_refusals.proofs.SettingLaws.{mod_comes, within_remove_mod}
+use Rattle.edit_refusals.proofs.SettingLaws.{remove_mod_allowed, within_remove_mod}
 use Rattle.edit_refusals.proofs.settings.refuse_remove_mod.Goals as goal
 
 pub returns : goal.returns
@@ -21,4 +21,4 @@ returns c =
     (broken_limit (raw b (steps.Setting o at (RemoveMod j)))) c.linked_place.result (owner, (zone, (index, tt)))
     c.linked_place.ensures
     (λ link.
-    within_remove_mod b o at j c.requires.sound (mod_comes b o at j (owner, (zone, (index, (link, tt))))))
+    within_remove_mod b o at j c.requires.sound (remove_mod_allowed b o at j (owner, (zone, (index, (link, tt))))))

@@ -3,7 +3,7 @@ use Rattle.edit_forms.specs.declared.zones.ZoneStep.TheVariants.{AddZone}
 use Rattle.edit_forms.specs.declared.step.Step.TheVariants as steps
 use Rattle.edit_forms.specs.Steps.{causes}
 use Rattle.edit_refusals.proofs.Accepted.{NoneApplies, by_limit}
-use Rattle.edit_refusals.proofs.ZoneLaws.{zone_goes}
+use Rattle.edit_refusals.proofs.ZoneLaws.{add_zone_allowed}
 use Rattle.edit_refusals.proofs.zones.refuse_add_zone.Goals as goal
 
 pub returns : goal.returns
@@ -16,4 +16,4 @@ returns c =
     let tests : NoneApplies (causes b (steps.Zone o (AddZone c.args.at zone))) =
     (c.requires.owner, (c.in_ok-no_such_target_of.ensures, (place, (operators, (c.in_ok-bad_zone_range.ensures, tt))))) in
     by_limit b (steps.Zone o (AddZone c.args.at zone)) c.broken_with_zone.result c.full.result tests
-    (sym (c.broken_with_zone.ensures c.args.at (zone_goes b o c.args.at zone tests).place)) c.full.ensures
+    (sym (c.broken_with_zone.ensures c.args.at (add_zone_allowed b o c.args.at zone tests).place)) c.full.ensures

@@ -14,8 +14,8 @@ returns g c =
     let operands = g.H.AddedHead.operands in
     let (x, is) = slice_get-found c.args.owners.now c.args.i c.requires in
     let head : c.head.result.now ≡ x.head = (let p = rw is at c.head.ensures in cc p) in
-    let behind = puts_as _ _ (ap (λ h. spaced_out (operands h)) head) c.put_operands.ensures in
+    let following = puts_as _ _ (ap (λ h. spaced_out (operands h)) head) c.put_operands.ensures in
     let zones = rw is at c.put_zones_of.ensures in
     rw is (puts_line word (pieces_of (printed_owner operands c.args.i x)) (puts_as _ _ c.word.ensures c.put.ensures)
     (puts_owner operands c.args.i x (puts_both (place c.args.i ∷ []) (operands x.head) c.put_pieces.ensures
-    behind) zones) c.put-2.ensures)
+    following) zones) c.put-2.ensures)

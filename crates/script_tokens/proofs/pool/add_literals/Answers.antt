@@ -1,7 +1,7 @@
 use Rattle.std.proofs.Common.{map, ap}
 use Rattle.std.proofs.lemmas.Result.{err_from_is_err_and}
 use Rattle.script_tokens.specs.TokenValue.{token_value}
-use Rattle.script_tokens.proofs.GatherLaws.{step_fails, literals_taken, literals_stop, literals_over}
+use Rattle.script_tokens.proofs.GatherLaws.{step_fails, all_added, literals_stop, literals_over}
 use Rattle.script_tokens.proofs.pool.add_literals.Goals as goal
 
 pub loop-token-preserved : goal.loop-token-preserved
@@ -9,7 +9,7 @@ loop-token-preserved c = record {
   can_next = tt;
   is_finite = tt;
   left =
-      literals_taken c.args.number c.loop-token.pool.items c.add_literal.new.pool.items (token_value c.in-Some.token)
+      all_added c.args.number c.loop-token.pool.items c.add_literal.new.pool.items (token_value c.in-Some.token)
       (map token_value c.next.new.self) (map token_value c.loop-token.token-iterator) _
       (ap (map token_value) c.in-Some.ensures.steps) c.loop-token.invariant.left c.in_ok-add_literal.ensures;
 }

@@ -5,7 +5,7 @@ use Rattle.generators.specs.Gens.{Gens, no_gens, set_in_order}
 use Rattle.bank_format.specs.Zones.{gens_read}
 use Rattle.sf_reader.specs.Entries.{map_from}
 use Rattle.sf_reader.specs.Gens.{entries_in, one_if}
-use Rattle.sf_reader.proofs.EntryLaws.{ends_in_none, none_from, map_len, entries_behind}
+use Rattle.sf_reader.proofs.EntryLaws.{ends_in_none, none_from, map_len, entries_after}
 use Rattle.sf_reader.proofs.Reading.{used_fits, gens_are, all_read}
 use Rattle.sf_reader.proofs.bag.read_gens.Goals as goal
 
@@ -75,7 +75,7 @@ returns-clause-gens c =
     c.in_ok-target.ensures.set
     ∙ ap (λ (m : Gens). set_in_order m (entries_in c.args.level c.args.records.now))
     (none_from c.args.gens.now.items start from) in
-    entries_behind c.args.gens.now.items c.repair_ranges-ranges.new.gens.items start
+    entries_after c.args.gens.now.items c.repair_ranges-ranges.new.gens.items start
     (gens_read c.args.level c.args.records.now) from
     (c.repair_ranges-ranges.ensures.front ∙ c.in_ok-target.ensures.front) c.repair_ranges-ranges.ensures.map
     (gens_are c.args.level c.args.records.now (map_from start c.set_gens.new.gens.items) target raw

@@ -1,5 +1,5 @@
 use Rattle.std.proofs.Common.{◌∙◌}
-use Rattle.bank_changes.proofs.SampleLaws.{room_for, totals_grown}
+use Rattle.bank_changes.proofs.SampleLaws.{room_for, totals_with_sample}
 use Rattle.bank_core.proofs.bank.Bank.add_sample.Goals as goal
 
 pub with_sample-totals-requires : goal.with_sample-totals-requires
@@ -12,6 +12,6 @@ invariant_of-self-2 c =
     rw (c.in_ok-add_sample.ensures.ok, c.self.view_is) (
       c.requires.sound,
       c.with_sample-totals.ensures
-          ∙ totals_grown c.args.self.now c.self.inside.totals c.args.number c.args.sample c.len.result
+          ∙ totals_with_sample c.args.self.now c.self.inside.totals c.args.number c.args.sample c.len.result
           (rw c.self.view_is at c.self.invariant.1) c.len.ensures.value c.requires.place,
     )

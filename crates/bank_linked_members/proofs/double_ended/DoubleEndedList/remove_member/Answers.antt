@@ -6,11 +6,11 @@ pub returns-then-i-len-clause-list : goal.returns-then-i-len-clause-list
 returns-then-i-len-clause-list g c =
     let fields = c.self.inside in
     let slots = c.deref_mut in
-    let taken = c.take_to_front-x in
-    written_after fields.slots slots.result.now taken.new.members fields.blanks 1 slots.ensures.value
-    slots.ensures.len c.self.invariant taken.ensures.long
+    let to_front = c.take_to_front-x in
+    written_after fields.slots slots.result.now to_front.new.members fields.blanks 1 slots.ensures.value
+    slots.ensures.len c.self.invariant to_front.ensures.long
     ∙
-    (taken.ensures.rest
+    (to_front.ensures.rest
     ∙ ap (λ xs. remove xs c.args.i)
     (borrowed_after fields.blanks slots.result.now fields.slots.items c.args.self.now slots.ensures.value
     c.self.view_is))

@@ -1,5 +1,5 @@
 use Rattle.std.proofs.Common.{◌≤◌, ◌+◌, length, arith}
-use Rattle.flat_records.proofs.TableLaws.{bags_read, are_read, held, grown}
+use Rattle.flat_records.proofs.TableLaws.{bags_read, are_read, held, records_put}
 use Rattle.flat_records.proofs.BagPositions.{Places, spot, inside, place_read, gens_part, mods_part, later_raised}
 use Rattle.flat_records.proofs.bags.Bags.insert_records.Goals.{After-index-at}
 use Rattle.flat_records.proofs.bags.Bags.insert_records.Goals as goal
@@ -56,12 +56,12 @@ pub invariant_of-self : goal.invariant_of-self
 invariant_of-self c =
     let s = spot (held c.self.invariant c.self.view_is) c.args.k (Places c.args.j c.args.i) c.requires.place in
     are_read
-    (grown s.begin (place_read s c.index-at.ensures) c.args.j c.args.i c.args.gens.now c.args.mods.now s.holds.0
+    (records_put s.begin (place_read s c.index-at.ensures) c.args.j c.args.i c.args.gens.now c.args.mods.now s.holds.0
     s.holds.1 c.raise_from.ensures.list c.put_within.ensures.list c.put_within-2.ensures.list)
 
 pub returns-clause-bags : goal.returns-clause-bags
 returns-clause-bags c =
     let s = spot (held c.self.invariant c.self.view_is) c.args.k (Places c.args.j c.args.i) c.requires.place in
     bags_read
-    (grown s.begin (place_read s c.index-at.ensures) c.args.j c.args.i c.args.gens.now c.args.mods.now s.holds.0
+    (records_put s.begin (place_read s c.index-at.ensures) c.args.j c.args.i c.args.gens.now c.args.mods.now s.holds.0
     s.holds.1 c.raise_from.ensures.list c.put_within.ensures.list c.put_within-2.ensures.list)
