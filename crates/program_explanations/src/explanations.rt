@@ -449,10 +449,10 @@ fn of_cause(cause: Cause) -> (&'static str, &'static str) {
         ),
         Cause::BadPlace => (
             "The index is after the end of the list.",
-            "Use at most the number of members; for a move, one less.",
+            "Use at most the length of the list; for a move, one less.",
         ),
         Cause::InUse => (
-            "A zone uses the member, or another sample links to it.",
+            "A zone uses it, or another sample links to it.",
             "Change or remove its users first; `sfbank show --uses` counts them.",
         ),
         Cause::BadGenerator => (
