@@ -1,13 +1,13 @@
 //! The explanation of each fault and refusal.
 ghost use Rattle.std.specs.Prelude.{◌≡◌, ◌==◌, ℕ, IfSome, IsSome, find};
 ghost use Rattle.base_outputs.specs.Output.{Puts};
-ghost use Rattle.base_outputs.specs.Writing.{Delivers};
 ghost use Rattle.program_explanations.specs.Explanations.{number_of, name_of, IsOfNumber, explanation_text, line_of};
 ghost use Rattle.program_explanations.specs.declared.explanations.FaultCode.{FaultCode};
 
 use bank_format::ReadFault;
 use bank_validity::Limit;
-use base_outputs::{Output, OutputFault, WriteFault};
+use base_outputs::{Output, OutputFault};
+use base_texts::Text;
 use edit_refusals::{Cause, Refusal};
 use itoa::Buffer;
 use script_notes::NoteFault;
@@ -201,16 +201,13 @@ fn of_number(all: &[FaultCode], number: u32) -> Option<FaultCode>
         .find(|code| code.number() as u32 == number)
 }
 
-/// Writes an explanation in three lines: the number and name, the meaning, and what to do.
-pub fn write_explanation<W: Write>(
-    explanation: &Explanation,
-    out: &mut W,
-) -> Result<u64, WriteFault>
-    ensures { Delivers (W.contents out.old) (W.contents out.new) (explanation_text explanation.now) result }
-{
-    let mut output = Output::to(out);
-    put_explanation(explanation, &mut output);
-    output.deliver()
+/// Three lines: the number and name, the meaning, and what to do.
+impl Text for Explanation {
+    ghost bytes = { explanation_text };
+
+    fn put<W: Write>(&self, output: &mut Output<'_, W>) {
+        put_explanation(self, output);
+    }
 }
 
 /// Puts the three lines of an explanation into `output`.

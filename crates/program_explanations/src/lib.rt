@@ -3,4 +3,4 @@
 
 mod explanations;
 
-pub use explanations::{Explanation, FaultCode, explain, write_explanation};
+pub use explanations::{Explanation, FaultCode, explain};

@@ -14,7 +14,7 @@ mod zones;
 pub use laws::{
     edits_give_bank, edits_lead_anywhere, replacement_leads, text_determines_bank, text_gives_bank,
 };
-pub use replacement::put_replacement;
+pub use replacement::Replacement;
 pub use samples::SamplePoints;
-pub use script::put_bank_text;
+pub use script::BankScript;
 pub use zones::{put_global_of, put_zone_of};

@@ -15,17 +15,25 @@ use crate::script::put_parts;
 use crate::texts::put_set_info;
 use bank_core::{Bank, InfoId, Kind, Sample};
 use base_outputs::Output;
+use base_texts::Text;
 use script_tokens::{Piece, put_line};
 use std::io::Write;
 
-/// Writes the script that replaces `from` with `to`, which has the same minor version: lines that remove all
-/// parts of `from`, from its last preset to its first text, and then the lines that create `to`. It allocates
-/// nothing.
-pub fn put_replacement<W: Write>(from: &Bank<'_>, to: &Bank<'_>, output: &mut Output<'_, W>)
-    ensures { Puts W.contents output.old output.new (texts_of (edits_between from.now to.now)) }
-{
-    put_removal_edits(from, output);
-    put_parts(to, SamplePoints::Kept, output);
+/// The script that replaces `from` with `to`, which has the same minor version: lines that remove all parts of `from`,
+/// from its last preset to its first text, and then the lines that create `to`.
+#[derive(Clone, Copy)]
+pub struct Replacement<'t, 'a, 'b> {
+    pub from: &'t Bank<'a>,
+    pub to: &'t Bank<'b>,
+}
+
+impl Text for Replacement<'_, '_, '_> {
+    ghost bytes = { λ script. texts_of (edits_between script.from.now script.to.now) };
+
+    fn put<W: Write>(&self, output: &mut Output<'_, W>) {
+        put_removal_edits(self.from, output);
+        put_parts(self.to, SamplePoints::Kept, output);
+    }
 }
 
 // Writes the lines that remove all parts of a bank.

@@ -11,19 +11,28 @@ use crate::samples::{SamplePoints, put_samples};
 use crate::texts::put_texts;
 use bank_core::Bank;
 use base_outputs::Output;
+use base_texts::Text;
 use script_tokens::{Piece, put_line};
 use sf_base::BorrowedBytes;
 use std::io::Write;
 
-/// Writes the script that creates a bank from the empty bank of its minor version: a comment with the command
-/// that creates the empty bank, and a line for each edit, first of the texts that are not empty, then of the
-/// samples, their links, the instruments and the presets. With [`SamplePoints::LeftOut`] the comment states
-/// that points are left out, and each sample has none. It allocates nothing.
-pub fn put_bank_text<W: Write>(bank: &Bank<'_>, points: SamplePoints, output: &mut Output<'_, W>)
-    ensures { Puts W.contents output.old output.new (bank_script points bank.now) }
-{
-    put_first_line(points, bank.minor(), output);
-    put_parts(bank, points, output);
+/// The script that creates a bank from the empty bank of its minor version: a comment with the command that creates the
+/// empty bank, and a line for each edit, first of the texts that are not empty, then of the samples, their links, the
+/// instruments and the presets. With [`SamplePoints::LeftOut`] the comment states that points are left out, and each
+/// sample has none.
+#[derive(Clone, Copy)]
+pub struct BankScript<'t, 'a> {
+    pub bank: &'t Bank<'a>,
+    pub points: SamplePoints,
+}
+
+impl Text for BankScript<'_, '_> {
+    ghost bytes = { λ script. bank_script script.points script.bank.now };
+
+    fn put<W: Write>(&self, output: &mut Output<'_, W>) {
+        put_first_line(self.points, self.bank.minor(), output);
+        put_parts(self.bank, self.points, output);
+    }
 }
 
 // Writes the comment before all edits.

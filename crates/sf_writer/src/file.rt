@@ -13,18 +13,24 @@ use crate::records::put_pdta;
 use crate::sizes::Sizes;
 use bank_core::Bank;
 use base_outputs::{Output, WriteFault};
+use base_texts::Text;
 use std::io::Write;
 
-/// Puts the bank's canonical file into an output. It allocates nothing.
+/// The canonical file of a bank.
 ///
-/// The file has the lists `INFO`, `sdta` and `pdta`: the version, the engine, the name, and each other text that is
-/// not empty; the points of each sample, followed by 46 zero points; and the nine lists of records.
-pub fn put_bank<W: Write>(bank: &Bank<'_>, output: &mut Output<'_, W>)
-    ensures { Puts W.contents output.old output.new (canon bank.now) }
-{
-    let sizes = Sizes::of(bank);
-    put_form_head(output, *b"RIFF", *b"sfbk", sizes.file);
-    put_lists(output, bank, sizes);
+/// It has the lists `INFO`, `sdta` and `pdta`: the version, the engine, the name, and each other text that is not empty;
+/// the points of each sample, followed by 46 zero points; and the nine lists of records.
+#[derive(Clone, Copy)]
+pub struct BankFile<'t, 'a>(pub &'t Bank<'a>);
+
+impl Text for BankFile<'_, '_> {
+    ghost bytes = { λ file. canon file.0.now };
+
+    fn put<W: Write>(&self, output: &mut Output<'_, W>) {
+        let sizes = Sizes::of(self.0);
+        put_form_head(output, *b"RIFF", *b"sfbk", sizes.file);
+        put_lists(output, self.0, sizes);
+    }
 }
 
 /// Writes the bank's canonical file to a writer. It does not flush.
@@ -35,7 +41,7 @@ pub fn write<W: Write>(bank: &Bank<'_>, out: &mut W) -> Result<(), WriteFault>
     ensures { Writes (W.contents out.old) (W.contents out.new) (canon bank.now) result }
 {
     let mut output = Output::to(out);
-    put_bank(bank, &mut output);
+    BankFile(bank).put(&mut output);
     output.end()?;
     Ok(())
 }

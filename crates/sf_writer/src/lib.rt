@@ -16,4 +16,4 @@ mod sizes;
 mod terminals;
 mod zone_lists;
 
-pub use file::{encoded_len, put_bank, write};
+pub use file::{BankFile, encoded_len, write};

@@ -12,6 +12,7 @@ use Rattle.script_grammar.specs.declared.items.Item.{Item}
 use Rattle.script_grammar.specs.Operands.{pieces_of}
 use Rattle.script_grammar.specs.Zones.{zone_operands, written_zone, global_operands, global_of}
 use Rattle.show_listing.specs.declared.listing.Details.{Details}
+use Rattle.show_listing.specs.declared.listing.Listing.{Listing}
 use Rattle.show_listing.specs.Listing.{bank_line, counts_line, preset_line, instrument_line, sample_line, lines_from}
 use Rattle.show_listing.specs.Listing.{owner_line}
 use Rattle.show_listing.specs.Uses.{UsageCounts, usage_counts_in}
@@ -77,3 +78,7 @@ listing_with zones uses b counts =
 abbrev pub detailed_listing : Details → Parts → Counts → List ℕ
 detailed_listing details b counts =
     listing_with details.zones (if details.uses then Some (usage_counts_in b) else None) b counts
+
+-- the text of a listing
+abbrev pub listing_text : Listing → List ℕ
+listing_text l = listing_with l.zones l.uses l.bank.now l.counts.now

@@ -9,4 +9,4 @@ mod points;
 mod uses;
 mod zones;
 
-pub use listing::{Details, put_details, put_listing};
+pub use listing::{Details, Listing};

@@ -1,9 +1,9 @@
 //! The lines of a listing.
-ghost use Rattle.std.specs.Prelude.{◌≡◌, ◌<◌, length, slice_get, Option, IfSome, OnOk, OnErr};
+ghost use Rattle.std.specs.Prelude.{◌≡◌, ◌<◌, length, slice_get, Option, IfSome, IfOk};
 ghost use Rattle.std.specs.Option.{option_copied};
 ghost use Rattle.base_outputs.specs.Output.{Puts};
 ghost use Rattle.show_listing.specs.Listing.{listing, bank_line, counts_line, lines_from};
-ghost use Rattle.show_listing.specs.Details.{owner_lines, sample_lines, listing_with, detailed_listing};
+ghost use Rattle.show_listing.specs.Details.{owner_lines, sample_lines, listing_with, detailed_listing, listing_text};
 
 use crate::members::{ListedHead, put_sample};
 use crate::pieces::{number_piece, word_piece};
@@ -13,6 +13,7 @@ use crate::zones::put_zones;
 use bank_core::{Bank, Owners, Sample};
 use bank_format::Counts;
 use base_outputs::Output;
+use base_texts::Text;
 use script_tokens::put_line;
 use sf_base::OutOfMemory;
 use std::alloc::Global;
@@ -27,31 +28,61 @@ pub struct Details {
     pub uses: bool,
 }
 
-/// Writes a line for the bank, one for the counts of what the reader dropped or repaired, and one for each preset,
-/// instrument and sample. Names are written as literals of edit scripts. It allocates nothing.
-pub fn put_listing<W: Write>(bank: &Bank<'_>, counts: &Counts, output: &mut Output<'_, W>)
-    ensures { Puts W.contents output.old output.new (listing bank.now counts.now) }
-{
-    put_lines(bank, counts, false, None, output);
+/// The listing of a bank: a line for the bank, one for the counts of what the reader dropped or repaired, and one for
+/// each preset, instrument and sample, followed by its details. Names are written as literals of edit scripts.
+#[derive(Drop)]
+pub struct Listing<'t, 'a> {
+    bank: &'t Bank<'a>,
+    counts: &'t Counts,
+    zones: bool,
+    uses: Option<Uses>,
 }
 
-/// Writes the listing of `put_listing` and, after each member's line, its details: how often it is used, and then its
-/// zones, in the form of scripts.
-///
-/// Counting uses allocates; if that fails, nothing is written.
-pub fn put_details<W: Write>(
-    alloc: Global,
-    bank: &Bank<'_>,
-    counts: &Counts,
-    details: Details,
-    output: &mut Output<'_, W>,
-) -> Result<(), OutOfMemory>
-    ensures ok { OnOk result (Puts W.contents output.old output.new (detailed_listing details bank.now counts.now)) }
-    ensures err { OnErr result (output.new ≡ output.old) }
-{
-    let uses = requested_uses(alloc, bank, details.uses)?;
-    put_lines(bank, counts, details.zones, uses.as_ref(), output);
-    Ok(())
+impl<'t, 'a> Listing<'t, 'a> {
+    /// The listing without details.
+    pub fn plain(bank: &'t Bank<'a>, counts: &'t Counts) -> Listing<'t, 'a>
+        ensures { listing_text result ≡ listing bank.now counts.now }
+    {
+        Listing {
+            bank,
+            counts,
+            zones: false,
+            uses: None,
+        }
+    }
+
+    /// The listing with details after each member's line: how often it is used, and then its zones, in the form of
+    /// scripts. Counting uses allocates.
+    pub fn detailed(
+        alloc: Global,
+        bank: &'t Bank<'a>,
+        counts: &'t Counts,
+        details: Details,
+    ) -> Result<Listing<'t, 'a>, OutOfMemory>
+        ensures { IfOk result (λ text. listing_text text ≡ detailed_listing details bank.now counts.now) }
+    {
+        let uses = requested_uses(alloc, bank, details.uses)?;
+        Ok(Listing {
+            bank,
+            counts,
+            zones: details.zones,
+            uses,
+        })
+    }
+}
+
+impl Text for Listing<'_, '_> {
+    ghost bytes = { listing_text };
+
+    fn put<W: Write>(&self, output: &mut Output<'_, W>) {
+        put_lines(
+            self.bank,
+            self.counts,
+            self.zones,
+            self.uses.as_ref(),
+            output,
+        );
+    }
 }
 
 // Writes the lines of a bank, with those of zones and of uses if requested.

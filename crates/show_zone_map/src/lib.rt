@@ -8,4 +8,4 @@ mod rectangle;
 mod shapes;
 
 pub use laws::rectangles_select;
-pub use map::put_map;
+pub use map::ZoneMap;

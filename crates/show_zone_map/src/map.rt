@@ -13,6 +13,7 @@ use crate::rectangle::{Area, area_of, rectangle_at};
 use crate::shapes::put_rectangle;
 use bank_core::{Bank, Owner};
 use base_outputs::Output;
+use base_texts::Text;
 use std::io::Write;
 use zone_select::zones_in;
 
@@ -54,22 +55,30 @@ const FRAME: &[u8] =
 <text x='1142' y='628'>C8</text><text x='1262' y='628'>C9</text>
 ";
 
-/// Writes an SVG picture of the keys and velocities for which notes select the zones of a preset or an instrument.
+/// An SVG picture of the keys and velocities for which notes select the zones of a preset or an instrument.
 ///
 /// Keys run from left to right, over a keyboard on which key 60 is C4, and velocities from bottom to top. An instrument
 /// has a rectangle for each zone: its own ranges, else its global zone's, else 0 to 127. A preset has one for each of
 /// its zones with each zone of its instrument: the intersection of their ranges. A rectangle's colour depends on the
 /// number of its sample; a dot in that colour marks the root key; the tooltip has all numbers.
 ///
-/// If the owner doesn't exist, the picture is empty. It allocates nothing.
-pub fn put_map<W: Write>(bank: &Bank<'_>, owner: Owner, output: &mut Output<'_, W>)
-    ensures { Puts W.contents output.old output.new (picture bank.now owner) }
-{
-    put_head(output);
-    put_owner(bank, owner, output);
-    put_frame(output);
-    put_rectangles(bank, owner, output);
-    output.put(b"</svg>\n");
+/// If the owner doesn't exist, the picture is empty.
+#[derive(Clone, Copy)]
+pub struct ZoneMap<'t, 'a> {
+    pub bank: &'t Bank<'a>,
+    pub owner: Owner,
+}
+
+impl Text for ZoneMap<'_, '_> {
+    ghost bytes = { λ map. picture map.bank.now map.owner };
+
+    fn put<W: Write>(&self, output: &mut Output<'_, W>) {
+        put_head(output);
+        put_owner(self.bank, self.owner, output);
+        put_frame(output);
+        put_rectangles(self.bank, self.owner, output);
+        output.put(b"</svg>\n");
+    }
 }
 
 // Writes the start of all pictures.

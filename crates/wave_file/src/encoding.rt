@@ -1,11 +1,12 @@
 //! The bytes of a WAVE file, in the order of the file.
-ghost use Rattle.std.specs.Prelude.{◌≤◌};
+ghost use Rattle.std.specs.Prelude.{◌≡◌, ◌≤◌};
 ghost use Rattle.std.specs.List.{flat_map};
 ghost use Rattle.base_outputs.specs.Output.{Puts};
 ghost use Rattle.base_outputs.specs.Writing.{Writes};
 ghost use Rattle.wave_file.specs.Wave.{FitsWave, wave, head, format, sample_bytes};
 
 use base_outputs::{Output, WriteFault};
+use base_texts::Text;
 use byteorder::{ByteOrder, LittleEndian};
 use std::io::Write;
 
@@ -33,6 +34,31 @@ const HEAD_REST: u32 = 36;
 /// How many samples are encoded at a time.
 const PIECE: usize = 4096;
 
+/// A WAVE file of frames: left and right samples in turn.
+#[derive(Clone, Copy)]
+pub struct WaveFile<'a> {
+    frames: &'a [i16],
+    ghost fits: { FitsWave frames.now },
+}
+
+impl<'a> WaveFile<'a> {
+    /// The WAVE file of these frames.
+    pub fn new(frames: &'a [i16]) -> WaveFile<'a>
+        requires { FitsWave frames.now }
+        ensures { wave result.frames.now ≡ wave frames.now }
+    {
+        WaveFile { frames }
+    }
+}
+
+impl Text for WaveFile<'_> {
+    ghost bytes = { λ file. wave file.frames.now };
+
+    fn put<W: Write>(&self, output: &mut Output<'_, W>) {
+        put_wave(self.frames, output);
+    }
+}
+
 /// Writes frames as a whole WAVE file: left and right samples in turn. Does not flush. A fault has the number of bytes
 /// written.
 pub fn write_wave<W: Write>(frames: &[i16], out: &mut W) -> Result<(), WriteFault>
@@ -45,8 +71,8 @@ pub fn write_wave<W: Write>(frames: &[i16], out: &mut W) -> Result<(), WriteFaul
     Ok(())
 }
 
-/// Puts frames as a whole WAVE file: left and right samples in turn.
-pub fn put_wave<W: Write>(frames: &[i16], output: &mut Output<'_, W>)
+// Puts frames as a whole WAVE file.
+fn put_wave<W: Write>(frames: &[i16], output: &mut Output<'_, W>)
     requires { FitsWave frames.now }
     ensures { Puts W.contents output.old output.new (wave frames.now) }
 {

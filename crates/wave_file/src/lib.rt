@@ -17,12 +17,12 @@ mod sampler;
 mod sampler_pitch;
 mod sides;
 
-pub use encoding::{put_wave, write_wave};
+pub use encoding::{WaveFile, write_wave};
 pub use fault::WaveFault;
 pub use frames::{Frame, SamplerLoop};
 pub use importing::import_edits;
 pub use laws::sample_waves_read_back;
 pub use reading::read_recording;
 pub use recording::{Channels, Pitch, Recording, Sampler};
-pub use sample::put_sample_wave;
+pub use sample::SampleWave;
 pub use sides::Sides;

@@ -11,6 +11,7 @@ ghost use Rattle.wave_file.specs.SampleWave.{SAMPLER, numbers, mono_format, fram
 use crate::sampler_pitch::{pitch_fraction, unity_note};
 use bank_parts::Sample;
 use base_outputs::Output;
+use base_texts::Text;
 use riff_chunks::ChunkWriter;
 use sample_view::Points;
 use std::io::Write;
@@ -30,12 +31,37 @@ const LOOP_SIZE: u32 = 24;
 /// Nanoseconds per second.
 const SECOND: u32 = 1_000_000_000;
 
-/// Puts a sample as a whole WAVE file: 16-bit mono at its rate, and a `smpl` chunk with its key, its correction in
-/// cents and its loop. Allocates nothing.
+/// A sample as a WAVE file: 16-bit mono at its rate, and a `smpl` chunk with its key, its correction in cents and its
+/// loop.
 ///
 /// The `smpl` chunk has the pitch for other programs: a unity note of 0 to 127, and a fraction of a semitone above it.
 /// Its 8 bytes of sampler data keep the key and the correction, which the pitch does not determine.
-pub fn put_sample_wave<W: Write>(sample: &Sample<'_>, output: &mut Output<'_, W>)
+#[derive(Clone, Copy)]
+pub struct SampleWave<'t, 'a> {
+    sample: &'t Sample<'a>,
+    ghost few: { length sample.now.points ≤ POINTS },
+}
+
+impl<'t, 'a> SampleWave<'t, 'a> {
+    /// The WAVE file of this sample.
+    pub fn new(sample: &'t Sample<'a>) -> SampleWave<'t, 'a>
+        requires { length sample.now.points ≤ POINTS }
+        ensures { sample_wave result.sample.now ≡ sample_wave sample.now }
+    {
+        SampleWave { sample }
+    }
+}
+
+impl Text for SampleWave<'_, '_> {
+    ghost bytes = { λ file. sample_wave file.sample.now };
+
+    fn put<W: Write>(&self, output: &mut Output<'_, W>) {
+        put_sample_wave(self.sample, output);
+    }
+}
+
+// Puts a sample as a whole WAVE file.
+fn put_sample_wave<W: Write>(sample: &Sample<'_>, output: &mut Output<'_, W>)
     requires { length sample.now.points ≤ POINTS }
     ensures { Puts W.contents output.old output.new (sample_wave sample.now) }
 {

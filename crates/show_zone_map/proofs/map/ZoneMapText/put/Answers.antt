@@ -1,6 +1,6 @@
 use Rattle.base_outputs.proofs.OutputLaws.{puts_then}
 use Rattle.show_zone_map.specs.Picture.{picture}
-use Rattle.show_zone_map.proofs.map.put_map.Goals as goal
+use Rattle.show_zone_map.proofs.map.ZoneMapText.put.Goals as goal
 
 pub returns : goal.returns
 unfolding picture

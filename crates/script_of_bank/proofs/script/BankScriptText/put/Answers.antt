@@ -1,10 +1,10 @@
 use Rattle.std.proofs.Common.{ap}
 use Rattle.base_outputs.proofs.OutputLaws.{puts_as, puts_then}
 use Rattle.script_of_bank.specs.BankScript.{first_line, bank_script}
-use Rattle.script_of_bank.proofs.script.put_bank_text.Goals as goal
+use Rattle.script_of_bank.proofs.script.BankScriptText.put.Goals as goal
 
 pub returns : goal.returns
 unfolding bank_script
 returns g c =
-    puts_then _ _ (puts_as _ _ (ap (first_line c.args.points) c.minor.ensures) c.put_first_line.ensures)
+    puts_then _ _ (puts_as _ _ (ap (first_line c.args.self.now.points) c.minor.ensures) c.put_first_line.ensures)
     c.put_parts.ensures
