@@ -17,6 +17,14 @@ pub trait Text {
         ensures { Puts W.contents output.old output.new (bytes self.now) };
 }
 
+impl Text for &str {
+    ghost bytes = { λ text. text.now };
+
+    fn put<W: Write>(&self, output: &mut Output<'_, W>) {
+        output.put(self.as_bytes());
+    }
+}
+
 /// Writes a text, and flushes the writer. Allocates nothing. A fault of the writer has the number of bytes written.
 pub fn write_text<T: Text, W: Write>(text: &T, out: &mut W) -> Result<(), WriteFault>
     ensures { Delivers (W.contents out.old) (W.contents out.new) (T.bytes text.now) result }

@@ -3,3 +3,4 @@ pub mod Script
 pub mod Printing
 pub mod TextForm
 pub mod Laws
+pub mod RefusalText

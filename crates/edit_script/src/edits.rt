@@ -8,11 +8,12 @@ ghost use Rattle.script_tokens.specs.Printing.{spaced};
 ghost use Rattle.script_grammar.specs.Operands.{pieces_of};
 ghost use Rattle.script_grammar.specs.Memory.{ReadsOrOutOfMemory};
 ghost use Rattle.edit_script.specs.Grammar.{braced, braced_step, remaining_steps, group, one, one_or_group, edit};
-ghost use Rattle.edit_script.specs.Printing.{text_of};
+ghost use Rattle.edit_script.specs.Printing.{text_of, texts_of};
 ghost use Rattle.edit_forms.specs.declared.edit.Edit.TheVariants.{One, Group};
 
 use base_numbered_lists::NumberedList;
 use base_outputs::{Output, WriteFault};
+use base_texts::Text;
 use edit_forms::{Edit, Step};
 use script_grammar::fixed;
 use script_steps::{put_operands, step, word_of};
@@ -107,7 +108,21 @@ pub fn print<W: Write>(edit: &Edit<'_>, out: &mut W) -> Result<(), WriteFault>
     Ok(())
 }
 
-/// Writes the line of an edit, with its line feed, to an [`Output`]. It allocates nothing.
+/// The lines of edits, one after another.
+#[derive(Clone, Copy)]
+pub struct EditLines<'t, 'a>(pub &'t [Edit<'a>]);
+
+impl Text for EditLines<'_, '_> {
+    ghost bytes = { λ lines. texts_of lines.0.now };
+
+    fn put<W: Write>(&self, output: &mut Output<'_, W>) {
+        for edit in self.0 {
+            put_edit(edit, output);
+        }
+    }
+}
+
+/// Puts the line of an edit, with its line feed. It allocates nothing.
 pub fn put_edit<W: Write>(edit: &Edit<'_>, output: &mut Output<'_, W>)
     ensures { Puts W.contents output.old output.new (text_of edit.now) }
 {

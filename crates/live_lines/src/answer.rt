@@ -1,16 +1,16 @@
 //! The answer to a line.
 ghost use Rattle.std.specs.Prelude.{◌≡◌, ◌∷◌, [], codes};
-ghost use Rattle.std.specs.List.{flat_map};
 ghost use Rattle.base_outputs.specs.Output.{Puts};
-ghost use Rattle.script_tokens.specs.Printing.{line_text, spaced};
-ghost use Rattle.live_lines.specs.Answers.{answer_text, refused_text, refused_line, reason_pieces, detail_pieces, step_pieces, limit_pieces, fault_text, write_text, rejected_text};
+ghost use Rattle.script_tokens.specs.Printing.{line_text};
+ghost use Rattle.live_lines.specs.Answers.{answer_text, refused_text, refused_line, fault_text, write_text, rejected_text};
 
 use crate::fault::RequestFault;
 use crate::paths::FilePath;
-use bank_validity::Limit;
 use base_outputs::{Output, OutputFault};
-use edit_refusals::{Cause, Refusal};
-use script_tokens::{Piece, put_line, put_pieces};
+use base_texts::Text;
+use edit_refusals::Refusal;
+use edit_script::RefusalText;
+use script_tokens::{Piece, put_line};
 use sf_base::BorrowedBytes;
 use std::io::Write;
 
@@ -83,50 +83,8 @@ fn put_refusal<W: Write>(why: Refusal, output: &mut Output<'_, W>)
     ensures { Puts W.contents output.old output.new (refused_line why) }
 {
     output.put(b"refused");
-    put_reason(why, output);
+    RefusalText(why).put(output);
     output.put(b"\n");
-}
-
-fn put_reason<W: Write>(why: Refusal, output: &mut Output<'_, W>)
-    ensures { Puts W.contents output.old output.new (flat_map spaced (reason_pieces why)) }
-{
-    let number = Piece::Number(u64::from(why.number()));
-    put_pieces(&[number, word(why.name())], output);
-    put_detail(why, output);
-}
-
-// Puts what follows the name.
-fn put_detail<W: Write>(why: Refusal, output: &mut Output<'_, W>)
-    ensures { Puts W.contents output.old output.new (flat_map spaced (detail_pieces why)) }
-{
-    match why {
-        Refusal::Of(cause) => put_limit(cause.limit(), output),
-        Refusal::GroupRefused(step, cause) => {
-            put_step(step, cause, output);
-            put_limit(cause.limit(), output);
-        }
-        Refusal::OutOfMemory | Refusal::NothingToUndo | Refusal::NothingToRedo => {}
-    }
-}
-
-// Puts the index of a step of a group, and the cause to refuse it.
-fn put_step<W: Write>(step: usize, cause: Cause, output: &mut Output<'_, W>)
-    ensures { Puts W.contents output.old output.new (flat_map spaced (step_pieces step cause)) }
-{
-    let number = Piece::Number(u64::from(cause.number()));
-    put_pieces(
-        &[Piece::Number(step as u64), number, word(cause.name())],
-        output,
-    );
-}
-
-// Puts the limit that a bank would exceed.
-fn put_limit<W: Write>(limit: Option<Limit>, output: &mut Output<'_, W>)
-    ensures { Puts W.contents output.old output.new (flat_map spaced (limit_pieces limit)) }
-{
-    if let Some(limit) = limit {
-        put_pieces(&[word(limit.word())], output);
-    }
 }
 
 fn put_fault<W: Write>(fault: RequestFault, output: &mut Output<'_, W>)

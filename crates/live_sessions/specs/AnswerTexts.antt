@@ -11,7 +11,6 @@ use Rattle.live_lines.specs.declared.request.Request.TheVariants as asks
 use Rattle.live_lines.specs.declared.help.TheConstants.{HELP}
 use Rattle.sf_base.specs.declared.memory.Failure.{Failure}
 use Rattle.sf_base.specs.declared.memory.Failure.TheVariants as failures
-use Rattle.base_outputs.specs.declared.writing.WriteFault.{WriteFault}
 use Rattle.live_lines.specs.declared.answer.Answer.{Answer}
 use Rattle.live_lines.specs.declared.answer.Answer.TheVariants as answer
 use Rattle.live_lines.specs.declared.fault.RequestFault.{RequestFault}
@@ -54,12 +53,6 @@ is_last next.End = true
 abbrev pub failure_answer : Failure RequestFault → Answer
 failure_answer (failures.Fault f) = answer.Fault f
 failure_answer failures.OutOfMemory = answer.OutOfMemory
-
--- a fault of the writer is reported with the number of bytes written
-abbrev pub IsReported : {U : Type 0} → Result ℕ WriteFault → Result U LiveFault → Type 0
-IsReported (Ok total) (Ok u) = Unit {0}
-IsReported (Err stop) (Err why) = why ≡ fault.Answers stop.written
-IsReported delivered r = ⊥
 
 -- The text is written whole; with a fault exactly its first `n` bytes are, which may be all.
 abbrev pub IsWritten : {U : Type 0} → Option (List ℕ) → Option (List ℕ) → List ℕ → Result U LiveFault → Type 0

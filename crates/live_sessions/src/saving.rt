@@ -1,16 +1,12 @@
 //! What a session saves, and the interface that saves it.
-ghost use Rattle.std.specs.Prelude.{◌≡◌};
-ghost use Rattle.std.specs.List.{flat_map};
-ghost use Rattle.base_outputs.specs.Output.{Puts};
 ghost use Rattle.live_sessions.specs.Saved.{undo_text};
-ghost use Rattle.live_sessions.specs.Steps.{SaveIs};
 
-use crate::live::LiveState;
 use bank_core::Bank;
 use base_outputs::{Output, OutputFault};
+use base_texts::Text;
 use edit_forms::Edit;
 use edit_script::put_edit;
-use live_lines::{Answer, Paths};
+use live_lines::Paths;
 use std::io::Write;
 
 /// Why a bank and its undo script could not be saved.
@@ -36,8 +32,8 @@ pub trait Saves {
     // All saves so far, or None where they are not known.
     ghost saved: { Self → Option (List Saved) };
 
-    /// Saves the canonical file of a bank at `out`, and at `undo` its undo script, which [`put_undo`] puts. `back` has
-    /// the inverses of the session's edits, the oldest edit's first.
+    /// Saves the canonical file of a bank at `out`, and at `undo` its undo script, [`UndoLines`]. `back` has the
+    /// inverses of the session's edits, the oldest edit's first.
     fn save(
         &mut self,
         paths: &Paths<'_>,
@@ -48,13 +44,19 @@ pub trait Saves {
         ensures failed { OnErr result (Adds (saved self.old) (saved self.new) []) };
 }
 
-/// Puts the undo script: the edits of the list in reverse order. Allocates nothing.
-pub fn put_undo<W: Write>(back: &[Edit<'_>], output: &mut Output<'_, W>)
-    ensures { Puts W.contents output.old output.new (undo_text back.now) }
-{
-    let mut left = back.len();
-    while left > 0 {
-        left -= 1;
-        put_edit(&back[left], output);
+/// An undo script: the lines of inverses, the last of the list first.
+#[derive(Clone, Copy)]
+pub struct UndoLines<'t, 'a>(pub &'t [Edit<'a>]);
+
+impl Text for UndoLines<'_, '_> {
+    ghost bytes = { λ lines. undo_text lines.0.now };
+
+    fn put<W: Write>(&self, output: &mut Output<'_, W>) {
+        let back = self.0;
+        let mut remaining = back.len();
+        while remaining > 0 {
+            remaining -= 1;
+            put_edit(&back[remaining], output);
+        }
     }
 }

@@ -1,5 +1,5 @@
 -- The lines that report faults, and the exit status of a run's fault.
-use Rattle.std.specs.Prelude.{ℕ, List, [], ◌∷◌, ◌++◌, codes, decimal, Bool, true, false, Option, Some, None}
+use Rattle.std.specs.Prelude.{ℕ, List, [], ◌∷◌, ◌++◌, codes, decimal, Bool, true, false}
 use Rattle.std.specs.List.{concat}
 use Rattle.bank_format.specs.declared.fault.ReadFault.{ReadFault}
 use Rattle.bank_format.specs.FaultNames as reading
@@ -9,14 +9,10 @@ use Rattle.script_notes.specs.declared.fault.NoteFault.{NoteFault}
 use Rattle.script_notes.specs.Faults as notes
 use Rattle.wave_file.specs.declared.fault.WaveFault.{WaveFault}
 use Rattle.wave_file.specs.FaultNames as recordings
-use Rattle.bank_validity.specs.declared.limits.Limit.{Limit}
-use Rattle.bank_validity.specs.Limits.{word_of}
 use Rattle.edit_forms.specs.declared.cause.Cause.{Cause}
 use Rattle.edit_refusals.specs.declared.refusal.Refusal.{Refusal}
-use Rattle.edit_refusals.specs.declared.refusal.Refusal.TheVariants.{Of, OutOfMemory, NothingToUndo, NothingToRedo}
-use Rattle.edit_refusals.specs.declared.refusal.Refusal.TheVariants.{GroupRefused}
 use Rattle.edit_forms.specs.CauseNames as causes
-use Rattle.edit_refusals.specs.RefusalNames as refusals
+use Rattle.edit_script.specs.RefusalText.{refusal_text}
 use Rattle.base_outputs.specs.declared.output_fault.OutputFault.{OutputFault}
 use Rattle.base_outputs.specs.OutputFaults as rejected
 use Rattle.program_files.specs.declared.input_fault.InputFault.{InputFault}
@@ -57,35 +53,13 @@ script_line fault = text_line (scripts.line_of fault) (scripts.number_of fault) 
 abbrev pub notes_line : NoteFault → List ℕ
 notes_line fault = text_line (notes.line_of fault) (notes.number_of fault) (notes.name_of fault)
 
--- the limit that a bank would exceed
-abbrev pub limit_text : Option Limit → List ℕ
-limit_text (Some limit) = codes " " ++ word_of limit
-limit_text None = []
+-- a line that is refused
+abbrev pub refused_start : ℕ → List ℕ
+refused_start line = concat (codes "sfbank: line " ∷ decimal line ∷ codes ": refused" ∷ [])
 
--- a line and why it is refused, by number and name
-abbrev pub refusal_text : ℕ → Refusal → List ℕ
-refusal_text line why =
-    concat
-    (codes "sfbank: line " ∷ decimal line ∷ codes ": refused " ∷ decimal (refusals.refusal_number why) ∷ codes " "
-    ∷ refusals.refusal_name why ∷ [])
-
--- the index of a step of a group, counted from 0, and the cause to refuse it
-abbrev pub step_text : ℕ → Cause → List ℕ
-step_text step cause =
-    concat
-    (codes " " ∷ decimal step ∷ codes " " ∷ decimal (causes.number_of cause) ∷ codes " " ∷ causes.name_of cause
-    ∷ [])
-
--- what follows the name
-abbrev pub detail_text : Refusal → List ℕ
-detail_text (Of cause) = limit_text (causes.limit_of cause)
-detail_text (GroupRefused step cause) = step_text step cause ++ limit_text (causes.limit_of cause)
-detail_text OutOfMemory = []
-detail_text NothingToUndo = []
-detail_text NothingToRedo = []
-
+-- the same, and why
 abbrev pub refused_line : ℕ → Refusal → List ℕ
-refused_line line why = refusal_text line why ++ (detail_text why ++ codes "\n")
+refused_line line why = refused_start line ++ (refusal_text why ++ codes "\n")
 
 -- a line that is not neutral, in a run that accepts neutral edits only
 abbrev pub not_neutral_line : ℕ → List ℕ

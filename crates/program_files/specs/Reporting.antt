@@ -1,5 +1,5 @@
 -- How a fault is reported: a line on the standard error, and an exit status.
-use Rattle.std.specs.Prelude.{◌≡◌, ℕ, List, codes, take, ⊤, Bool, Option, ◌⊎◌}
+use Rattle.std.specs.Prelude.{◌≡◌, ℕ, List, [], codes, take, ⊤, Bool, Option, ◌⊎◌}
 use Rattle.std.specs.Io.KnownBytes.{Appends, Keeps}
 use Rattle.program_files.specs.FaultLines as lines
 use Rattle.program_files.specs.declared.fault.Fault.{Fault}
@@ -20,16 +20,22 @@ status_of PipeClosed = 5
 abbrev pub WritesPrefix : Option (List ℕ) → Option (List ℕ) → List ℕ → Type 0
 WritesPrefix old new line = (written : ℕ) × Appends old new (take written line)
 
--- A fault is reported by its line, followed on a terminal by the reason of a file fault. A pipe that its reader
--- closed is not reported. Clap's text for rejected arguments is not specified.
+-- The report of a fault: its line, followed on a terminal by the reason of a file fault. A pipe that its reader closed is
+-- not reported, and clap's text for rejected arguments is not specified.
+unfoldable pub report_text : Bool → Fault → List ℕ
+report_text is_terminal (Words error) = []
+report_text is_terminal NotText = codes "error: a word is not text\n"
+report_text is_terminal (Unexplained number) = lines.unexplained_line number
+report_text is_terminal (File path why) = lines.file_text is_terminal path.now why
+report_text is_terminal (Output fault path) = lines.output_line path.now fault
+report_text is_terminal (Run fault path) = lines.fault_line path.now fault
+report_text is_terminal PipeClosed = []
+
+-- The report is written, or a prefix of it.
 abbrev pub Reports : Bool → Option (List ℕ) → Option (List ℕ) → Fault → Type 0
 Reports is_terminal old new (Words error) = ⊤
-Reports is_terminal old new NotText = WritesPrefix old new (codes "error: a word is not text\n")
-Reports is_terminal old new (Unexplained number) = WritesPrefix old new (lines.unexplained_line number)
-Reports is_terminal old new (File path why) = WritesPrefix old new (lines.file_text is_terminal path.now why)
-Reports is_terminal old new (Output fault path) = WritesPrefix old new (lines.output_line path.now fault)
-Reports is_terminal old new (Run fault path) = WritesPrefix old new (lines.fault_line path.now fault)
 Reports is_terminal old new PipeClosed = Keeps old new
+Reports is_terminal old new fault = WritesPrefix old new (report_text is_terminal fault)
 
 -- A run that succeeds writes nothing, with status 0. Any other reports its fault, with the fault's status.
 abbrev pub Ends : Bool → Option (List ℕ) → Option (List ℕ) → ℕ → Type 0

@@ -3,14 +3,15 @@ ghost use Rattle.std.specs.Prelude.{◌≡◌, IfOk};
 ghost use Rattle.base_outputs.specs.Output.{Puts};
 ghost use Rattle.base_outputs.specs.Writing.{Writes};
 ghost use Rattle.sample_view.specs.Pieces.{joined_bytes};
-ghost use Rattle.program_files.specs.FaultLines.{fault_line, status_of, read_line, first_read_line, second_read_line, read_text, script_line, notes_line, text_line, refused_line, not_neutral_line, named_line, recording_line, no_member_line, refusal_text, detail_text, step_text, limit_text, write_line, file_line, reason_line, shown_reason, file_text, output_line, rejected_line, unexplained_line};
+ghost use Rattle.program_files.specs.FaultLines.{fault_line, status_of, read_line, first_read_line, second_read_line, read_text, script_line, notes_line, text_line, refused_line, refused_start, not_neutral_line, named_line, recording_line, no_member_line, write_line, file_line, reason_line, shown_reason, file_text, output_line, rejected_line, unexplained_line};
 
 use crate::input_fault::InputFault;
 use crate::run_fault::RunFault;
 use bank_format::ReadFault;
-use bank_validity::Limit;
 use base_outputs::{Output, OutputFault, WriteFault};
+use base_texts::Text;
 use edit_refusals::{Cause, Refusal};
+use edit_script::RefusalText;
 use itoa::Buffer;
 use script_notes::NoteFault;
 use script_tokens::ScriptFault;
@@ -50,8 +51,9 @@ pub fn exit_status(fault: &RunFault) -> u8
     }
 }
 
+/// Puts the line of a run's fault. The line of a write fault has `path`.
 #[tactic(auto, unfolding(crate::specs::FaultLines::fault_line))]
-fn put_fault<W: Write>(fault: &RunFault, path: &str, output: &mut Output<'_, W>)
+pub(crate) fn put_fault<W: Write>(fault: &RunFault, path: &str, output: &mut Output<'_, W>)
     ensures { Puts W.contents output.old output.new (fault_line path.now fault.now) }
 {
     match fault {
@@ -133,25 +135,21 @@ fn put_text_fault<W: Write>(line: u64, number: u8, name: &str, output: &mut Outp
 fn put_refused<W: Write>(line: u64, why: Refusal, output: &mut Output<'_, W>)
     ensures { Puts W.contents output.old output.new (refused_line line why) }
 {
-    put_refusal(line, why, output);
-    put_detail(why, output);
+    put_refused_line(line, output);
+    RefusalText(why).put(output);
     output.put(b"\n");
 }
 
-// A line and why it is refused, by number and name.
-fn put_refusal<W: Write>(line: u64, why: Refusal, output: &mut Output<'_, W>)
-    ensures { Puts W.contents output.old output.new (refusal_text line why) }
+// The line that is refused.
+fn put_refused_line<W: Write>(line: u64, output: &mut Output<'_, W>)
+    ensures { Puts W.contents output.old output.new (refused_start line) }
 {
-    let mut line_digits = Buffer::new();
-    let mut number_digits = Buffer::new();
+    let mut digits = Buffer::new();
     put_pieces(
         &[
             b"sfbank: line ",
-            line_digits.format(line).as_bytes(),
-            b": refused ",
-            number_digits.format(why.number()).as_bytes(),
-            b" ",
-            why.name().as_bytes(),
+            digits.format(line).as_bytes(),
+            b": refused",
         ],
         output,
     );
@@ -202,48 +200,6 @@ fn put_named<'t, W: Write>(start: &'t str, number: u8, name: &'t str, output: &m
     );
 }
 
-// What follows the name.
-fn put_detail<W: Write>(why: Refusal, output: &mut Output<'_, W>)
-    ensures { Puts W.contents output.old output.new (detail_text why) }
-{
-    match why {
-        Refusal::Of(cause) => put_limit(cause.limit(), output),
-        Refusal::GroupRefused(step, cause) => {
-            put_step(step, cause, output);
-            put_limit(cause.limit(), output);
-        }
-        Refusal::OutOfMemory | Refusal::NothingToUndo | Refusal::NothingToRedo => {}
-    }
-}
-
-// The index of a step of a group, and the cause to refuse it.
-fn put_step<W: Write>(step: usize, cause: Cause, output: &mut Output<'_, W>)
-    ensures { Puts W.contents output.old output.new (step_text step cause) }
-{
-    let mut step_digits = Buffer::new();
-    let mut number_digits = Buffer::new();
-    put_pieces(
-        &[
-            b" ",
-            step_digits.format(step).as_bytes(),
-            b" ",
-            number_digits.format(cause.number()).as_bytes(),
-            b" ",
-            cause.name().as_bytes(),
-        ],
-        output,
-    );
-}
-
-// The limit that a bank would exceed.
-fn put_limit<W: Write>(limit: Option<Limit>, output: &mut Output<'_, W>)
-    ensures { Puts W.contents output.old output.new (limit_text limit) }
-{
-    if let Some(limit) = limit {
-        put_pieces(&[b" ", limit.word().as_bytes()], output);
-    }
-}
-
 fn put_write_fault<W: Write>(path: &str, written: u64, output: &mut Output<'_, W>)
     ensures { Puts W.contents output.old output.new (write_line path.now written) }
 {
@@ -260,21 +216,8 @@ fn put_write_fault<W: Write>(path: &str, written: u64, output: &mut Output<'_, W
     );
 }
 
-/// Writes the line of an input that can't be read whole, and on a terminal its reason on a second line.
-pub(crate) fn file_fault_text<W: Write>(
-    path: &str,
-    fault: InputFault,
-    is_terminal: bool,
-    out: &mut W,
-) -> Result<u64, WriteFault>
-    ensures { Writes (W.contents out.old) (W.contents out.new) (file_text is_terminal path.now fault) result }
-{
-    let mut output = Output::to(out);
-    put_file_fault(path, fault, is_terminal, &mut output);
-    output.end()
-}
-
-fn put_file_fault<W: Write>(
+/// Puts the line of an input that can't be read whole, and on a terminal its reason on a second line.
+pub(crate) fn put_file_fault<W: Write>(
     path: &str,
     fault: InputFault,
     is_terminal: bool,
@@ -307,20 +250,8 @@ fn put_reason<W: Write>(reason: &str, output: &mut Output<'_, W>)
     put_pieces(&[b"  ", reason.as_bytes(), b"\n"], output);
 }
 
-/// Writes the line of an output that is rejected.
-pub(crate) fn output_fault_text<W: Write>(
-    path: &str,
-    fault: OutputFault,
-    out: &mut W,
-) -> Result<u64, WriteFault>
-    ensures { Writes (W.contents out.old) (W.contents out.new) (output_line path.now fault) result }
-{
-    let mut output = Output::to(out);
-    put_output_fault(path, fault, &mut output);
-    output.end()
-}
-
-fn put_output_fault<W: Write>(path: &str, fault: OutputFault, output: &mut Output<'_, W>)
+/// Puts the line of an output that is rejected.
+pub(crate) fn put_output_fault<W: Write>(path: &str, fault: OutputFault, output: &mut Output<'_, W>)
     ensures { Puts W.contents output.old output.new (output_line path.now fault) }
 {
     put_rejected(fault.number(), fault.name(), path, output);
@@ -344,16 +275,8 @@ fn put_rejected<'t, W: Write>(number: u8, name: &'t str, path: &'t str, output: 
     );
 }
 
-/// Writes the line for a number that no fault and no cause has.
-pub(crate) fn unexplained_text<W: Write>(number: u32, out: &mut W) -> Result<u64, WriteFault>
-    ensures { Writes (W.contents out.old) (W.contents out.new) (unexplained_line number) result }
-{
-    let mut output = Output::to(out);
-    put_unexplained(number, &mut output);
-    output.end()
-}
-
-fn put_unexplained<W: Write>(number: u32, output: &mut Output<'_, W>)
+/// Puts the line for a number that no fault and no cause has.
+pub(crate) fn put_unexplained<W: Write>(number: u32, output: &mut Output<'_, W>)
     ensures { Puts W.contents output.old output.new (unexplained_line number) }
 {
     let mut digits = Buffer::new();

@@ -9,7 +9,5 @@ pub mod BankScripts
 pub mod SavedBanks
 pub mod Differences
 pub mod RenderLaws
-pub mod Texts
 pub mod Recordings
-pub mod NothingWritten
 pub mod Maps

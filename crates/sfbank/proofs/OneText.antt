@@ -1,5 +1,5 @@
 -- Runs with one text: the canonical file, the listing and the WAVE file.
-use Rattle.std.proofs.Common.{◌≡◌, ℕ, List, [], Option, Some, None, Result, Ok, Err, refl, sym, ap, subst, ◌∙◌}
+use Rattle.std.proofs.Common.{◌≡◌, ℕ, List, [], Option, Some, None, Result, Ok, Err, refl, sym, ap, ◌∙◌}
 use Rattle.std.proofs.KnownBytes.{Keeps-refl}
 use Rattle.sf_base.specs.declared.memory.Failure.{Failure}
 use Rattle.sf_base.specs.declared.memory.Failure.TheVariants as failures
@@ -100,13 +100,13 @@ details_text details file b counts r =
     ap (λ (o : Option ReadFault). after_reading o (Ok (detailed_listing details (bank_in file) (counts_in file)))) r.0
     ∙ ap (λ (c : Content). Ok (detailed_listing details c.bank c.counts)) r.1
 
-pub details_run : {U : Type 0} (old new : Option (List ℕ)) (details : Details) (file : List ℕ) (b : Parts)
+pub details_runs : {U : Type 0} (old new : Option (List ℕ)) (details : Details) (file : List ℕ) (b : Parts)
     (counts : Counts) (r : Result U RunFault)
-    → ReadsAs file b counts → RunsOneText old new (Ok (detailed_listing details b counts)) r
+    → ReadsAs file b counts → IsWritten Out old new (detailed_listing details b counts) r
     → RunsOneText old new (show_details_outcome details file) r
-details_run old new details file b counts r reads h =
-    subst (λ (o : Result (List ℕ) RunFault). RunsOneText old new o r) (sym (details_text details file b counts reads))
-    h
+details_runs old new details file b counts r reads h =
+    runs_one_text old new (show_details_outcome details file) (detailed_listing details b counts) r
+    (details_text details file b counts reads) h
 
 pub canon_runs : {U : Type 0} (old new : Option (List ℕ)) (file : List ℕ) (b : Parts) (counts : Counts)
     (r : Result U RunFault)

@@ -1,18 +1,11 @@
 -- What a run writes to its two writers.
 use Rattle.std.specs.Prelude.{◌≡◌, ◌≤◌, ℕ, List, length, take, Option, Result, Ok, Err}
 use Rattle.std.specs.Io.KnownBytes.{Appends, Keeps}
-use Rattle.base_outputs.specs.declared.writing.WriteFault.{WriteFault}
 use Rattle.program_files.specs.declared.run_fault.RunFault.{RunFault}
 use Rattle.program_files.specs.declared.run_fault.RunFault.TheVariants as run
 use Rattle.program_files.specs.declared.run_fault.Which.{Which}
 use Rattle.program_files.specs.declared.run_fault.Which.TheVariants.{Out, Undo}
 use Rattle.sfbank.specs.Outcome.{Done}
-
--- a fault of the writer is reported with the text that it is about and the number of bytes written
-abbrev pub IsReported : {U : Type 0} → Which → Result ℕ WriteFault → Result U RunFault → Type 0
-IsReported which (Ok total) (Ok u) = Unit {0}
-IsReported which (Err stop) (Err fault) = fault ≡ run.Write which stop.written
-IsReported which delivered r = ⊥
 
 -- the bytes of two writers, before and after
 pub record Writers : Type 0 where

@@ -2,9 +2,10 @@
 ghost use Rattle.sfbank.specs.Outcome.{canon_outcome, IsEmptyEdit, IsFixed};
 ghost use Rattle.sfbank.specs.Written.{RunsOneText};
 
-use crate::deliver::deliver_bank;
-use program_files::RunFault;
+use crate::writing::write_one;
+use program_files::{RunFault, Which};
 use sf_reader::read;
+use sf_writer::BankFile;
 use std::alloc::Global;
 use std::io::Write;
 
@@ -21,5 +22,5 @@ pub fn canon_run<W: Write>(alloc: Global, file: &[u8], out: &mut W) -> Result<()
     ensures fixed { IsFixed file.now }
 {
     let (bank, _counts) = read(alloc, file)?;
-    deliver_bank(&bank, out)
+    write_one(Which::Out, &BankFile(&bank), out)
 }

@@ -1,10 +1,12 @@
 //! A script that turns one bank into another.
 ghost use Rattle.sfbank.specs.Differences.{ReadsTwoBanks, RunsDifference, WritesNothing, both, two_banks_of};
 
-use crate::deliver::{deliver_edits, deliver_replacement};
 use crate::short::short_difference;
+use crate::writing::write_one;
 use bank_core::Bank;
+use edit_script::EditLines;
 use program_files::{RunFault, Which};
+use script_of_bank::Replacement;
 use sf_reader::read;
 use std::alloc::Global;
 use std::io::Write;
@@ -27,8 +29,14 @@ pub fn diff_run<W: Write>(
 {
     let (from, to) = read_two_banks(alloc, first, second)?;
     match short_difference(alloc, &from, &to)? {
-        Some(edits) => deliver_edits(Which::Out, edits.as_slice(), out),
-        None => deliver_replacement(&from, &to, out),
+        Some(edits) => write_one(Which::Out, &EditLines(edits.as_slice()), out),
+        None => {
+            let script = Replacement {
+                from: &from,
+                to: &to,
+            };
+            write_one(Which::Out, &script, out)
+        }
     }
 }
 

@@ -4,13 +4,14 @@ ghost use Rattle.sfbank.specs.Outcome.{outcome, neutral_outcome, IsNeutrallyUndo
 ghost use Rattle.sfbank.specs.EditRuns.{outcome_of};
 ghost use Rattle.sfbank.specs.Written.{Runs};
 
-use crate::deliver::deliver;
 use crate::edited_bank::apply_script;
+use crate::writing::write_both;
 use base_progress::{NoReports, Progress};
-use edit_script::pool_of;
+use edit_script::{EditLines, pool_of};
 use program_commands::Forms;
 use program_files::RunFault;
 use sf_reader::read;
+use sf_writer::BankFile;
 use std::alloc::Global;
 use std::io::Write;
 
@@ -97,5 +98,10 @@ pub(crate) fn run_script<W: Write, V: Write, P: Progress>(
     let (bank, _counts) = read(alloc, file)?;
     let pool = pool_of(alloc, script)?;
     let edited_bank = apply_script(alloc, bank, script, pool.as_slice(), forms, progress)?;
-    deliver(&edited_bank, out, undo)
+    write_both(
+        &BankFile(&edited_bank.bank),
+        &EditLines(edited_bank.undo.as_slice()),
+        out,
+        undo,
+    )
 }

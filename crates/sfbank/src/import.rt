@@ -7,15 +7,16 @@ ghost use Rattle.sfbank.specs.Prepared.{texts_of_bank};
 ghost use Rattle.sfbank.specs.Recordings.{import_outcome, IsScripted, IsImportUndone};
 ghost use Rattle.sfbank.specs.Written.{Prepared, Runs};
 
-use crate::deliver::deliver;
 use crate::edited_bank::{EditedBank, apply_all};
+use crate::writing::write_both;
 use bank_core::Bank;
 use base_progress::NoReports;
 use edit_forms::Edit;
-use edit_script::Line;
+use edit_script::{EditLines, Line};
 use program_files::RunFault;
 use sf_base::OutOfMemory;
 use sf_reader::read;
+use sf_writer::BankFile;
 use std::alloc::Global;
 use std::io::Write;
 use wave_file::{Recording, Sides, import_edits, read_recording};
@@ -64,7 +65,12 @@ fn import<'a, W: Write, V: Write>(
     let recording = read_recording(alloc, wave)?;
     let sides = Sides::of(alloc, &recording.channels)?;
     let edited_bank = apply_import(alloc, bank, recording, &sides, name)?;
-    deliver(&edited_bank, out, undo)
+    write_both(
+        &BankFile(&edited_bank.bank),
+        &EditLines(edited_bank.undo.as_slice()),
+        out,
+        undo,
+    )
 }
 
 // Applies the edits that append a recording, whose points are split by side, to the bank's samples.

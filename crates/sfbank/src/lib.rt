@@ -6,7 +6,6 @@
 #![tactic(auto)]
 
 mod canon;
-mod deliver;
 mod diff;
 mod edit;
 mod edited_bank;
@@ -20,6 +19,7 @@ mod script;
 mod short;
 mod show;
 mod wave;
+mod writing;
 
 pub use base_progress::{NoReports, Progress, Work};
 pub use canon::canon_run;

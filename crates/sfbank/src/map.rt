@@ -3,11 +3,12 @@ ghost use Rattle.std.specs.Prelude.{◌≡◌};
 ghost use Rattle.sfbank.specs.Maps.{has_owner, cause_of_missing, map_outcome};
 ghost use Rattle.sfbank.specs.Written.{RunsOneText};
 
-use crate::deliver::deliver_map;
+use crate::writing::write_one;
 use bank_core::{Bank, Owner};
 use edit_refusals::Cause;
-use program_files::RunFault;
+use program_files::{RunFault, Which};
 use sf_reader::read;
+use show_zone_map::ZoneMap;
 use std::alloc::Global;
 use std::io::Write;
 
@@ -27,7 +28,8 @@ pub fn map_run<W: Write>(
 {
     let (bank, _counts) = read(alloc, file)?;
     if has_owner(&bank, owner) {
-        deliver_map(&bank, owner, out)
+        let map = ZoneMap { bank: &bank, owner };
+        write_one(Which::Out, &map, out)
     } else {
         Err(RunFault::NoMember(cause_of_missing(owner)))
     }

@@ -4,11 +4,12 @@ ghost use Rattle.script_of_bank.specs.BankEdits.{empty, empty_texts};
 ghost use Rattle.sfbank.specs.NewBanks.{IsNew, new_outcome};
 ghost use Rattle.sfbank.specs.Written.{RunsOneText};
 
-use crate::deliver::deliver_bank;
+use crate::writing::write_one;
 use bank_core::{Bank, Owners, Parts, Texts};
 use bank_linked_members::LinkedMembers;
-use program_files::RunFault;
+use program_files::{RunFault, Which};
 use sf_base::{BorrowedBytes, OutOfMemory};
+use sf_writer::BankFile;
 use std::alloc::Global;
 use std::io::Write;
 
@@ -22,7 +23,7 @@ pub fn new_run<W: Write>(alloc: Global, minor: u16, out: &mut W) -> Result<(), R
     ensures fixed { IsNew minor }
 {
     let bank = empty_bank(alloc, minor)?;
-    deliver_bank(&bank, out)
+    write_one(Which::Out, &BankFile(&bank), out)
 }
 
 fn empty_bank(alloc: Global, minor: u16) -> Result<Bank<'static>, OutOfMemory>

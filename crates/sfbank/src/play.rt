@@ -2,14 +2,15 @@
 ghost use Rattle.sfbank.specs.Outcome.{play_outcome, CanonRendersSame};
 ghost use Rattle.sfbank.specs.Written.{RunsOneText};
 
-use crate::deliver::deliver_wave;
+use crate::writing::write_one;
 use base_progress::{NoReports, Progress};
 use mixer::render_with_progress;
-use program_files::RunFault;
+use program_files::{RunFault, Which};
 use script_notes::parse_notes;
 use sf_reader::read;
 use std::alloc::Global;
 use std::io::Write;
+use wave_file::WaveFile;
 
 /// Reads the file and the note list, renders the notes on the bank, writes the frames as a WAVE file to `out`, and
 /// flushes `out`.
@@ -46,5 +47,5 @@ pub fn play_run_with_progress<W: Write, P: Progress>(
     let (bank, _counts) = read(alloc, file)?;
     let notes = parse_notes(alloc, notes)?;
     let frames = render_with_progress(alloc, &bank, notes.as_slice(), progress)?;
-    deliver_wave(frames.as_slice(), out)
+    write_one(Which::Out, &WaveFile::new(frames.as_slice()), out)
 }

@@ -16,8 +16,8 @@ mod script;
 mod show;
 mod wave;
 
+use crate::writing::write_one;
 use apply::apply;
-use base_outputs::Output;
 use base_progress::Progress;
 use canon::canon;
 use clap::error::ErrorKind;
@@ -30,7 +30,7 @@ use map::map;
 use new::new;
 use play::play;
 use program_commands::{Request, request_of};
-use program_files::{Fault, RunFault, STANDARD_OUTPUT, Watched, Which, report};
+use program_files::{Fault, STANDARD_OUTPUT, Watched, Which, report};
 use script::script;
 use show::show;
 use std::alloc::{AllocError, Global};
@@ -154,18 +154,8 @@ fn answer<'a, O: Write>(
         return Err(Fault::Words(error));
     }
     let text = format!(in alloc; "{error}")?;
-    put_text(text.as_str(), output)
-}
-
-/// Writes a text to the standard output.
-fn put_text<'a, O: Write>(text: &str, out: &mut O) -> Result<(), Fault<'a>> {
-    let mut output = Output::to(out);
-    output.put(text.as_bytes());
-    match output.deliver() {
-        Ok(_) => Ok(()),
-        Err(fault) => at(
-            STANDARD_OUTPUT,
-            Err(RunFault::Write(Which::Out, fault.written)),
-        ),
-    }
+    at(
+        STANDARD_OUTPUT,
+        write_one(Which::Out, &text.as_str(), output),
+    )
 }

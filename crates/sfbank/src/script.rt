@@ -2,9 +2,9 @@
 ghost use Rattle.sfbank.specs.BankScripts.{IsRemade, script_outcome};
 ghost use Rattle.sfbank.specs.Written.{RunsOneText};
 
-use crate::deliver::deliver_script;
-use program_files::RunFault;
-use script_of_bank::SamplePoints;
+use crate::writing::write_one;
+use program_files::{RunFault, Which};
+use script_of_bank::{BankScript, SamplePoints};
 use sf_reader::read;
 use std::alloc::Global;
 use std::io::Write;
@@ -26,5 +26,9 @@ pub fn script_run<W: Write>(
     ensures remade { IsRemade file.now }
 {
     let (bank, _counts) = read(alloc, file)?;
-    deliver_script(&bank, points, out)
+    let script = BankScript {
+        bank: &bank,
+        points,
+    };
+    write_one(Which::Out, &script, out)
 }

@@ -2,12 +2,13 @@
 ghost use Rattle.std.specs.Prelude.{◌≡◌, [], IsTrue, IfOk, IfSome, IsSomeAnd};
 ghost use Rattle.script_of_bank.specs.LeadsTo.{Leads};
 
-use crate::deliver::put_edits;
 use bank_core::Bank;
 use base_outputs::Output;
+use base_texts::Text;
 use diff_banks::difference;
 use edit_forms::Edit;
-use script_of_bank::put_replacement;
+use edit_script::EditLines;
+use script_of_bank::Replacement;
 use sf_base::OutOfMemory;
 use std::alloc::Global;
 use std::io;
@@ -61,18 +62,18 @@ impl Write for LimitedWriter {
 
 // The length of edits as script lines, in bytes.
 fn length_of(edits: &[Edit<'_>]) -> u64 {
-    let mut room = LimitedWriter {
-        remaining: u64::MAX,
-    };
+    length_within(u64::MAX, &EditLines(edits)).unwrap_or(u64::MAX)
+}
+
+// The length of a text in bytes, if it is at most `most`.
+fn length_within<T: Text>(most: u64, text: &T) -> Option<u64> {
+    let mut room = LimitedWriter { remaining: most };
     let mut output = Output::to(&mut room);
-    put_edits(edits, &mut output);
-    output.end().unwrap_or(u64::MAX)
+    text.put(&mut output);
+    output.end().ok()
 }
 
 // Whether the script that replaces a bank by another has at most `most` bytes.
 fn replacement_fits(most: u64, from: &Bank<'_>, to: &Bank<'_>) -> bool {
-    let mut room = LimitedWriter { remaining: most };
-    let mut output = Output::to(&mut room);
-    put_replacement(from, to, &mut output);
-    output.end().is_ok()
+    length_within(most, &Replacement { from, to }).is_some()
 }

@@ -2,10 +2,10 @@
 ghost use Rattle.sfbank.specs.Outcome.{show_outcome, show_details_outcome};
 ghost use Rattle.sfbank.specs.Written.{RunsOneText};
 
-use crate::deliver::{deliver_details, deliver_listing};
-use program_files::RunFault;
+use crate::writing::write_one;
+use program_files::{RunFault, Which};
 use sf_reader::read;
-use show_listing::Details;
+use show_listing::{Details, Listing};
 use std::alloc::Global;
 use std::io::Write;
 
@@ -18,7 +18,7 @@ pub fn show_run<W: Write>(alloc: Global, file: &[u8], out: &mut W) -> Result<(),
     ensures runs { RunsOneText (W.contents out.old) (W.contents out.new) (show_outcome file.now) result }
 {
     let (bank, counts) = read(alloc, file)?;
-    deliver_listing(&bank, &counts, out)
+    write_one(Which::Out, &Listing::plain(&bank, &counts), out)
 }
 
 /// Does what `show_run` does, with details: after the line of each preset, instrument or sample how often it is used,
@@ -36,5 +36,6 @@ pub fn show_details_run<W: Write>(
     ensures runs { RunsOneText (W.contents out.old) (W.contents out.new) (show_details_outcome details file.now) result }
 {
     let (bank, counts) = read(alloc, file)?;
-    deliver_details(alloc, &bank, &counts, details, out)
+    let listing = Listing::detailed(alloc, &bank, &counts, details)?;
+    write_one(Which::Out, &listing, out)
 }

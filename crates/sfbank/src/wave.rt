@@ -2,12 +2,13 @@
 ghost use Rattle.sfbank.specs.Recordings.{wave_outcome};
 ghost use Rattle.sfbank.specs.Written.{RunsOneText};
 
-use crate::deliver::deliver_sample;
+use crate::writing::write_one;
 use edit_refusals::Cause;
-use program_files::RunFault;
+use program_files::{RunFault, Which};
 use sf_reader::read;
 use std::alloc::Global;
 use std::io::Write;
+use wave_file::SampleWave;
 
 /// Reads the file, writes sample `sample` of its bank, counted from 0, to `out` as a WAVE file, and flushes `out`. The
 /// file is 16-bit mono: the sample's points, and a `smpl` chunk with its key, correction and loop.
@@ -25,7 +26,7 @@ pub fn wave_run<W: Write>(
 {
     let (bank, _counts) = read(alloc, file)?;
     match bank.sample(sample) {
-        Some(found) => deliver_sample(found, out),
+        Some(found) => write_one(Which::Out, &SampleWave::new(found), out),
         None => Err(RunFault::NoMember(Cause::NoSuchSample)),
     }
 }

@@ -2,11 +2,11 @@
 ghost use Rattle.std.specs.Prelude.{None};
 
 use bank_core::Bank;
-use base_outputs::Output;
+use base_texts::write_text;
 use edit_forms::Edit;
 use live_lines::Paths;
-use live_sessions::{InputLines, SaveFault, Saves, live_run, put_undo};
-use sf_writer::put_bank;
+use live_sessions::{InputLines, SaveFault, Saves, UndoLines, live_run};
+use sf_writer::BankFile;
 
 /// The file of the empty bank of minor version 4.
 static EMPTY: &[u8] = b"\
@@ -93,15 +93,11 @@ impl Saves for Kept {
         bank: &Bank<'_>,
         back: &[Edit<'_>],
     ) -> Result<(), SaveFault> {
-        let mut output = Output::to(&mut self.out);
-        put_bank(bank, &mut output);
-        if let Err(fault) = output.deliver() {
+        if let Err(fault) = write_text(&BankFile(bank), &mut self.out) {
             return Err(SaveFault::Out(fault.written));
         }
-        let mut output = Output::to(&mut self.undo);
-        put_undo(back, &mut output);
-        match output.deliver() {
-            Ok(_) => Ok(()),
+        match write_text(&UndoLines(back), &mut self.undo) {
+            Ok(()) => Ok(()),
             Err(fault) => Err(SaveFault::Undo(fault.written)),
         }
     }

@@ -1,13 +1,14 @@
-//! Tests of `write_wave` and `put_wave`, also with writers that fail.
+//! Tests of `write_wave` and `WaveFile`, also with writers that fail.
 ghost use Rattle.std.specs.Prelude.{Some};
 ghost use Rattle.wave_file.specs.Wave.{FitsWave};
 
 use base_outputs::Output;
+use base_texts::Text;
 use sf_base::front_of;
 use std::alloc::Global;
 use std::io;
 use std::io::Write;
-use wave_file::{put_wave, write_wave};
+use wave_file::{WaveFile, write_wave};
 
 /// Eight frames, equal on both sides.
 const FRAMES: [i16; 16] = [
@@ -42,7 +43,7 @@ fn a_file_after_another_text(rt: HostRuntime) {
     let mut out = Vec::new(rt.alloc());
     let mut output = Output::to(&mut out);
     output.put(b"first");
-    put_wave(&FRAMES, &mut output);
+    WaveFile::new(&FRAMES).put(&mut output);
     assert!(rt; matches!(output.deliver(), Ok(81)));
     assert!(rt; out.as_slice().starts_with(b"first"));
     assert!(rt; out.as_slice().ends_with(FILE));

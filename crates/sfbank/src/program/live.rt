@@ -1,21 +1,19 @@
 //! The command `live`.
 ghost use Rattle.std.specs.Prelude.{None};
-ghost use Rattle.bank_format.specs.Canon.{canon};
-ghost use Rattle.live_sessions.specs.Saved.{undo_text};
-ghost use Rattle.sfbank.specs.Written.{Delivers};
 
 use super::checks::{reject_bank, reject_same_file};
 use super::endings::at;
-use crate::deliver::{deliver_bank, deliver_undo};
+use crate::writing::write_both;
 use bank_core::Bank;
 use edit_forms::Edit;
 use live_lines::Paths;
-use live_sessions::{InputLines, LiveFault, SaveFault, Saves, live_run};
+use live_sessions::{InputLines, LiveFault, SaveFault, Saves, UndoLines, live_run};
 use program_commands::LivePaths;
 use program_files::{
     Fault, InputFault, OutputCheck, OutputFile, RunFault, STANDARD_OUTPUT, Which, check_apart,
     check_no_bank, end_both, read_file,
 };
+use sf_writer::BankFile;
 use std::io::{BufReader, Read, Write};
 use std::rt::Files;
 
@@ -122,7 +120,7 @@ impl<R: Files + AllocGlobal> Saves for Host<'_, R> {
         let Ok(mut undo) = OutputFile::new(self.rt, paths.undo.text()) else {
             return Err(SaveFault::Memory);
         };
-        let run = deliver_save(bank, back, &mut out, &mut undo);
+        let run = write_both(&BankFile(bank), &UndoLines(back), &mut out, &mut undo);
         match end_both(out, undo, run) {
             Ok(()) => Ok(()),
             Err(RunFault::Write(Which::Out, written)) => Err(SaveFault::Out(written)),
@@ -130,18 +128,4 @@ impl<R: Files + AllocGlobal> Saves for Host<'_, R> {
             Err(_) => Err(SaveFault::Memory),
         }
     }
-}
-
-/// Writes the canonical file of the bank, then its undo script.
-fn deliver_save<W: Write, V: Write>(
-    bank: &Bank<'_>,
-    back: &[Edit<'_>],
-    out: &mut W,
-    undo: &mut V,
-) -> Result<(), RunFault>
-    ensures { Delivers (record { out = W.contents out.old; out_new = W.contents out.new; undo = V.contents undo.old; undo_new = V.contents undo.new })
-        (record { out = canon bank.now; undo = undo_text back.now }) result }
-{
-    deliver_bank(bank, out)?;
-    deliver_undo(back, undo)
 }

@@ -1,7 +1,7 @@
 use Rattle.std.proofs.Common.{codes}
 use Rattle.script_tokens.proofs.PrintLaws.{puts_line}
-use Rattle.live_lines.specs.Answers.{reason_pieces}
+use Rattle.edit_script.specs.RefusalText.{reason_pieces}
 use Rattle.live_lines.proofs.answer.put_refusal.Goals as goal
 
 pub returns : goal.returns
-returns g c = puts_line (codes "refused") (reason_pieces c.args.why) c.put.ensures c.put_reason.ensures c.put-2.ensures
+returns g c = puts_line (codes "refused") (reason_pieces c.args.why) c.put.ensures c.put-RefusalText.ensures c.put-2.ensures

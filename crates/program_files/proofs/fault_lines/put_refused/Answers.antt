@@ -2,4 +2,4 @@ use Rattle.base_outputs.proofs.OutputLaws.{puts_then}
 use Rattle.program_files.proofs.fault_lines.put_refused.Goals as goal
 
 pub returns : goal.returns
-returns g c = puts_then _ _ c.put_refusal.ensures (puts_then _ _ c.put_detail.ensures c.put.ensures)
+returns g c = puts_then _ _ c.put_refused_line.ensures (puts_then _ _ c.put.ensures c.put-2.ensures)

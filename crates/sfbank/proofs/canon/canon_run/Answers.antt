@@ -18,8 +18,8 @@ returns-in_err-bank-clause-fixed g c = fixed c.args.file.now (are_bytes c.args.f
 
 pub returns-clause-runs : goal.returns-clause-runs
 returns-clause-runs g c =
-    canon_runs _ _ c.args.file.now c.in_ok-bank.bank c.in_ok-bank._counts c.deliver_bank.result
-    c.in_ok-bank.ensures.ok c.deliver_bank.ensures
+    canon_runs _ _ c.args.file.now c.in_ok-bank.bank c.in_ok-bank._counts c.write_one.result
+    c.in_ok-bank.ensures.ok c.write_one.ensures
 
 pub returns-clause-edit : goal.returns-clause-edit
 returns-clause-edit g c = empty_edit c.args.file.now

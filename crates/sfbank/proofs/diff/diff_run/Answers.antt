@@ -13,9 +13,9 @@ returns-in-Some-clause-runs g c =
     let banks : TwoBanks = record { first = c.in_ok-from.from; second = c.in_ok-from.to } in
     let found = rw c.in-Some.is at c.in_ok-edits.ensures.found in
     let leads : Leads banks.first c.as_slice.result.now banks.second = rw c.as_slice.ensures.value found in
-    runs_difference _ _ a b banks (texts_of c.as_slice.result.now) c.deliver_edits.result
+    runs_difference _ _ a b banks (texts_of c.as_slice.result.now) c.write_one.result
     (are_bytes a c.type_inv.first) c.in_ok-from.ensures
-    (printed_leads banks c.as_slice.result.now leads) c.deliver_edits.ensures
+    (printed_leads banks c.as_slice.result.now leads) c.write_one.ensures
 
 pub returns-clause-runs : goal.returns-clause-runs
 returns-clause-runs g c =
@@ -25,9 +25,9 @@ returns-clause-runs g c =
     let script =
     replacement_is a b banks (are_bytes a c.type_inv.first) (are_bytes b c.type_inv.second) c.in_ok-from.ensures
     in
-    runs_difference _ _ a b banks (texts_of (edits_between banks.first banks.second)) c.deliver_replacement.result
+    runs_difference _ _ a b banks (texts_of (edits_between banks.first banks.second)) c.write_one-2.result
     (are_bytes a c.type_inv.first) c.in_ok-from.ensures
-    script c.deliver_replacement.ensures
+    script c.write_one-2.ensures
 
 pub returns-in-Some-clause-nothing : goal.returns-in-Some-clause-nothing
 returns-in-Some-clause-nothing g c =
@@ -35,8 +35,8 @@ returns-in-Some-clause-nothing g c =
     let edits = c.as_slice.result.now in
     let none : banks.first ≡ banks.second → edits ≡ [] =
     λ same. c.as_slice.ensures.value ∙ (rw c.in-Some.is at (c.in_ok-edits.ensures.nothing same)) in
-    writes_nothing _ _ c.args.first.now c.args.second.now banks edits c.deliver_edits.result c.in_ok-from.ensures
-    none c.deliver_edits.ensures
+    writes_nothing _ _ c.args.first.now c.args.second.now banks edits c.write_one.result c.in_ok-from.ensures
+    none c.write_one.ensures
 
 pub returns-clause-nothing : goal.returns-clause-nothing
 returns-clause-nothing g c =
@@ -44,8 +44,8 @@ returns-clause-nothing g c =
     let edits = edits_between banks.first banks.second in
     let none : banks.first ≡ banks.second → edits ≡ [] =
     λ same. absurd (rw c.in-None.is at (c.in_ok-edits.ensures.nothing same)) in
-    writes_nothing _ _ c.args.first.now c.args.second.now banks edits c.deliver_replacement.result
-    c.in_ok-from.ensures none c.deliver_replacement.ensures
+    writes_nothing _ _ c.args.first.now c.args.second.now banks edits c.write_one-2.result
+    c.in_ok-from.ensures none c.write_one-2.ensures
 
 pub returns-in_err-edits-clause-runs : goal.returns-in_err-edits-clause-runs
 returns-in_err-edits-clause-runs g c =

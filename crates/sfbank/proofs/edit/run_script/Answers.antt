@@ -50,6 +50,6 @@ returns g c =
     let same = at_bank c.args.forms file script c.in_ok-bank.bank c.in_ok-bank._counts c.in_ok-bank.ensures.ok in
     record {
       runs =
-          ends_with _ (outcome_of c.args.forms file script) (texts_of_bank c.in_ok-edited_bank.edited_bank) c.deliver.result
-          (same ∙ c.in_ok-edited_bank.ensures.prepared) c.deliver.ensures;
+          ends_with _ (outcome_of c.args.forms file script) (texts_of_bank c.in_ok-edited_bank.edited_bank) c.write_both.result
+          (same ∙ c.in_ok-edited_bank.ensures.prepared) c.write_both.ensures;
     }

@@ -17,8 +17,8 @@ returns-then-has_owner g c =
     record {
       runs =
           map_runs _ _ c.args.file.now c.args.owner c.in_ok-bank.bank c.in_ok-bank._counts c.has_owner.result
-          c.deliver_map.result c.in_ok-bank.ensures.ok c.has_owner.ensures c.if-has_owner.true
-          c.deliver_map.ensures;
+          c.write_one.result c.in_ok-bank.ensures.ok c.has_owner.ensures c.if-has_owner.true
+          c.write_one.ensures;
     }
 
 pub returns : goal.returns

@@ -25,16 +25,16 @@ returns-in_err-frames-clause-runs g c =
     let p = err_from_is_err_and c.from_residual-in_err-frames.result c.from_residual-in_err-frames.ensures.1 in
     rw (p.1, p.2) (Keeps-refl (g.W.Write.contents c.args.out.now))
 
-pub deliver_wave-requires : goal.deliver_wave-requires
-deliver_wave-requires g c =
+pub new-requires : goal.new-requires
+new-requires g c =
     rw c.as_slice-2.ensures.value (fits_wave c.in_ok-frames.frames.items c.in_ok-frames.ensures.fits)
 
 pub returns-clause-runs : goal.returns-clause-runs
 returns-clause-runs g c =
     play_runs _ _ c.args.file.now c.args.notes.now c.in_ok-bank.bank c.in_ok-bank._counts c.as_slice.result.now
-    c.as_slice-2.result.now c.deliver_wave.result
+    c.as_slice-2.result.now c.write_one.result
     c.in_ok-bank.ensures.ok (c.in_ok-notes.ensures.parsed ∙ ap Ok (sym c.as_slice.ensures.value))
-    (c.as_slice-2.ensures.value ∙ c.in_ok-frames.ensures.value) c.deliver_wave.ensures
+    (c.as_slice-2.ensures.value ∙ c.in_ok-frames.ensures.value) (rw c.new.ensures at c.write_one.ensures)
 
 -- ---- the canonical file
 

@@ -15,8 +15,8 @@ returns-in_err-bank-clause-remade g c = remade c.args.file.now (are_bytes c.args
 
 pub returns-clause-runs : goal.returns-clause-runs
 returns-clause-runs g c =
-    script_runs c.args.points _ _ c.args.file.now c.in_ok-bank.bank c.in_ok-bank._counts c.deliver_script.result
-    c.in_ok-bank.ensures.ok c.deliver_script.ensures
+    script_runs c.args.points _ _ c.args.file.now c.in_ok-bank.bank c.in_ok-bank._counts c.write_one.result
+    c.in_ok-bank.ensures.ok c.write_one.ensures
 
 pub returns-clause-remade : goal.returns-clause-remade
 returns-clause-remade g c = remade c.args.file.now (are_bytes c.args.file.now c.type_inv.file)

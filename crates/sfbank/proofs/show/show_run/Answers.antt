@@ -16,6 +16,6 @@ pub returns : goal.returns
 returns g c =
     record {
       runs =
-          show_runs _ _ c.args.file.now c.in_ok-bank.bank c.in_ok-bank.counts c.deliver_listing.result
-          c.in_ok-bank.ensures.ok c.deliver_listing.ensures;
+          show_runs _ _ c.args.file.now c.in_ok-bank.bank c.in_ok-bank.counts c.write_one.result
+          c.in_ok-bank.ensures.ok (rw c.plain.ensures at c.write_one.ensures);
     }

@@ -12,8 +12,8 @@ returns-in_err-bank g c =
           c.args.sample c.in_err-bank.ensures.err);
     }
 
-pub deliver_sample-requires : goal.deliver_sample-requires
-deliver_sample-requires g c =
+pub new-requires : goal.new-requires
+new-requires g c =
     few_points c.in_ok-bank.bank c.args.sample c.in-Some.found.now c.in_ok-bank.ensures.valid c.in-Some.ensures
 
 pub returns-in-Some : goal.returns-in-Some
@@ -21,7 +21,7 @@ returns-in-Some g c =
     record {
       runs =
           wave_runs _ _ c.args.file.now c.args.sample c.in_ok-bank.bank c.in_ok-bank._counts c.in-Some.found.now
-          c.deliver_sample.result c.in_ok-bank.ensures.ok c.in-Some.ensures c.deliver_sample.ensures;
+          c.write_one.result c.in_ok-bank.ensures.ok c.in-Some.ensures (rw c.new.ensures at c.write_one.ensures);
     }
 
 pub returns : goal.returns
