@@ -25,5 +25,7 @@ undo_list b es = row.undo_list raw inverse b es
 abbrev pub AreUndone : Parts → List Edit → Type 0
 AreUndone b es = IsUndoneBy after_all undo_list AllAccepted b es
 
+-- The theorem of undo for lists of edits, the contract of `undo_restores_all` (src/laws.rt), proved as `all_undone` in
+-- proofs/RunLaw.antt.
 abbrev pub UndoRestoresAll : Type 0
 UndoRestoresAll = (b : Parts) (es : List Edit) → IsSound b → AllAccepted b es → AreUndone b es

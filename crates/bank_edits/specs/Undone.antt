@@ -14,11 +14,11 @@ pub record IsAccepted (b : Parts) (e : Edit) : Type 0 where
   pub accepted : refusal b e ≡ None
 
 -- The changed bank is sound and accepts the inverse edit, which restores the bank, and whose own inverse is the edit
--- (the fields of `IsUndoneBy`).
+-- (the fields of `IsUndoneBy`, in `Undoing`).
 abbrev pub IsUndone : Parts → Edit → Type 0
 IsUndone b e = IsUndoneBy raw inverse IsAccepted b e
 
--- The theorem of undo for one edit, the contract of `undo_restores` (src/laws.rt). That for lists of edits is in
--- `Runs`, that of files in `Outcome` of the crate `sfbank`.
+-- The theorem of undo for one edit, the contract of `undo_restores` (src/laws.rt), proved as `undone` in proofs/Law.antt.
+-- That for lists of edits is in `Runs`, that of files in `Outcome` of the crate `sfbank`.
 abbrev pub UndoRestores : Type 0
 UndoRestores = (b : Parts) (e : Edit) → IsSound b → IsAccepted b e → IsUndone b e

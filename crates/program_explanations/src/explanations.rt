@@ -282,7 +282,7 @@ fn of_reading(fault: ReadFault) -> (&'static str, &'static str) {
             "Correct the zone in the editor that made the bank.",
         ),
         ReadFault::SampleRange => (
-            "A sample begins or ends outside the sample data.",
+            "A sample ends before its start or after the data.",
             "Get the file again; it may be cut off.",
         ),
         ReadFault::SampleType => (

@@ -125,7 +125,7 @@ play_outcome file notes = after_reading (fault_of file) (after_notes (bank_in fi
 
 -- If a run succeeds, its undo text, run on the written file, succeeds too: it writes the canonical file of the first
 -- bank, and its own undo text is the script's edits in canonical form. This is the theorem of undo for files, the
--- clause `restores` of `edit_run` (src/edit.rt).
+-- clause `restores` of `edit_run` (src/edit.rt), proved as `restores` in proofs/Restores.antt.
 abbrev pub IsUndone : List ℕ → List ℕ → Type 0
 IsUndone file script =
     (done : Done) (lines : List Line) → outcome file script ≡ Ok done → script_of script ≡ Ok lines

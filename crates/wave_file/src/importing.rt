@@ -1,4 +1,5 @@
-//! The edits that import a recording into a bank.
+//! The edits that import a recording into a bank: `read_recording` reads it of a WAVE file, and `import_run` of `sfbank`
+//! applies them.
 ghost use Rattle.std.specs.Prelude.{◌≡◌, ◌≤◌, [], ◌∷◌, IfOk};
 ghost use Rattle.std.specs.List.{AllByRecursion};
 ghost use Rattle.sf_base.specs.Names.{IsName, IsTextByte};
