@@ -19,7 +19,8 @@ pub const INSTRUMENTS: usize = 65_535;
 pub const SAMPLES: usize = 65_535;
 
 /// The most zones of all presets, and of all instruments, including each global zone that has a generator or modulator.
-/// `Totals::broken` of `bank_validity` tests it for edits, `check_counts` of `sf_reader` for files, by [`RECORDS`].
+/// `Totals::broken` of `bank_validity` tests it for edits: cause 37. `check_counts` of `sf_reader` tests it for files, by
+/// [`RECORDS`], since a list has a record for each zone and a terminal: fault 18.
 pub const ZONES: usize = 65_535;
 
 /// The most generators of all presets, and of all instruments, including the targets.
