@@ -54,7 +54,7 @@ pub(crate) fn check_samples(heads: &Table<SampleHead>, points: usize) -> Result<
     Ok(())
 }
 
-// Checks that the sample is neither packed nor in ROM, and its range is within the points.
+// Checks that the sample is neither packed (fault 15) nor in ROM (16), and its range is within the points (14).
 #[tactic(auto, unfolding(bank_format::specs::ReadChecks::sample_checks))]
 fn check_sample(head: &SampleHead, points: usize) -> Result<(), ReadFault>
     ensures { Passes (λ u. u) result (sample_checks points head.now) tt }
