@@ -30,7 +30,8 @@ impl Text for FaultReport<'_, '_> {
             Fault::File(path, why) => put_file_fault(path, *why, self.is_terminal, output),
             Fault::Output(fault, path) => put_output_fault(path, *fault, output),
             Fault::Run(fault, path) => put_fault(fault, path, output),
-            Fault::Words(_) | Fault::PipeClosed => {}
+            Fault::Words(_) => {}
+            Fault::PipeClosed => {}
         }
     }
 }
