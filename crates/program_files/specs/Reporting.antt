@@ -1,5 +1,5 @@
 -- How a fault is reported: a line on the standard error, and an exit status.
-use Rattle.std.specs.Prelude.{◌≡◌, ℕ, List, [], codes, take, ⊤, Bool, Option, ◌⊎◌}
+use Rattle.std.specs.Prelude.{◌≡◌, ℕ, List, [], codes, take, Bool, true, false, Option, ◌⊎◌}
 use Rattle.std.specs.Io.KnownBytes.{Appends, Keeps}
 use Rattle.program_files.specs.FaultLines as lines
 use Rattle.program_files.specs.declared.fault.Fault.{Fault}
@@ -31,11 +31,14 @@ report_text is_terminal (Output fault path) = lines.output_line path.now fault
 report_text is_terminal (Run fault path) = lines.fault_line path.now fault
 report_text is_terminal PipeClosed = []
 
+-- clap rejects the arguments
+abbrev pub is_words : Fault → Bool
+is_words (Words error) = true
+is_words fault = false
+
 -- The report is written, or a prefix of it.
 abbrev pub Reports : Bool → Option (List ℕ) → Option (List ℕ) → Fault → Type 0
-Reports is_terminal old new (Words error) = ⊤
-Reports is_terminal old new PipeClosed = Keeps old new
-Reports is_terminal old new fault = WritesPrefix old new (report_text is_terminal fault)
+Reports is_terminal old new fault = is_words fault ≡ false → WritesPrefix old new (report_text is_terminal fault)
 
 -- A run that succeeds writes nothing, with status 0. Any other reports its fault, with the fault's status.
 abbrev pub Ends : Bool → Option (List ℕ) → Option (List ℕ) → ℕ → Type 0

@@ -45,13 +45,13 @@ pub fn report<E: Write>(fault: &Fault<'_>, is_terminal: bool, errors: &mut E) ->
     match fault {
         Fault::Words(error) => {
             let _ = write!(errors, "{error}");
+            1
         }
-        Fault::PipeClosed => {}
         _ => {
             let _ = write_text(&FaultReport { fault, is_terminal }, errors);
+            status_of(fault)
         }
     }
-    status_of(fault)
 }
 
 // The exit status of a fault.
