@@ -1,0 +1,4 @@
+pub mod InputFaults
+pub mod World
+pub mod Saving
+pub mod Journal

@@ -1,0 +1,71 @@
+-- What a failed call may leave in the world of files.
+use Rattle.std.specs.Prelude.{◌≡◌, ◌≢◌, ◌⊎◌, ℕ, List, Option, Some, None, Err, ⊤}
+use Rattle.base_outputs.specs.declared.writing.WriteFault.{WriteFault}
+use Rattle.sf_base.specs.declared.memory.Failure.{Failure}
+use Rattle.sf_base.specs.declared.memory.Failure.TheVariants.{Fault, OutOfMemory}
+use Rattle.file_host.specs.declared.input_fault.InputFault.{InputFault}
+use Rattle.file_host.specs.declared.input_fault.InputFault.TheVariants.{NotFound}
+use Rattle.file_host.specs.declared.faults.PairFault.{PairFault}
+use Rattle.file_host.specs.declared.faults.PairFault.TheVariants as pair
+use Rattle.file_host.specs.World.{World, Gives, held_at, with_text}
+
+-- A read failed with the fault that the file at this path has, or for want of memory.
+abbrev pub ReadFails : Option World → List ℕ → Failure InputFault → Type 0
+ReadFails world path (Fault fault) = Gives world path (Err fault)
+ReadFails world path OutOfMemory = ⊤
+
+-- Each file that was there at another place stays. The one at this path is as it was, or holds the whole text.
+pub record SpoilsOne (old new : World) (path text : List ℕ) : Type 0 where
+  pub places : new.place ≡ old.place
+  pub links : new.is_link ≡ old.is_link
+  pub stores : new.stores ≡ old.stores
+  pub here : (held_at new path ≡ held_at old path) ⊎ (held_at new path ≡ held_at (with_text path text old) path)
+  pub others : (place : List ℕ) → place ≢ old.place path → old.files place ≢ Err NotFound
+      → new.files place ≡ old.files place
+
+-- the same, as far as is known
+abbrev pub Spoils : Option World → Option World → List ℕ → List ℕ → Type 0
+Spoils None new path text = ⊤
+Spoils (Some old) None path text = ⊥
+Spoils (Some old) (Some new) path text = SpoilsOne old new path text
+
+-- a failed save: out of memory changes nothing
+abbrev pub SaveFails : Option World → Option World → List ℕ → List ℕ → Failure WriteFault → Type 0
+SaveFails old new path text (Fault fault) = Spoils old new path text
+SaveFails old new path text OutOfMemory = new ≡ old
+
+-- The old file at this path was moved to a place where nothing was.
+pub record IsMovedAway (old new : World) (path : List ℕ) : Type 0 where
+  pub gone : held_at new path ≡ Err NotFound
+  pub kept : List ℕ
+  pub free : old.files kept ≡ Err NotFound
+  pub holds : new.files kept ≡ held_at old path
+
+-- Each file that was there at another place stays. Where the two paths lead to two places: the file of the undo script
+-- is as it was, or holds the whole script, or was moved away; the other file is as it was, or holds the whole text, and
+-- then the undo script is whole.
+pub record SpoilsTwo (old new : World) (undo_path undo path text : List ℕ) : Type 0 where
+  pub places : new.place ≡ old.place
+  pub links : new.is_link ≡ old.is_link
+  pub stores : new.stores ≡ old.stores
+  pub undo_here : old.place undo_path ≢ old.place path
+      → (held_at new undo_path ≡ held_at old undo_path)
+      ⊎ (held_at new undo_path ≡ held_at (with_text undo_path undo old) undo_path)
+      ⊎ IsMovedAway old new undo_path
+  pub text_here : old.place undo_path ≢ old.place path
+      → (held_at new path ≡ held_at old path)
+      ⊎ ((held_at new path ≡ held_at (with_text path text old) path)
+      × (held_at new undo_path ≡ held_at (with_text undo_path undo old) undo_path))
+  pub others : (place : List ℕ) → place ≢ old.place undo_path → place ≢ old.place path → old.files place ≢ Err NotFound
+      → new.files place ≡ old.files place
+
+-- the same, as far as is known
+abbrev pub SpoilsPair : Option World → Option World → List ℕ → List ℕ → List ℕ → List ℕ → Type 0
+SpoilsPair None new undo_path undo path text = ⊤
+SpoilsPair (Some old) None undo_path undo path text = ⊥
+SpoilsPair (Some old) (Some new) undo_path undo path text = SpoilsTwo old new undo_path undo path text
+
+-- a failed save of a pair: out of memory changes nothing
+abbrev pub PairFails : Option World → Option World → List ℕ → List ℕ → List ℕ → List ℕ → PairFault → Type 0
+PairFails old new undo_path undo path text (pair.Write which written) = SpoilsPair old new undo_path undo path text
+PairFails old new undo_path undo path text pair.OutOfMemory = new ≡ old

@@ -1,0 +1,15 @@
+//! The world of files as a program sees it: files that are read whole, and texts that are saved whole.
+#![tactic(auto)]
+
+mod faults;
+mod host;
+mod input_fault;
+mod memory;
+mod saved;
+#[cfg(test)]
+mod tests;
+
+pub use faults::{PairFault, Which};
+pub use host::Host;
+pub use input_fault::InputFault;
+pub use memory::MemoryHost;
