@@ -87,7 +87,7 @@ untouched world path text = record {
   places = refl;
   links = refl;
   stores = refl;
-  here = inl refl;
+  here = λ stores. inl refl;
   others = λ place apart there. refl;
 }
 
@@ -97,8 +97,8 @@ untouched_pair world undo_path undo path text = record {
   places = refl;
   links = refl;
   stores = refl;
-  undo_here = λ apart. inl refl;
-  text_here = λ apart. inl refl;
+  undo_here = λ apart stores. inl refl;
+  text_here = λ apart stores. inl refl;
   others = λ place apart other there. refl;
 }
 

@@ -1,5 +1,5 @@
 -- What a failed call may leave in the world of files.
-use Rattle.std.specs.Prelude.{◌≡◌, ◌≢◌, ◌⊎◌, ℕ, List, Option, Some, None, Err, ⊤}
+use Rattle.std.specs.Prelude.{◌≡◌, ◌≢◌, ◌⊎◌, ℕ, List, Option, Some, None, Ok, Err, true, ⊤}
 use Rattle.base_outputs.specs.declared.writing.WriteFault.{WriteFault}
 use Rattle.sf_base.specs.declared.memory.Failure.{Failure}
 use Rattle.sf_base.specs.declared.memory.Failure.TheVariants.{Fault, OutOfMemory}
@@ -7,7 +7,7 @@ use Rattle.file_host.specs.declared.input_fault.InputFault.{InputFault}
 use Rattle.file_host.specs.declared.input_fault.InputFault.TheVariants.{NotFound}
 use Rattle.file_host.specs.declared.faults.PairFault.{PairFault}
 use Rattle.file_host.specs.declared.faults.PairFault.TheVariants as pair
-use Rattle.file_host.specs.World.{World, Gives, held_at, with_text}
+use Rattle.file_host.specs.World.{World, Gives, held_at, stores_at}
 
 -- A read failed with the fault that the file at this path has, or for want of memory.
 abbrev pub ReadFails : Option World → List ℕ → Failure InputFault → Type 0
@@ -19,7 +19,7 @@ pub record SpoilsOne (old new : World) (path text : List ℕ) : Type 0 where
   pub places : new.place ≡ old.place
   pub links : new.is_link ≡ old.is_link
   pub stores : new.stores ≡ old.stores
-  pub here : (held_at new path ≡ held_at old path) ⊎ (held_at new path ≡ held_at (with_text path text old) path)
+  pub here : stores_at old path ≡ true → (held_at new path ≡ held_at old path) ⊎ (held_at new path ≡ Ok text)
   pub others : (place : List ℕ) → place ≢ old.place path → old.files place ≢ Err NotFound
       → new.files place ≡ old.files place
 
@@ -41,21 +41,19 @@ pub record IsMovedAway (old new : World) (path : List ℕ) : Type 0 where
   pub free : old.files kept ≡ Err NotFound
   pub holds : new.files kept ≡ held_at old path
 
--- Each file that was there at another place stays. Where the two paths lead to two places: the file of the undo script
--- is as it was, or holds the whole script, or was moved away; the other file is as it was, or holds the whole text, and
--- then the undo script is whole.
+-- Each file that was there at another place stays. Where the two paths lead to two places that store: the file of the
+-- undo script is as it was, or holds the whole script, or was moved away; the other file is as it was, or holds the whole
+-- text, and then the undo script is whole.
 pub record SpoilsTwo (old new : World) (undo_path undo path text : List ℕ) : Type 0 where
   pub places : new.place ≡ old.place
   pub links : new.is_link ≡ old.is_link
   pub stores : new.stores ≡ old.stores
-  pub undo_here : old.place undo_path ≢ old.place path
-      → (held_at new undo_path ≡ held_at old undo_path)
-      ⊎ (held_at new undo_path ≡ held_at (with_text undo_path undo old) undo_path)
+  pub undo_here : old.place undo_path ≢ old.place path → stores_at old undo_path ≡ true
+      → (held_at new undo_path ≡ held_at old undo_path) ⊎ (held_at new undo_path ≡ Ok undo)
       ⊎ IsMovedAway old new undo_path
-  pub text_here : old.place undo_path ≢ old.place path
+  pub text_here : old.place undo_path ≢ old.place path → stores_at old path ≡ true
       → (held_at new path ≡ held_at old path)
-      ⊎ ((held_at new path ≡ held_at (with_text path text old) path)
-      × (held_at new undo_path ≡ held_at (with_text undo_path undo old) undo_path))
+      ⊎ ((held_at new path ≡ Ok text) × (stores_at old undo_path ≡ true → held_at new undo_path ≡ Ok undo))
   pub others : (place : List ℕ) → place ≢ old.place undo_path → place ≢ old.place path → old.files place ≢ Err NotFound
       → new.files place ≡ old.files place
 

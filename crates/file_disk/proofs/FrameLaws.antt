@@ -1,0 +1,61 @@
+-- What stays while one file is written.
+use Rattle.std.proofs.Common.{◌≡◌, ℕ, List, [], ◌++◌, take, Option, Some, None, Result, Ok, Err, refl, sym, ap, subst, ◌∙◌}
+use Rattle.std.specs.Prelude.{IfOk, OnOk, OnErr}
+use Rattle.std.specs.Option.{option_map}
+use Rattle.std.specs.Io.KnownBytes.{Appends, Keeps, WriteAppends}
+use Rattle.file_host.specs.declared.input_fault.InputFault.{InputFault}
+use Rattle.file_host.specs.World.{World, held_at, with_file}
+use Rattle.file_disk.specs.Devices.{IsOpen, if_known, grown, bytes_in}
+use Rattle.file_disk.specs.Frames.{Frame, IsEmptyAt, known_bytes, known_at, held_of}
+use Rattle.file_disk.proofs.WorldLaws.{holds}
+
+bytes_kept : (held : Option (List ℕ)) → Keeps held held
+bytes_kept None = tt
+bytes_kept (Some xs) = refl
+
+grows_to : (held new : Result (List ℕ) InputFault) (bytes : List ℕ) → new ≡ Ok (bytes_in held ++ bytes)
+    → Appends (known_bytes held) (known_bytes new) bytes
+grows_to (Ok xs) (Ok ys) bytes e = cc
+grows_to (Ok xs) (Err f) bytes e = cc
+grows_to (Err f) new bytes e = tt
+
+file_grown : (now : Option World) (output : Option (List ℕ)) (path bytes : List ℕ) → IsOpen now output (Some path)
+    → Appends (known_at now path) (known_at (option_map (grown output bytes) now) path) bytes
+file_grown None output path bytes is = tt
+file_grown (Some w) output path bytes is =
+    subst (λ (o : Option (List ℕ)). Appends (known_at (Some w) path) (known_at (Some (grown o bytes w)) path) bytes)
+    (sym is)
+    (grows_to (held_at w path) _ bytes (holds w path (Ok (bytes_in (held_at w path) ++ bytes))))
+
+-- what a write to the open file does to its bytes
+pub file_after : {E : Type 0} (now new : Option World) (output : Option (List ℕ)) (path bytes : List ℕ) (r : Result ℕ E)
+    → IsOpen now output (Some path) → IfOk r (λ n. new ≡ option_map (grown output (take n bytes)) now)
+    → OnErr r (new ≡ now) → WriteAppends (known_at now path) (known_at new path) r bytes
+file_after now new output path bytes (Ok n) is h k =
+    subst (λ (w : Option World). Appends (known_at now path) (known_at w path) (take n bytes)) (sym h)
+    (file_grown now output path (take n bytes) is)
+file_after now new output path bytes (Err e) is h k =
+    subst (λ (w : Option World). Keeps (known_at now path) (known_at w path)) (sym k) (bytes_kept (known_at now path))
+
+-- ---- at the end
+
+text_of : (held : Result (List ℕ) InputFault) (text : List ℕ) → Appends (Some []) (known_bytes held) text → held ≡ Ok text
+text_of (Ok xs) text a = ap (λ (t : List ℕ). Ok t) a
+text_of (Err f) text a = absurd a
+
+whole : (b n : World) (path text : List ℕ) → Some n ≡ Some (with_file path (held_at n path) b) → held_at b path ≡ Ok []
+    → Appends (known_at (Some b) path) (known_at (Some n) path) text → Some n ≡ Some (with_file path (Ok text) b)
+whole b n path text f empty a =
+    let held : held_at n path ≡ Ok text =
+    text_of (held_at n path) text
+    (subst (λ (h : Result (List ℕ) InputFault). Appends (known_bytes h) (known_at (Some n) path) text) empty a) in
+    f ∙ ap (λ (x : Result (List ℕ) InputFault). Some (with_file path x b)) held
+
+-- all of the text is in the new file
+pub whole_written : (before now : Option World) (path text : List ℕ) → Frame before now path → IsEmptyAt before path
+    → Appends (known_at before path) (known_at now path) text
+    → now ≡ option_map (with_file path (Ok text)) before
+whole_written None None path text f empty a = refl
+whole_written None (Some n) path text f empty a = cc
+whole_written (Some b) None path text f empty a = cc
+whole_written (Some b) (Some n) path text f empty a = whole b n path text f empty a

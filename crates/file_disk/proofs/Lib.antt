@@ -1,0 +1,3 @@
+pub mod WorldLaws
+pub mod FrameLaws
+pub mod NameLaws

@@ -1,0 +1,4 @@
+pub mod Devices
+pub mod Inputs
+pub mod Frames
+pub mod Names

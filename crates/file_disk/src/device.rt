@@ -1,0 +1,105 @@
+//! What a system does to files, one call at a time.
+
+use crate::target::Target;
+use file_host::InputFault;
+use sf_base::Failure;
+use std::alloc::AllocError;
+use std::io;
+
+/// What a system does to files: each method is one call of it. One file at a time is open for writing, and one for
+/// reading.
+pub trait Device {
+    ghost use Rattle.std.specs.Prelude.{◌≡◌, ◌<◌, ◌≤◌, List, ℕ, [], Option, Some, None, Ok, take, length, IfOk, IfErr, OnOk, OnErr};
+    ghost use Rattle.std.specs.Option.{option_map};
+    ghost use Rattle.std.specs.Io.{WritesAtMost};
+    ghost use Rattle.file_host.specs.World.{World, with_file, without_file};
+    ghost use Rattle.file_host.specs.Saving.{ReadFails};
+    ghost use Rattle.file_disk.specs.Devices.{Leads, IsNew, IsDirect, IsOpen, grown, moved, linked};
+    ghost use Rattle.file_disk.specs.Inputs.{Unread, Opens, ReadsOn, IsAllRead, StopsReading};
+
+    // The world, or None where nothing is known of it.
+    ghost world: { Self → Option World };
+
+    // The path of the new file that is open for writing, or None for a file that doesn't store.
+    ghost output: { Self → Option (List ℕ) };
+
+    // What is still to be read of the file that is open for reading, or None where that isn't known.
+    ghost unread: { Self → Option Unread };
+
+    /// Follows the links of a path.
+    fn resolve(&mut self, path: &str) -> Result<Target, AllocError>
+        ensures target { IfOk result (Leads (world self.old) path.now) }
+        ensures stays { world self.new ≡ world self.old };
+
+    /// Fails if there is no permission to write the file at a path.
+    fn check_writable(&mut self, path: &str) -> io::Result<()>
+        ensures { world self.new ≡ world self.old };
+
+    /// Creates an empty file at a path where nothing is, and opens it for writing. Others can't read it if it is private.
+    fn create_new(&mut self, path: &str, is_private: bool) -> io::Result<()>
+        ensures free { OnOk result (IsNew (world self.old) path.now) }
+        ensures open { OnOk result (IsOpen (world self.new) (output self.new) (Some path.now)) }
+        ensures made { OnOk result (world self.new ≡ option_map (with_file path.now (Ok [])) (world self.old)) }
+        ensures stays { OnErr result (world self.new ≡ world self.old) };
+
+    /// Opens a pipe, a device or a descriptor for writing. Fails for a file that stores.
+    fn open_in_place(&mut self, path: &str) -> io::Result<()>
+        ensures open { OnOk result (IsOpen (world self.new) (output self.new) None) }
+        ensures stays { world self.new ≡ world self.old };
+
+    /// Appends bytes, or the first of them, to the open file, and returns how many.
+    fn append(&mut self, bytes: &[u8]) -> io::Result<usize>
+        ensures bound { WritesAtMost result bytes.now }
+        ensures grown { IfOk result (λ n. world self.new ≡ option_map (grown (output self.old) (take n bytes.now)) (world self.old)) }
+        ensures stays { OnErr result (world self.new ≡ world self.old) }
+        ensures open { output self.new ≡ output self.old };
+
+    /// Syncs the open file.
+    fn sync(&mut self) -> io::Result<()>
+        ensures { world self.new ≡ world self.old };
+
+    /// Gives the open file, which is at `new_path`, the group, owner and permissions of another file, as far as the
+    /// system allows. Returns whether both have one owner.
+    fn keep_access(&mut self, path: &str, new_path: &str) -> bool
+        ensures { world self.new ≡ world self.old };
+
+    /// Moves a file to another path, in place of the file that is there.
+    fn rename(&mut self, from: &str, to: &str) -> io::Result<()>
+        requires from { IsDirect (world self.old) from.now }
+        requires to { IsDirect (world self.old) to.now }
+        ensures moved { OnOk result (world self.new ≡ option_map (moved from.now to.now) (world self.old)) }
+        ensures stays { OnErr result (world self.new ≡ world self.old) };
+
+    /// Links a file to a further path, where nothing is.
+    fn link(&mut self, from: &str, to: &str) -> io::Result<()>
+        requires { IsDirect (world self.old) from.now }
+        ensures free { OnOk result (IsNew (world self.old) to.now) }
+        ensures linked { OnOk result (world self.new ≡ option_map (linked from.now to.now) (world self.old)) }
+        ensures stays { OnErr result (world self.new ≡ world self.old) };
+
+    /// Removes a file.
+    fn remove(&mut self, path: &str) -> io::Result<()>
+        requires { IsDirect (world self.old) path.now }
+        ensures removed { OnOk result (world self.new ≡ option_map (without_file path.now) (world self.old)) }
+        ensures stays { OnErr result (world self.new ≡ world self.old) };
+
+    /// Syncs the folder of a file, if it can be opened.
+    fn sync_folder(&mut self, path: &str)
+        ensures { world self.new ≡ world self.old };
+
+    /// Opens a file for reading, and returns its expected length.
+    fn open_input(&mut self, path: &str) -> Result<u64, Failure<InputFault>>
+        ensures opened { OnOk result (Opens (world self.old) path.now (unread self.new)) }
+        ensures failed { IfErr result (ReadFails (world self.old) path.now) }
+        ensures stays { world self.new ≡ world self.old };
+
+    /// Reads the next bytes of the file that is open for reading, and returns how many. No bytes mean its end.
+    fn read_input(&mut self, buffer: &mut [u8]) -> Result<usize, Failure<InputFault>>
+        requires { 0 < length buffer.old }
+        ensures length { length buffer.new ≡ length buffer.old }
+        ensures bound { IfOk result (λ n. n ≤ length buffer.new) }
+        ensures reads { IfOk result (λ n. ReadsOn (unread self.old) (unread self.new) (take n buffer.new)) }
+        ensures end { IfOk result (λ n. n ≡ 0 → IsAllRead (unread self.old)) }
+        ensures failed { IfErr result (StopsReading (unread self.old)) }
+        ensures stays { world self.new ≡ world self.old };
+}

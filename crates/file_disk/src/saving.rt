@@ -1,0 +1,169 @@
+//! A text that is saved by way of a new file, or written in place.
+ghost use Rattle.std.specs.Prelude.{◌≡◌, [], Ok, Some, OnOk, OnErr, IfErr, string_bytes};
+ghost use Rattle.std.specs.Option.{option_map};
+ghost use Rattle.file_host.specs.World.{with_file, with_text};
+ghost use Rattle.file_host.specs.Saving.{SaveFails};
+ghost use Rattle.file_disk.specs.Devices.{IsDirect, IsNew, IsOpen, IsTemporary, moved};
+ghost use Rattle.file_disk.specs.Frames.{IfFault, IfKnown, Litters, Makes, MayLose};
+
+use crate::device::Device;
+use crate::names::{create_beside, room_for_name};
+use crate::new_file::{write_in_place, write_new};
+use crate::target::{StoredFile, Target};
+use base_outputs::WriteFault;
+use base_texts::Text;
+use sf_base::Failure;
+use std::alloc::Global;
+use std::io;
+use std::marker::Brand;
+
+/// A text that is written to a new file and synced.
+#[derive(Clone, Copy)]
+pub(crate) struct Written {
+    /// The number of its bytes.
+    pub(crate) length: u64,
+    /// Whether the new file has the owner of the old one, who may remove every hard link to it.
+    pub(crate) is_owned: bool,
+}
+
+/// Saves a text at a path.
+pub(crate) fn save_text<D: Device, T: Text>(
+    alloc: Global,
+    mut device: D,
+    path: &str,
+    text: &T,
+) -> (D, Result<(), Failure<WriteFault>>)
+    ensures saved { OnOk result.1 (D.world result.0 ≡ option_map (with_text path.now (T.bytes text.now)) (D.world device)) }
+    ensures failed { IfErr result.1 (SaveFails (D.world device) (D.world result.0) path.now (T.bytes text.now)) }
+{
+    match device.resolve(path) {
+        Ok(Target::Stores(file)) => match room_for_name(alloc, file.path.as_str()) {
+            Ok(mut new_path) => replace(device, &file, &mut new_path, text),
+            Err(_) => (device, Err(Failure::OutOfMemory)),
+        },
+        Ok(Target::InPlace) => {
+            let (device, answer) = send(device, path, text);
+            match answer {
+                Ok(_) => (device, Ok(())),
+                Err(fault) => (device, Err(Failure::Fault(fault))),
+            }
+        }
+        Err(_) => (device, Err(Failure::OutOfMemory)),
+    }
+}
+
+// Puts a text in the place of a file, by way of a new file.
+fn replace<D: Device, T: Text>(
+    device: D,
+    file: &StoredFile,
+    new_path: &mut String,
+    text: &T,
+) -> (D, Result<(), Failure<WriteFault>>)
+    requires { IsDirect (D.world device) (string_bytes file.now.path) }
+    ensures saved { OnOk result.1 (D.world result.0 ≡ option_map (with_file (string_bytes file.now.path) (Ok (T.bytes text.now))) (D.world device)) }
+    ensures failed { IfErr result.1 (IfFault (IfKnown Litters (D.world device) (D.world result.0))) }
+{
+    let (mut device, answer) = prepare(device, file, new_path, text);
+    match answer {
+        Ok(written) => match put_in_place(&mut device, new_path.as_str(), file.path.as_str()) {
+            Ok(()) => (device, Ok(())),
+            Err(_) => {
+                remove(&mut device, new_path.as_str());
+                let written = written.length;
+                (device, Err(Failure::Fault(WriteFault { written })))
+            }
+        },
+        Err(fault) => (device, Err(Failure::Fault(fault))),
+    }
+}
+
+/// Writes a text to a new file beside the one that it is to replace, and syncs it. If that fails, the new file is removed
+/// again.
+pub(crate) fn prepare<D: Device, T: Text>(
+    mut device: D,
+    file: &StoredFile,
+    new_path: &mut String,
+    text: &T,
+) -> (D, Result<Written, WriteFault>)
+    ensures made { OnOk result.1 (Makes (D.world device) (D.world result.0) (string_bytes new_path.new) (T.bytes text.now)) }
+    ensures failed { OnErr result.1 (IfKnown Litters (D.world device) (D.world result.0)) }
+{
+    let Ok(()) = open_new(&mut device, file, new_path) else {
+        return (device, Err(WriteFault { written: 0 }));
+    };
+    let (mut device, answer) = write_new::<D, T, Brand>(device, new_path, text);
+    match answer {
+        Ok(length) => match settle(&mut device, file, new_path.as_str()) {
+            Ok(is_owned) => (device, Ok(Written { length, is_owned })),
+            Err(_) => {
+                remove(&mut device, new_path.as_str());
+                (device, Err(WriteFault { written: length }))
+            }
+        },
+        Err(fault) => {
+            remove(&mut device, new_path.as_str());
+            (device, Err(fault))
+        }
+    }
+}
+
+// Opens a new file beside the one that it is to replace. Fails if there is no permission to write that one.
+fn open_new<D: Device>(device: &mut D, file: &StoredFile, new_path: &mut String) -> io::Result<()>
+    ensures named { OnOk result (IsTemporary (string_bytes new_path.new)) }
+    ensures free { OnOk result (IsNew (D.world device.old) (string_bytes new_path.new)) }
+    ensures open { OnOk result (IsOpen (D.world device.new) (D.output device.new) (Some (string_bytes new_path.new))) }
+    ensures made { OnOk result (D.world device.new ≡ option_map (with_file (string_bytes new_path.new) (Ok [])) (D.world device.old)) }
+    ensures stays { OnErr result (D.world device.new ≡ D.world device.old) }
+{
+    if file.is_there {
+        device.check_writable(file.path.as_str())?;
+    }
+    create_beside(device, new_path, file.path.as_str(), file.is_there)
+}
+
+// Gives the new file, which is written, the access of the old one, and syncs it. Returns whether both have one owner.
+fn settle<D: Device>(device: &mut D, file: &StoredFile, new_path: &str) -> io::Result<bool>
+    ensures { D.world device.new ≡ D.world device.old }
+{
+    let is_owned = file.is_there && device.keep_access(file.path.as_str(), new_path);
+    device.sync()?;
+    Ok(is_owned)
+}
+
+/// Moves a new file, which is written and synced, in the place of another.
+pub(crate) fn put_in_place<D: Device>(
+    device: &mut D,
+    new_path: &str,
+    path: &str,
+) -> io::Result<()>
+    requires from { IsDirect (D.world device.old) new_path.now }
+    requires to { IsDirect (D.world device.old) path.now }
+    ensures moved { OnOk result (D.world device.new ≡ option_map (moved new_path.now path.now) (D.world device.old)) }
+    ensures stays { OnErr result (D.world device.new ≡ D.world device.old) }
+{
+    device.rename(new_path, path)?;
+    device.sync_folder(path);
+    Ok(())
+}
+
+/// Removes a file, if it can be.
+pub(crate) fn remove<D: Device>(device: &mut D, path: &str)
+    requires { IsDirect (D.world device.old) path.now }
+    ensures { MayLose (D.world device.old) (D.world device.new) path.now }
+{
+    let _ = device.remove(path);
+}
+
+/// Writes a text to a pipe, a device or a descriptor, and returns the number of its bytes.
+pub(crate) fn send<D: Device, T: Text>(
+    mut device: D,
+    path: &str,
+    text: &T,
+) -> (D, Result<u64, WriteFault>)
+    ensures { D.world result.0 ≡ D.world device }
+{
+    match device.open_in_place(path) {
+        Ok(()) => write_in_place::<D, T, Brand>(device, text),
+        Err(_) => (device, Err(WriteFault { written: 0 })),
+    }
+}
