@@ -1,3 +1,5 @@
 pub mod WorldLaws
 pub mod FrameLaws
 pub mod NameLaws
+pub mod KeepLaws
+pub mod PairLaws

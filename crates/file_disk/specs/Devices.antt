@@ -4,6 +4,7 @@ use Rattle.std.specs.Prelude.{codes, decimal, string_bytes, ⊤}
 use Rattle.file_host.specs.declared.input_fault.InputFault.{InputFault}
 use Rattle.file_host.specs.declared.input_fault.InputFault.TheVariants.{NotFound}
 use Rattle.file_host.specs.World.{World, held_at, stores_at, with_file, without_file}
+use Rattle.file_disk.specs.declared.target.StoredFile.{StoredFile}
 use Rattle.file_disk.specs.declared.target.Target.{Target}
 use Rattle.file_disk.specs.declared.target.Target.TheVariants.{Stores, InPlace}
 
@@ -39,6 +40,11 @@ LeadsIn world path InPlace = stores_at world path ≡ false
 abbrev pub Leads : Option World → List ℕ → Target → Type 0
 Leads None path target = ⊤
 Leads (Some world) path target = LeadsIn world path target
+
+-- A file is where its path says, in a world that may not be known: the path leads to its own place.
+abbrev pub IsTarget : Option World → StoredFile → Type 0
+IsTarget None file = ⊤
+IsTarget (Some world) file = LeadsTo world (string_bytes file.path) (string_bytes file.path) file.is_there
 
 -- Nothing is at this path, which is no link and can hold a file.
 pub record IsFree (world : World) (path : List ℕ) : Type 0 where
@@ -87,6 +93,16 @@ linked from to world = with_file to (held_at world from) world
 abbrev pub kept_moved : Bool → List ℕ → List ℕ → List ℕ → World → World
 kept_moved true from to kept world = with_file kept (held_at world to) (moved from to world)
 kept_moved false from to kept world = moved from to world
+
+-- an old file is kept at another path by a link, or by a move
+abbrev pub kept_as : Bool → List ℕ → List ℕ → World → World
+kept_as true path kept world = linked path kept world
+kept_as false path kept world = moved path kept world
+
+-- an old file is kept no more, where one was
+abbrev pub dropped : Bool → List ℕ → World → World
+dropped true kept world = without_file kept world
+dropped false kept world = world
 
 -- the world of a device, if there is one
 abbrev pub world_in : {D : Type 0} → (D → Option World) → Option D → Option World

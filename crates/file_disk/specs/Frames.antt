@@ -50,7 +50,8 @@ pub record LittersBut (before now : World) (path : List ℕ) : Type 0 where
 
 -- a relation of two worlds, as far as is known
 abbrev pub IfKnown : (World → World → Type 0) → Option World → Option World → Type 0
-IfKnown R None now = ⊤
+IfKnown R None None = ⊤
+IfKnown R None (Some now) = ⊥
 IfKnown R (Some before) None = ⊥
 IfKnown R (Some before) (Some now) = R before now
 

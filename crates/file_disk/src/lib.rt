@@ -4,8 +4,10 @@
 
 mod device;
 mod disk;
+mod keeping;
 mod names;
 mod new_file;
+mod pair;
 mod reading;
 mod saving;
 mod target;

@@ -1,0 +1,6 @@
+use Rattle.std.proofs.Common.{◌≡◌}
+use Rattle.file_disk.proofs.keeping.keep_old.Given as goal
+
+-- nothing is kept yet
+abbrev pub invariant-loop-number : goal.invariant-loop-number
+invariant-loop-number g l = g.D.Device.world l.device ≡ g.D.Device.world l.fn.device
