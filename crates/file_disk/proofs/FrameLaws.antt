@@ -1,12 +1,12 @@
 -- What stays while one file is written.
 use Rattle.std.proofs.Common.{◌≡◌, ℕ, List, [], ◌++◌, take, Option, Some, None, Result, Ok, Err, refl, sym, ap, subst, ◌∙◌}
-use Rattle.std.specs.Prelude.{IfOk, OnOk, OnErr}
+use Rattle.std.specs.Prelude.{IfOk, OnErr}
 use Rattle.std.specs.Option.{option_map}
 use Rattle.std.specs.Io.KnownBytes.{Appends, Keeps, WriteAppends}
 use Rattle.file_host.specs.declared.input_fault.InputFault.{InputFault}
 use Rattle.file_host.specs.World.{World, held_at, with_file}
-use Rattle.file_disk.specs.Devices.{IsOpen, if_known, grown, bytes_in}
-use Rattle.file_disk.specs.Frames.{Frame, IsEmptyAt, known_bytes, known_at, held_of}
+use Rattle.file_disk.specs.Devices.{IsOpen, grown, bytes_in}
+use Rattle.file_disk.specs.Frames.{Frame, IsEmptyAt, known_bytes, known_at}
 use Rattle.file_disk.proofs.WorldLaws.{holds}
 
 bytes_kept : (held : Option (List ℕ)) → Keeps held held

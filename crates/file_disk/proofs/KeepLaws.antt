@@ -1,12 +1,11 @@
 -- An old file that is kept while a new one takes its place.
 use Rattle.std.proofs.Common.{◌≡◌, ◌≢◌, ℕ, List, [], Option, Some, None, Result, Ok, Err, Bool, true, false, refl, sym, ap, subst, ◌∙◌}
 use Rattle.std.proofs.Common.{inl, inr, string_bytes}
-use Rattle.std.specs.Prelude.{OnOk, OnErr, ◌⊎◌}
+use Rattle.std.specs.Prelude.{OnOk, OnErr}
 use Rattle.std.specs.Option.{option_map}
 use Rattle.file_host.specs.declared.input_fault.InputFault.{InputFault}
 use Rattle.file_host.specs.declared.input_fault.InputFault.TheVariants.{NotFound}
 use Rattle.file_host.specs.World.{World, held_at, with_file, without_file}
-use Rattle.file_host.specs.Saving.{IsMovedAway}
 use Rattle.file_disk.specs.declared.target.StoredFile.{StoredFile}
 use Rattle.file_disk.specs.Devices.{IsNew, IsTarget, IsTemporary, moved, linked, kept_as, kept_moved}
 use Rattle.file_disk.specs.Frames.{IfKnown, IsFileOrLasting, Litters, MayLose}
@@ -68,7 +67,7 @@ move_failed (Some w) made now old free named e (inl same) =
 move_failed (Some w) made now old free named e (inr gone) =
     subst (λ (x : Option World). IfKnown Litters (Some w) x)
     (sym (gone ∙ ap (option_map (without_file old)) e
-        ∙ ap (λ (x : World). Some x) (overwrites w old (Ok []) (Err NotFound))))
+    ∙ ap (λ (x : World). Some x) (overwrites w old (Ok []) (Err NotFound))))
     (litters_put w old (Err NotFound) free.nothing named)
 
 -- ---- a new file in the place of one that is kept
@@ -92,7 +91,7 @@ after_move w new path old new_apart path_apart apart =
     (holds_beside gone old new kept new_apart ∙ holds_beside w path new (Err NotFound) apart)
     ∙ ap (with_file path (held_at w new))
     (swaps gone new old (Err NotFound) kept new_apart
-        ∙ ap (with_file old kept) (swaps w new path (Err NotFound) (Err NotFound) apart))
+    ∙ ap (with_file old kept) (swaps w new path (Err NotFound) (Err NotFound) apart))
     ∙ swaps (without_file path (without_file new w)) path old (held_at w new) kept path_apart
     ∙ ap (with_file old kept) (overwrites (without_file new w) path (Err NotFound) (held_at w new))
 
@@ -122,8 +121,8 @@ put_done (Some w) kept now is_linked is_there new path old t p e f =
     f ∙ ap (option_map (moved new path)) e
     ∙ ap (λ (x : World). Some x)
     (after_keep w is_linked new path old (apart_by w new old p.new_there p.old_free)
-        (apart_by w path old p.path_there p.old_free) p.apart
-        ∙ by_flag w is_there new path old t)
+    (apart_by w path old p.path_there p.old_free) p.apart
+    ∙ by_flag w is_there new path old t)
 
 -- ---- where that fails
 
@@ -147,10 +146,10 @@ undo_gone w path old there free named =
       links = refl;
       stores = refl;
       here = inr record {
-          gone = holds_beside gone old path kept (apart_by w path old there free) ∙ holds w path (Err NotFound);
-          kept = w.place old;
-          free = free;
-          holds = holds gone old kept;
+        gone = holds_beside gone old path kept (apart_by w path old there free) ∙ holds w path (Err NotFound);
+        kept = w.place old;
+        free = free;
+        holds = holds gone old kept;
       };
       others = λ place apart keeps.
           put_beside gone.files (w.place old) kept place (off_new w old place free named keeps)
@@ -168,7 +167,7 @@ there_and_back w path old apart free =
     (holds gone old kept)
     ∙ ap (with_file path kept)
     (overwrites gone old kept (Err NotFound)
-        ∙ keeps gone old (Err NotFound) (sym (holds_beside w path old (Err NotFound) back ∙ free)))
+    ∙ keeps gone old (Err NotFound) (sym (holds_beside w path old (Err NotFound) back ∙ free)))
     ∙ overwrites w path (Err NotFound) kept ∙ keeps w path kept refl
 
 undo_self : (w : World) (path : List ℕ) → UndoFails path w w
@@ -196,7 +195,7 @@ link_undone (Some w) kept now path old k e (inl same) =
 link_undone (Some w) kept now path old k e (inr gone) =
     subst (λ (x : Option World). IfKnown (UndoFails path) (Some w) x)
     (sym (gone ∙ ap (option_map (without_file old)) e
-        ∙ ap (λ (x : World). Some x) (overwrites w old (held_at w path) (Err NotFound))))
+    ∙ ap (λ (x : World). Some x) (overwrites w old (held_at w path) (Err NotFound))))
     (undo_same w path old (Err NotFound) k.there k.free k.named)
 
 move_undone : {U E : Type 0} (before kept now : Option World) (path old : List ℕ) (r : Result U E)
@@ -209,7 +208,7 @@ move_undone None kept now path old (Err u) k e f h = none_stays (UndoFails path)
 move_undone (Some w) kept now path old (Ok u) k e f h =
     subst (λ (x : Option World). IfKnown (UndoFails path) (Some w) x)
     (sym (f ∙ ap (option_map (moved old path)) e
-        ∙ ap (λ (x : World). Some x) (there_and_back w path old (apart_by w path old k.there k.free) k.free)))
+    ∙ ap (λ (x : World). Some x) (there_and_back w path old (apart_by w path old k.there k.free) k.free)))
     (undo_self w path)
 move_undone (Some w) kept now path old (Err u) k e f h =
     subst (λ (x : Option World). IfKnown (UndoFails path) (Some w) x) (sym (h ∙ e))

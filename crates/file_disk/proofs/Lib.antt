@@ -3,3 +3,4 @@ pub mod FrameLaws
 pub mod NameLaws
 pub mod KeepLaws
 pub mod PairLaws
+pub mod SaveLaws

@@ -8,7 +8,7 @@ use Rattle.file_host.specs.declared.input_fault.InputFault.TheVariants.{NotFound
 use Rattle.file_host.specs.World.{World, held_at, with_file, without_file}
 use Rattle.file_host.specs.Saving.{IsMovedAway}
 use Rattle.file_disk.specs.declared.target.StoredFile.{StoredFile}
-use Rattle.file_disk.specs.Devices.{IsNew, IsDirect, IsTarget, IsTemporary, moved, kept_moved, dropped}
+use Rattle.file_disk.specs.Devices.{IsNew, IsDirect, IsTarget, IsTemporary, moved, kept_moved}
 use Rattle.file_disk.specs.Frames.{IfKnown, IsFileOrLasting, MayLose}
 use Rattle.file_disk.specs.Pairs.{AreApart, BothFail, IsThere, MayPutBack, TakesBack, TextFails, UndoFails, put_back, puts_both, text_put}
 use Rattle.file_disk.proofs.WorldLaws.{put_beside, overwrites, swaps, keeps, holds, holds_beside, apart_by}
@@ -34,7 +34,7 @@ loses_file w path = record {
   files = λ place apart. put_beside w.files (w.place path) (Err NotFound) place apart;
 }
 
-loses_of : (w : World) (now : Option World) (path : List ℕ) → MayLose (Some w) now path
+pub loses_of : (w : World) (now : Option World) (path : List ℕ) → MayLose (Some w) now path
     → IfKnown (Loses path) (Some w) now
 loses_of w now path (inl same) = subst (λ (x : Option World). IfKnown (Loses path) (Some w) x) (sym same) (loses_self w path)
 loses_of w now path (inr gone) = subst (λ (x : Option World). IfKnown (Loses path) (Some w) x) (sym gone) (loses_file w path)
@@ -77,7 +77,7 @@ back_put w false path kept new_text = record {
   others = λ place apart other third. put_beside w.files (w.place path) (Err NotFound) place apart;
 }
 
-or_else : {A B C D : Type 0} → (A → C) → (B → D) → A ⊎ B → C ⊎ D
+pub or_else : {A B C D : Type 0} → (A → C) → (B → D) → A ⊎ B → C ⊎ D
 or_else f g (inl a) = inl (f a)
 or_else f g (inr b) = inr (g b)
 
@@ -88,7 +88,7 @@ back_lost w m n is_there path kept new_text apart t l =
     ap (λ (p : List ℕ → List ℕ). n.files (p path)) l.places
     ∙ l.files (m.place path)
     (λ e. apart (sym (ap (λ (p : List ℕ → List ℕ). p new_text) t.places) ∙ sym e
-        ∙ ap (λ (p : List ℕ → List ℕ). p path) t.places)) in
+    ∙ ap (λ (p : List ℕ → List ℕ). p path) t.places)) in
     record {
       places = l.places ∙ t.places;
       links = l.links ∙ t.links;
@@ -157,7 +157,7 @@ pub record Ready (w : World) (is_there : Bool) (undo_path new_undo path new_text
   pub kept_named : is_there ≡ true → IsTemporary kept
   pub kept_free : is_there ≡ true → held_at w kept ≡ Err NotFound
 
-back_to : {x y : List ℕ} → x ≢ y → y ≢ x
+pub back_to : {x y : List ℕ} → x ≢ y → y ≢ x
 back_to apart e = apart (sym e)
 
 moved_beside : (w : World) (from to other : List ℕ) (left : Result (List ℕ) InputFault) → w.place from ≢ w.place other
@@ -246,14 +246,14 @@ mid_of w false undo_path new_undo kept apart = record {
       ∙ put_beside w.files (w.place new_undo) (Err NotFound) place b;
 }
 
-at_place : (v w : World) (path : List ℕ) → v.place ≡ w.place → held_at v path ≡ v.files (w.place path)
+pub at_place : (v w : World) (path : List ℕ) → v.place ≡ w.place → held_at v path ≡ v.files (w.place path)
 at_place v w path e = ap (λ (p : List ℕ → List ℕ). v.files (p path)) e
 
 shift : (v w : World) (a b : List ℕ) → v.place ≡ w.place → w.place a ≢ w.place b → v.place a ≢ v.place b
 shift v w a b e apart same =
     apart (sym (ap (λ (p : List ℕ → List ℕ). p a) e) ∙ same ∙ ap (λ (p : List ℕ → List ℕ). p b) e)
 
-shift_place : (v w : World) (place a : List ℕ) → v.place ≡ w.place → place ≢ w.place a → place ≢ v.place a
+pub shift_place : (v w : World) (place a : List ℕ) → v.place ≡ w.place → place ≢ w.place a → place ≢ v.place a
 shift_place v w place a e apart same = apart (same ∙ ap (λ (p : List ℕ → List ℕ). p a) e)
 
 -- the place of a kept file is neither that of a file nor a lasting one
@@ -274,23 +274,23 @@ both_in_place w m is_there undo_path new_undo path new_text kept r k =
     (off_kept w is_there undo_path new_undo path new_text kept (w.place new_text) r (inl r.text_there)) in
     let undo_held : w.place undo_path ≢ w.place path → held_at (moved new_text path m) undo_path ≡ held_at w new_undo =
     λ apart.
-        held_over m new_text path undo_path
-        (shift m w undo_path new_text k.places (back_to (r.undo_apart new_text r.text_named)))
-        (shift m w undo_path path k.places apart)
-        ∙ at_place m w undo_path k.places ∙ k.undo in record {
-          places = k.places;
-          links = k.links;
-          stores = k.stores;
-          undo_here = λ apart. inr (inl (undo_held apart));
-          text_here = λ apart.
-              inr (holds (without_file new_text m) path (held_at m new_text) ∙ text_held, undo_held apart);
-          others = λ place a b c d keeps.
-              put_beside (without_file new_text m).files (m.place path) (held_at m new_text) place
-              (shift_place m w place path k.places b)
-              ∙ put_beside m.files (m.place new_text) (Err NotFound) place (shift_place m w place new_text k.places d)
-              ∙ k.others place a c
-              (off_kept w is_there undo_path new_undo path new_text kept place r keeps);
-        }
+    held_over m new_text path undo_path
+    (shift m w undo_path new_text k.places (back_to (r.undo_apart new_text r.text_named)))
+    (shift m w undo_path path k.places apart)
+    ∙ at_place m w undo_path k.places ∙ k.undo in record {
+      places = k.places;
+      links = k.links;
+      stores = k.stores;
+      undo_here = λ apart. inr (inl (undo_held apart));
+      text_here = λ apart.
+          inr (holds (without_file new_text m) path (held_at m new_text) ∙ text_held, undo_held apart);
+      others = λ place a b c d keeps.
+          put_beside (without_file new_text m).files (m.place path) (held_at m new_text) place
+          (shift_place m w place path k.places b)
+          ∙ put_beside m.files (m.place new_text) (Err NotFound) place (shift_place m w place new_text k.places d)
+          ∙ k.others place a c
+          (off_kept w is_there undo_path new_undo path new_text kept place r keeps);
+    }
 
 undo_or : {A B C D : Type 0} → A ⊎ B → (A → D) → (B → C) → C ⊎ D
 undo_or (inl a) f g = inr (f a)
@@ -328,7 +328,7 @@ put_back_fails w m n is_there undo_path new_undo path new_text kept r k t =
       others = λ place a b c d keeps.
           t.others place (shift_place m w place undo_path k.places a)
           (λ e. shift_place m w place kept k.places
-              (off_kept w is_there undo_path new_undo path new_text kept place r keeps e))
+          (off_kept w is_there undo_path new_undo path new_text kept place r keeps e))
           (shift_place m w place new_text k.places d)
           ∙ k.others place a c (off_kept w is_there undo_path new_undo path new_text kept place r keeps);
     }

@@ -1,9 +1,11 @@
 -- What a failed save of two files may leave.
-use Rattle.std.specs.Prelude.{◌≡◌, ◌≢◌, ◌⊎◌, ℕ, List, Option, Some, None, Err, Bool, true, false, if◌then◌else◌, ⊤}
+use Rattle.std.specs.Prelude.{◌≡◌, ◌≢◌, ◌⊎◌, ℕ, List, Option, Some, None, Ok, Err, Bool, true, false, if◌then◌else◌, ⊤}
 use Rattle.std.specs.Option.{option_map}
 use Rattle.file_host.specs.declared.input_fault.InputFault.TheVariants.{NotFound}
-use Rattle.file_host.specs.World.{World, held_at, without_file}
-use Rattle.file_host.specs.Saving.{IsMovedAway}
+use Rattle.file_host.specs.World.{World, held_at, with_file, without_file}
+use Rattle.file_host.specs.declared.faults.PairFault.{PairFault}
+use Rattle.file_host.specs.declared.faults.PairFault.TheVariants as pair
+use Rattle.file_host.specs.Saving.{IsMovedAway, Spoils}
 use Rattle.file_disk.specs.declared.keeping.KeepFault.{KeepFault}
 use Rattle.file_disk.specs.declared.keeping.KeepFault.TheVariants.{NameTaken, Failed}
 use Rattle.file_disk.specs.Devices.{moved, dropped}
@@ -78,3 +80,17 @@ pub record BothFail (undo_path new_undo path new_text : List ℕ) (old new : Wor
       ⊎ ((held_at new path ≡ held_at old new_text) × (held_at new undo_path ≡ held_at old new_undo))
   pub others : (place : List ℕ) → place ≢ old.place undo_path → place ≢ old.place path → place ≢ old.place new_undo
       → place ≢ old.place new_text → IsFileOrLasting old place → new.files place ≡ old.files place
+
+-- both texts are the files at these paths
+abbrev pub both_saved : List ℕ → List ℕ → List ℕ → List ℕ → World → World
+both_saved undo_path undo path text world = with_file path (Ok text) (with_file undo_path (Ok undo) world)
+
+-- a failed save of a text after its undo script was written to a pipe or a device
+abbrev pub AfterUndo : Option World → Option World → List ℕ → List ℕ → PairFault → Type 0
+AfterUndo old new path text (pair.Write which written) = Spoils old new path text
+AfterUndo old new path text pair.OutOfMemory = new ≡ old
+
+-- a failed save of an undo script, whose text is written to a pipe or a device
+abbrev pub OnlyLitters : Option World → Option World → PairFault → Type 0
+OnlyLitters old new (pair.Write which written) = IfKnown Litters old new
+OnlyLitters old new pair.OutOfMemory = new ≡ old

@@ -3,6 +3,7 @@ ghost use Rattle.std.specs.Prelude.{◌≡◌};
 ghost use Rattle.file_disk.specs.Devices.{world_in};
 
 use crate::device::Device;
+use crate::pair::save_both;
 use crate::reading::read_file;
 use crate::saving::save_text;
 use base_outputs::WriteFault;
@@ -11,10 +12,63 @@ use file_host::{Host, InputFault, PairFault};
 use sf_base::Failure;
 use std::alloc::Global;
 
-/// Files on a device.
+/// Files on a device. A text is written to a new file beside the one that it replaces, which is put in place once it is
+/// written and synced; a pipe, a device or a descriptor is written in place.
 #[derive(Drop)]
 pub struct Disk<D> {
     alloc: Global,
-    // The device, which is taken out while a text is saved.
+    // The device, which is moved out while a text is saved.
     device: Option<D>,
+}
+
+impl<D: Device + Drop> Disk<D> {
+    /// The files on a device.
+    pub fn new(alloc: Global, device: D) -> Disk<D>
+        ensures { world_in D.world result.device ≡ D.world device }
+    {
+        Disk {
+            alloc,
+            device: Some(device),
+        }
+    }
+
+    /// Returns the device.
+    pub fn device(&self) -> Option<&D> {
+        self.device.as_ref()
+    }
+}
+
+impl<D: Device + Drop> Host for Disk<D> {
+    ghost world = { λ disk. world_in D.world disk.device };
+
+    fn read(&mut self, alloc: Global, path: &str) -> Result<Vec<u8>, Failure<InputFault>> {
+        match &mut self.device {
+            Some(device) => read_file(alloc, device, path),
+            None => Err(Failure::OutOfMemory),
+        }
+    }
+
+    fn save<T: Text>(&mut self, path: &str, text: &T) -> Result<(), Failure<WriteFault>> {
+        let Some(device) = self.device.take() else {
+            return Err(Failure::OutOfMemory);
+        };
+        let (device, answer) = save_text(self.alloc, device, path, text);
+        self.device = Some(device);
+        answer
+    }
+
+    fn save_pair<U: Text, T: Text>(
+        &mut self,
+        undo_path: &str,
+        undo: &U,
+        path: &str,
+        text: &T,
+    ) -> Result<(), PairFault> {
+        let Some(device) = self.device.take() else {
+            return Err(PairFault::OutOfMemory);
+        };
+        let (device, answer) = save_both(self.alloc, device, undo_path, undo, path, text);
+        self.device = Some(device);
+        answer
+    }
 }

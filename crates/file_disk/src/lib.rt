@@ -13,4 +13,5 @@ mod saving;
 mod target;
 
 pub use device::Device;
+pub use disk::Disk;
 pub use target::{StoredFile, Target};

@@ -17,9 +17,9 @@ pub(crate) const NUMBERS: u16 = 10_000;
 /// The most bytes of the name of a temporary file, without its folder.
 const NAME_ROOM: usize = 32;
 
-/// Reserves the memory for the name of a temporary file in the folder of a file.
-pub(crate) fn room_for_name(alloc: Global, path: &str) -> Result<String, AllocError> {
-    String::with_capacity(alloc, path.len().saturating_add(NAME_ROOM))
+/// Reserves the memory for the name of a temporary file in the folder of a file with a path of this length.
+pub(crate) fn room_for_name(alloc: Global, length: usize) -> Result<String, AllocError> {
+    String::with_capacity(alloc, length.saturating_add(NAME_ROOM))
 }
 
 /// Sets the path of a numbered file in the folder of another file, within its capacity.

@@ -2,10 +2,11 @@
 ghost use Rattle.std.specs.Prelude.{◌≡◌, true, Ok, OnOk, OnErr, IfErr, string_bytes};
 ghost use Rattle.std.specs.Option.{option_map};
 ghost use Rattle.file_host.specs.World.{with_file, with_text, with_pair};
-ghost use Rattle.file_host.specs.Saving.{PairFails, Spoils, SpoilsPair};
-ghost use Rattle.file_disk.specs.Devices.{IsDirect, IsNew, IsTarget, IsTemporary, dropped, moved};
+ghost use Rattle.file_host.specs.Saving.{PairFails, SpoilsPair};
+ghost use Rattle.file_disk.specs.declared.target.Target.TheVariants.{Stores};
+ghost use Rattle.file_disk.specs.Devices.{IsDirect, IsTarget, IsTemporary, Leads, dropped};
 ghost use Rattle.file_disk.specs.Frames.{IfKnown, Litters};
-ghost use Rattle.file_disk.specs.Pairs.{AreApart, BothFail, IsThere, MayPutBack, TextFails, puts_both, text_put};
+ghost use Rattle.file_disk.specs.Pairs.{AfterUndo, AreApart, BothFail, IsThere, MayPutBack, OnlyLitters, TextFails, both_saved, puts_both, text_put};
 
 use crate::device::Device;
 use crate::keeping::put_and_keep;
@@ -31,6 +32,220 @@ pub(crate) struct Names {
 struct TextFault {
     which: Which,
     written: u64,
+}
+
+/// Saves an undo script at one path, and then the text that it undoes at another.
+pub(crate) fn save_both<D: Device, U: Text, T: Text>(
+    alloc: Global,
+    mut device: D,
+    undo_path: &str,
+    undo: &U,
+    path: &str,
+    text: &T,
+) -> (D, Result<(), PairFault>)
+    ensures saved { OnOk result.1 (D.world result.0 ≡ option_map (with_pair undo_path.now (U.bytes undo.now) path.now (T.bytes text.now)) (D.world device)) }
+    ensures failed { IfErr result.1 (PairFails (D.world device) (D.world result.0) undo_path.now (U.bytes undo.now) path.now (T.bytes text.now)) }
+{
+    match device.resolve(undo_path) {
+        Ok(Target::Stores(undo_file)) => {
+            save_beside(alloc, device, undo_path, &undo_file, undo, path, text)
+        }
+        Ok(Target::InPlace) => save_after(alloc, device, undo_path, undo, path, text),
+        Err(_) => (device, Err(PairFault::OutOfMemory)),
+    }
+}
+
+// Saves both where the undo script is written to a pipe or a device.
+fn save_after<D: Device, U: Text, T: Text>(
+    alloc: Global,
+    device: D,
+    undo_path: &str,
+    undo: &U,
+    path: &str,
+    text: &T,
+) -> (D, Result<(), PairFault>)
+    ensures saved { OnOk result.1 (D.world result.0 ≡ option_map (with_text path.now (T.bytes text.now)) (D.world device)) }
+    ensures failed { IfErr result.1 (AfterUndo (D.world device) (D.world result.0) path.now (T.bytes text.now)) }
+{
+    let (device, answer) = send_whole(device, undo_path, undo);
+    if let Err(fault) = answer {
+        return (device, Err(PairFault::Write(Which::Undo, fault.written)));
+    }
+    let (device, answer) = save_text(alloc, device, path, text);
+    match answer {
+        Ok(()) => (device, Ok(())),
+        Err(Failure::OutOfMemory) => (device, Err(PairFault::OutOfMemory)),
+        Err(Failure::Fault(fault)) => { (device, Err(PairFault::Write(Which::Out, fault.written))) }
+    }
+}
+
+// Writes a text to a pipe or a device, and syncs it, as far as that has anything to sync.
+fn send_whole<D: Device, T: Text>(device: D, path: &str, text: &T) -> (D, Result<(), WriteFault>)
+    ensures { D.world result.0 ≡ D.world device }
+{
+    let (mut device, answer) = send(device, path, text);
+    match answer {
+        Ok(written) => match device.sync() {
+            Ok(()) => (device, Ok(())),
+            Err(_) => (device, Err(WriteFault { written })),
+        },
+        Err(fault) => (device, Err(fault)),
+    }
+}
+
+// Saves both where the undo script is a file.
+fn save_beside<D: Device, U: Text, T: Text>(
+    alloc: Global,
+    mut device: D,
+    undo_path: &str,
+    undo_file: &StoredFile,
+    undo: &U,
+    path: &str,
+    text: &T,
+) -> (D, Result<(), PairFault>)
+    requires { Leads (D.world device) undo_path.now (Stores undo_file.now) }
+    ensures saved { OnOk result.1 (D.world result.0 ≡ option_map (with_pair undo_path.now (U.bytes undo.now) path.now (T.bytes text.now)) (D.world device)) }
+    ensures failed { IfErr result.1 (PairFails (D.world device) (D.world result.0) undo_path.now (U.bytes undo.now) path.now (T.bytes text.now)) }
+{
+    match device.resolve(path) {
+        Ok(Target::Stores(file)) => save_files(alloc, device, undo_file, &file, undo, text),
+        Ok(Target::InPlace) => save_before(alloc, device, undo_file, undo, path, text),
+        Err(_) => (device, Err(PairFault::OutOfMemory)),
+    }
+}
+
+// Saves both where both are files.
+fn save_files<D: Device, U: Text, T: Text>(
+    alloc: Global,
+    device: D,
+    undo_file: &StoredFile,
+    file: &StoredFile,
+    undo: &U,
+    text: &T,
+) -> (D, Result<(), PairFault>)
+    requires undo { IsTarget (D.world device) undo_file.now }
+    requires text { IsTarget (D.world device) file.now }
+    ensures saved { OnOk result.1 (D.world result.0 ≡ option_map (both_saved (string_bytes undo_file.now.path) (U.bytes undo.now) (string_bytes file.now.path) (T.bytes text.now)) (D.world device)) }
+    ensures failed { IfErr result.1 (PairFails (D.world device) (D.world result.0) (string_bytes undo_file.now.path) (U.bytes undo.now) (string_bytes file.now.path) (T.bytes text.now)) }
+{
+    let Ok(mut names) = Names::with_room(alloc, undo_file.path.len(), file.path.len()) else {
+        return (device, Err(PairFault::OutOfMemory));
+    };
+    let (device, answer) = replace_both(device, undo_file, file, &mut names, undo, text);
+    match answer {
+        Ok(()) => (device, Ok(())),
+        Err(fault) => (device, Err(PairFault::Write(fault.which, fault.written))),
+    }
+}
+
+// Saves both where the text is written to a pipe or a device.
+fn save_before<D: Device, U: Text, T: Text>(
+    alloc: Global,
+    device: D,
+    undo_file: &StoredFile,
+    undo: &U,
+    path: &str,
+    text: &T,
+) -> (D, Result<(), PairFault>)
+    requires { IsDirect (D.world device) (string_bytes undo_file.now.path) }
+    ensures saved { OnOk result.1 (D.world result.0 ≡ option_map (with_file (string_bytes undo_file.now.path) (Ok (U.bytes undo.now))) (D.world device)) }
+    ensures failed { IfErr result.1 (OnlyLitters (D.world device) (D.world result.0)) }
+{
+    let Ok(mut new_undo) = room_for_name(alloc, undo_file.path.len()) else {
+        return (device, Err(PairFault::OutOfMemory));
+    };
+    let (device, answer) = replace_and_send(device, undo_file, &mut new_undo, undo, path, text);
+    match answer {
+        Ok(()) => (device, Ok(())),
+        Err(fault) => (device, Err(PairFault::Write(fault.which, fault.written))),
+    }
+}
+
+impl Names {
+    // Reserves the memory for names in the folders of files with paths of these lengths.
+    fn with_room(alloc: Global, undo: usize, text: usize) -> Result<Names, AllocError> {
+        Ok(Names {
+            new_undo: room_for_name(alloc, undo)?,
+            old_undo: room_for_name(alloc, undo)?,
+            new_text: room_for_name(alloc, text)?,
+        })
+    }
+}
+
+// Puts the undo script in the place of a file, once the text is written to a pipe or a device.
+fn replace_and_send<D: Device, U: Text, T: Text>(
+    device: D,
+    undo_file: &StoredFile,
+    new_undo: &mut String,
+    undo: &U,
+    path: &str,
+    text: &T,
+) -> (D, Result<(), TextFault>)
+    requires { IsDirect (D.world device) (string_bytes undo_file.now.path) }
+    ensures saved { OnOk result.1 (D.world result.0 ≡ option_map (with_file (string_bytes undo_file.now.path) (Ok (U.bytes undo.now))) (D.world device)) }
+    ensures failed { OnErr result.1 (IfKnown Litters (D.world device) (D.world result.0)) }
+{
+    let (device, answer) = prepare(device, undo_file, new_undo, undo);
+    let undo_length = match answer {
+        Ok(written) => written.length,
+        Err(fault) => return (device, Err(TextFault::new(Which::Undo, fault.written))),
+    };
+    let (mut device, answer) = send(device, path, text);
+    if let Err(fault) = answer {
+        remove(&mut device, new_undo.as_str());
+        return (device, Err(TextFault::new(Which::Out, fault.written)));
+    }
+    match put_in_place(&mut device, new_undo.as_str(), undo_file.path.as_str()) {
+        Ok(()) => (device, Ok(())),
+        Err(_) => {
+            remove(&mut device, new_undo.as_str());
+            (device, Err(TextFault::new(Which::Undo, undo_length)))
+        }
+    }
+}
+
+impl TextFault {
+    fn new(which: Which, written: u64) -> TextFault {
+        TextFault { which, written }
+    }
+}
+
+// Puts both texts in the place of files, by way of new files, of which each is written and synced before one is put in
+// place.
+fn replace_both<D: Device, U: Text, T: Text>(
+    device: D,
+    undo_file: &StoredFile,
+    file: &StoredFile,
+    names: &mut Names,
+    undo: &U,
+    text: &T,
+) -> (D, Result<(), TextFault>)
+    requires undo { IsTarget (D.world device) undo_file.now }
+    requires text { IsTarget (D.world device) file.now }
+    ensures saved { OnOk result.1 (D.world result.0 ≡ option_map (both_saved (string_bytes undo_file.now.path) (U.bytes undo.now) (string_bytes file.now.path) (T.bytes text.now)) (D.world device)) }
+    ensures failed { OnErr result.1 (SpoilsPair (D.world device) (D.world result.0) (string_bytes undo_file.now.path) (U.bytes undo.now) (string_bytes file.now.path) (T.bytes text.now)) }
+{
+    let (device, answer) = prepare(device, undo_file, &mut names.new_undo, undo);
+    let undo_written = match answer {
+        Ok(written) => written,
+        Err(fault) => return (device, Err(TextFault::new(Which::Undo, fault.written))),
+    };
+    let (mut device, answer) = prepare(device, file, &mut names.new_text, text);
+    let written = match answer {
+        Ok(written) => written,
+        Err(fault) => {
+            remove(&mut device, names.new_undo.as_str());
+            return (device, Err(TextFault::new(Which::Out, fault.written)));
+        }
+    };
+    match put_both(&mut device, undo_file, file, names, undo_written.is_owned) {
+        Ok(()) => (device, Ok(())),
+        Err(Which::Undo) => (
+            device,
+            Err(TextFault::new(Which::Undo, undo_written.length)),
+        ),
+        Err(Which::Out) => (device, Err(TextFault::new(Which::Out, written.length))),
+    }
 }
 
 // Puts both new files in place, which are written and synced: the undo script first. If that fails, the old undo script

@@ -56,10 +56,7 @@ fn read_whole<D: Device>(
 }
 
 // Appends the next bytes of the open file, and returns how many.
-fn read_piece<D: Device>(
-    device: &mut D,
-    bytes: &mut Vec<u8>,
-) -> Result<usize, Failure<InputFault>>
+fn read_piece<D: Device>(device: &mut D, bytes: &mut Vec<u8>) -> Result<usize, Failure<InputFault>>
     requires { vec_len bytes.old < most_read }
     ensures within { OnOk result (vec_len bytes.new ≤ most_read) }
     ensures reads { IfOk result (ReadsPiece (D.unread device.old) (D.unread device.new) bytes.old.items bytes.new.items) }

@@ -37,7 +37,7 @@ pub(crate) fn save_text<D: Device, T: Text>(
     ensures failed { IfErr result.1 (SaveFails (D.world device) (D.world result.0) path.now (T.bytes text.now)) }
 {
     match device.resolve(path) {
-        Ok(Target::Stores(file)) => match room_for_name(alloc, file.path.as_str()) {
+        Ok(Target::Stores(file)) => match room_for_name(alloc, file.path.len()) {
             Ok(mut new_path) => replace(device, &file, &mut new_path, text),
             Err(_) => (device, Err(Failure::OutOfMemory)),
         },
@@ -131,11 +131,7 @@ fn settle<D: Device>(device: &mut D, file: &StoredFile, new_path: &str) -> io::R
 }
 
 /// Moves a new file, which is written and synced, in the place of another.
-pub(crate) fn put_in_place<D: Device>(
-    device: &mut D,
-    new_path: &str,
-    path: &str,
-) -> io::Result<()>
+pub(crate) fn put_in_place<D: Device>(device: &mut D, new_path: &str, path: &str) -> io::Result<()>
     requires from { IsDirect (D.world device.old) new_path.now }
     requires to { IsDirect (D.world device.old) path.now }
     ensures moved { OnOk result (D.world device.new ≡ option_map (moved new_path.now path.now) (D.world device.old)) }

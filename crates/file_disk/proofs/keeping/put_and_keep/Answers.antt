@@ -1,4 +1,4 @@
-use Rattle.std.proofs.Common.{◌∙◌, string_bytes, rules}
+use Rattle.std.proofs.Common.{string_bytes, rules}
 use Rattle.file_disk.proofs.KeepLaws.{put_done, linked_undone, moved_undone, keep_failed, there_of, keeps_of, puts_of}
 use Rattle.file_disk.proofs.keeping.put_and_keep.Goals as goal
 

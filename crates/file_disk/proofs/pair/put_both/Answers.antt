@@ -1,4 +1,3 @@
-use Rattle.std.proofs.Common.{string_bytes, rules}
 use Rattle.file_disk.proofs.PairLaws.{both_done, both_failed, undo_failed, direct_still, direct_after, ready_of}
 use Rattle.file_disk.proofs.pair.put_both.Goals as goal
 
