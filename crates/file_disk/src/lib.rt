@@ -2,6 +2,7 @@
 //! in place once they are written and synced.
 #![tactic(auto)]
 
+mod descriptor;
 mod device;
 mod disk;
 mod keeping;
@@ -9,9 +10,12 @@ mod names;
 mod new_file;
 mod pair;
 mod reading;
+mod resolving;
 mod saving;
+mod system;
 mod target;
 
 pub use device::Device;
 pub use disk::Disk;
+pub use system::System;
 pub use target::{StoredFile, Target};

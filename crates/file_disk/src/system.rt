@@ -1,0 +1,183 @@
+//! The device of a real system.
+ghost use Rattle.std.specs.Prelude.{None};
+
+use crate::descriptor::Descriptor;
+use crate::device::Device;
+use crate::names::folder_of;
+use crate::resolving::{Resolved, is_temporary, resolve};
+use crate::target::{StoredFile, Target};
+use file_host::InputFault;
+use sf_base::Failure;
+use std::alloc::AllocError;
+use std::fs::{File, OpenFile, OpenOptions};
+use std::io::{ErrorKind, Read, Write};
+use std::os::unix::fs::{MetadataExt, OpenOptionsExt, chown};
+use std::rt::Files;
+use std::{fs, io};
+
+/// The permissions of a new file that others can't read, and of one that they can, as far as the process allows.
+const PRIVATE: u32 = 0o600;
+
+const SHARED: u32 = 0o666;
+
+/// The files of a runtime. Nothing is known of its world, since no clause of std says what a file holds. That these
+/// calls do what `Device` says is the trust that is left: of each method here, of the system, and that no other process
+/// changes the files or the folders of a run, nor a link that leads to them.
+#[derive(Drop)]
+pub struct System<'a, R: Files> {
+    rt: &'a R,
+    output: Option<R::File>,
+    input: Option<R::File>,
+}
+
+impl<'a, R: Files> System<'a, R> {
+    /// The files of a runtime.
+    pub fn new(rt: &'a R) -> System<'a, R> {
+        System {
+            rt,
+            output: None,
+            input: None,
+        }
+    }
+}
+
+impl<R: Files + AllocGlobal> Device for System<'_, R> {
+    ghost world = { λ system. None };
+
+    ghost output = { λ system. None };
+
+    ghost unread = { λ system. None };
+
+    fn resolve(&mut self, path: &str) -> Result<Target, AllocError> {
+        match resolve(self.rt, path)? {
+            Resolved::Regular(path) if !is_temporary(path.as_str()) => {
+                Ok(Target::Stores(StoredFile {
+                    path,
+                    is_there: true,
+                }))
+            }
+            Resolved::Nothing(path) if !is_temporary(path.as_str()) => {
+                Ok(Target::Stores(StoredFile {
+                    path,
+                    is_there: false,
+                }))
+            }
+            _ => Ok(Target::InPlace),
+        }
+    }
+
+    fn check_writable(&mut self, path: &str) -> io::Result<()> {
+        let _file = OpenOptions::new().write(true).open(self.rt, path)?;
+        Ok(())
+    }
+
+    fn create_new(&mut self, path: &str, is_private: bool) -> io::Result<()> {
+        let mode = if is_private { PRIVATE } else { SHARED };
+        let file = OpenOptions::new()
+            .write(true)
+            .create_new(true)
+            .mode(mode)
+            .open(self.rt, path)?;
+        self.output = Some(file);
+        Ok(())
+    }
+
+    fn open_in_place(&mut self, path: &str) -> io::Result<()> {
+        let file = match resolve(self.rt, path)? {
+            Resolved::Descriptor(number) => Descriptor::new(self.rt, number)?.open(self.rt, path)?,
+            _ => open_existing(self.rt, path)?,
+        };
+        self.output = Some(file);
+        Ok(())
+    }
+
+    fn append(&mut self, bytes: &[u8]) -> io::Result<usize> {
+        match &mut self.output {
+            Some(file) => file.write(bytes),
+            None => Err(io::Error::from(ErrorKind::NotFound)),
+        }
+    }
+
+    fn sync(&mut self) -> io::Result<()> {
+        let Some(file) = &self.output else {
+            return Ok(());
+        };
+        match file.sync_all() {
+            // A pipe or a device has nothing to sync.
+            Err(error) if error.kind() != ErrorKind::InvalidInput => Err(error),
+            _ => Ok(()),
+        }
+    }
+
+    fn keep_access(&mut self, path: &str, new_path: &str) -> bool {
+        let (Some(file), Ok(found)) = (&self.output, fs::metadata(self.rt, path)) else {
+            return false;
+        };
+        let _ = chown(self.rt, new_path, None, Some(found.gid()));
+        let _ = chown(self.rt, new_path, Some(found.uid()), None);
+        let _ = file.set_permissions(found.permissions());
+        match file.metadata() {
+            Ok(made) => made.uid() == found.uid(),
+            Err(_) => false,
+        }
+    }
+
+    fn rename(&mut self, from: &str, to: &str) -> io::Result<()> {
+        self.output = None;
+        fs::rename(self.rt, from, to)
+    }
+
+    fn link(&mut self, from: &str, to: &str) -> io::Result<()> {
+        fs::hard_link(self.rt, from, to)
+    }
+
+    fn remove(&mut self, path: &str) -> io::Result<()> {
+        fs::remove_file(self.rt, path)
+    }
+
+    fn sync_folder(&mut self, path: &str) {
+        if let Ok(folder) = File::open(self.rt, folder_of(path)) {
+            let _ = folder.sync_all();
+        }
+    }
+
+    fn open_input(&mut self, path: &str) -> Result<u64, Failure<InputFault>> {
+        let file = match File::open(self.rt, path) {
+            Ok(file) => file,
+            Err(error) => return Err(failure_of(&error)),
+        };
+        let expected = match file.metadata() {
+            Ok(metadata) => metadata.len(),
+            Err(_) => 0,
+        };
+        self.input = Some(file);
+        Ok(expected)
+    }
+
+    fn read_input(&mut self, buffer: &mut [u8]) -> Result<usize, Failure<InputFault>> {
+        let Some(file) = &mut self.input else {
+            return Err(Failure::Fault(InputFault::Unreadable));
+        };
+        match file.read(buffer) {
+            Ok(count) => Ok(count),
+            Err(error) => Err(failure_of(&error)),
+        }
+    }
+}
+
+/// Opens a device or a pipe. Fails for a regular file, which is replaced as a whole instead.
+fn open_existing<R: Files>(rt: &R, path: &str) -> io::Result<R::File> {
+    let file = OpenOptions::new().write(true).open(rt, path)?;
+    if file.metadata()?.is_file() {
+        return Err(io::Error::from(ErrorKind::Unsupported));
+    }
+    Ok(file)
+}
+
+/// The fault of an error in opening or reading a file.
+fn failure_of(error: &io::Error) -> Failure<InputFault> {
+    match error.kind() {
+        ErrorKind::OutOfMemory => Failure::OutOfMemory,
+        kind => Failure::Fault(InputFault::of(kind)),
+    }
+}
