@@ -6,6 +6,7 @@ mod descriptor;
 mod device;
 mod disk;
 mod keeping;
+mod memory;
 mod names;
 mod new_file;
 mod pair;
@@ -17,5 +18,6 @@ mod target;
 
 pub use device::Device;
 pub use disk::Disk;
+pub use memory::{Behaviour, MemoryDevice};
 pub use system::System;
 pub use target::{StoredFile, Target};

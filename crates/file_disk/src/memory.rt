@@ -1,0 +1,242 @@
+//! A device in memory, for tests, which fails at a call that the test picks.
+ghost use Rattle.std.specs.Prelude.{None};
+
+use crate::device::Device;
+use crate::target::{StoredFile, Target};
+use file_host::InputFault;
+use sf_base::Failure;
+use std::alloc::{AllocError, Global};
+use std::io;
+use std::io::ErrorKind;
+
+/// The most bytes that one call writes or reads, so that texts are written and read in pieces.
+const PIECE: usize = 3;
+
+/// How a device in memory behaves.
+#[derive(Clone, Copy)]
+pub struct Behaviour {
+    /// The number of calls before one fails.
+    pub calls: u64,
+    /// Whether all calls after that one fail too.
+    pub is_broken: bool,
+    /// Whether files can be linked.
+    pub has_links: bool,
+}
+
+/// A device in memory. Each path is a file of its own, but a path that begins with `pipe` is written in place. Its clauses
+/// are empty: it tests what the contracts of `Disk` leave open, such as that no temporary file is left.
+#[derive(Drop)]
+pub struct MemoryDevice {
+    alloc: Global,
+    behaviour: Behaviour,
+    files: Vec<MemoryFile>,
+    output: String,
+    input: String,
+    read: usize,
+}
+
+/// A file in memory.
+#[derive(Drop)]
+struct MemoryFile {
+    path: String,
+    bytes: Vec<u8>,
+}
+
+impl MemoryDevice {
+    /// A device without files.
+    pub fn new(alloc: Global, behaviour: Behaviour) -> MemoryDevice {
+        MemoryDevice {
+            alloc,
+            behaviour,
+            files: Vec::new(alloc),
+            output: String::new(alloc),
+            input: String::new(alloc),
+            read: 0,
+        }
+    }
+
+    /// Puts a file at a path where nothing is.
+    pub fn put(&mut self, path: &str, bytes: &[u8]) -> Result<(), AllocError> {
+        let path = String::from_str(self.alloc, path)?;
+        let bytes = Vec::from_slice(self.alloc, bytes)?;
+        self.files.push(MemoryFile { path, bytes })?;
+        Ok(())
+    }
+
+    /// Returns the bytes of the file at a path.
+    pub fn file(&self, path: &str) -> Option<&[u8]> {
+        let file = self.files.get(self.find(path)?)?;
+        Some(file.bytes.as_slice())
+    }
+
+    /// Returns how many files there are.
+    pub fn count(&self) -> usize {
+        self.files.len()
+    }
+
+    fn find(&self, path: &str) -> Option<usize> {
+        for (at, file) in self.files.iter().enumerate() {
+            if file.path.as_str() == path {
+                return Some(at);
+            }
+        }
+        None
+    }
+
+    fn take_out(&mut self, path: &str) -> io::Result<MemoryFile> {
+        match self.find(path) {
+            Some(at) if at < self.files.len() => Ok(self.files.swap_remove(at)),
+            _ => Err(io::Error::from(ErrorKind::NotFound)),
+        }
+    }
+
+    // Counts a call, and fails if it is one that fails.
+    fn call(&mut self) -> io::Result<()> {
+        if self.behaviour.calls == 0 {
+            if !self.behaviour.is_broken {
+                self.behaviour.calls = u64::MAX;
+            }
+            return Err(io::Error::from(ErrorKind::StorageFull));
+        }
+        self.behaviour.calls -= 1;
+        Ok(())
+    }
+
+    fn check_free(&self, path: &str) -> io::Result<()> {
+        match self.find(path) {
+            Some(_) => Err(io::Error::from(ErrorKind::AlreadyExists)),
+            None => Ok(()),
+        }
+    }
+}
+
+impl Device for MemoryDevice {
+    ghost world = { λ device. None };
+
+    ghost output = { λ device. None };
+
+    ghost unread = { λ device. None };
+
+    fn resolve(&mut self, path: &str) -> Result<Target, AllocError> {
+        if self.call().is_err() {
+            return Err(AllocError);
+        }
+        if path.starts_with("pipe") {
+            return Ok(Target::InPlace);
+        }
+        Ok(Target::Stores(StoredFile {
+            path: String::from_str(self.alloc, path)?,
+            is_there: self.find(path).is_some(),
+        }))
+    }
+
+    fn check_writable(&mut self, _path: &str) -> io::Result<()> {
+        self.call()
+    }
+
+    fn create_new(&mut self, path: &str, _is_private: bool) -> io::Result<()> {
+        self.call()?;
+        self.check_free(path)?;
+        self.put(path, b"")?;
+        self.output = String::from_str(self.alloc, path)?;
+        Ok(())
+    }
+
+    fn open_in_place(&mut self, path: &str) -> io::Result<()> {
+        self.call()?;
+        if self.find(path).is_none() {
+            self.put(path, b"")?;
+        }
+        self.output = String::from_str(self.alloc, path)?;
+        Ok(())
+    }
+
+    fn append(&mut self, bytes: &[u8]) -> io::Result<usize> {
+        self.call()?;
+        let count = bytes.len().min(PIECE);
+        let Some(at) = self.find(self.output.as_str()) else {
+            return Err(io::Error::from(ErrorKind::NotFound));
+        };
+        match self.files.get_mut(at) {
+            Some(file) => file.bytes.extend_from_slice(&bytes[..count])?,
+            None => return Err(io::Error::from(ErrorKind::NotFound)),
+        }
+        Ok(count)
+    }
+
+    fn sync(&mut self) -> io::Result<()> {
+        self.call()
+    }
+
+    fn keep_access(&mut self, _path: &str, _new_path: &str) -> bool {
+        self.call().is_ok()
+    }
+
+    fn rename(&mut self, from: &str, to: &str) -> io::Result<()> {
+        self.call()?;
+        let path = String::from_str(self.alloc, to)?;
+        let file = self.take_out(from)?;
+        let _old = self.take_out(to);
+        self.files.push(MemoryFile {
+            path,
+            bytes: file.bytes,
+        })?;
+        Ok(())
+    }
+
+    fn link(&mut self, from: &str, to: &str) -> io::Result<()> {
+        self.call()?;
+        if !self.behaviour.has_links {
+            return Err(io::Error::from(ErrorKind::Unsupported));
+        }
+        self.check_free(to)?;
+        let Some(bytes) = self.file(from) else {
+            return Err(io::Error::from(ErrorKind::NotFound));
+        };
+        let bytes = Vec::from_slice(self.alloc, bytes)?;
+        self.put(to, bytes.as_slice())?;
+        Ok(())
+    }
+
+    fn remove(&mut self, path: &str) -> io::Result<()> {
+        self.call()?;
+        let _file = self.take_out(path)?;
+        Ok(())
+    }
+
+    fn sync_folder(&mut self, _path: &str) {
+        let _ = self.call();
+    }
+
+    fn open_input(&mut self, path: &str) -> Result<u64, Failure<InputFault>> {
+        if self.call().is_err() {
+            return Err(Failure::OutOfMemory);
+        }
+        let Some(bytes) = self.file(path) else {
+            return Err(Failure::Fault(InputFault::NotFound));
+        };
+        let length = bytes.len() as u64;
+        self.input = String::from_str(self.alloc, path)?;
+        self.read = 0;
+        Ok(length)
+    }
+
+    fn read_input(&mut self, buffer: &mut [u8]) -> Result<usize, Failure<InputFault>> {
+        if self.call().is_err() {
+            return Err(Failure::OutOfMemory);
+        }
+        let Some(at) = self.find(self.input.as_str()) else {
+            return Err(Failure::Fault(InputFault::NotFound));
+        };
+        let Some(file) = self.files.get(at) else {
+            return Err(Failure::Fault(InputFault::NotFound));
+        };
+        let rest = file.bytes.len().saturating_sub(self.read);
+        let count = rest.min(PIECE).min(buffer.len());
+        for index in 0..count {
+            buffer[index] = file.bytes.get(self.read + index).copied().unwrap_or(0);
+        }
+        self.read += count;
+        Ok(count)
+    }
+}
