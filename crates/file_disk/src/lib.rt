@@ -15,6 +15,8 @@ mod resolving;
 mod saving;
 mod system;
 mod target;
+#[cfg(test)]
+mod tests;
 
 pub use device::Device;
 pub use disk::Disk;
