@@ -67,8 +67,8 @@ impl<D: Device + Drop> Host for Disk<D> {
         let Some(device) = self.device.take() else {
             return Err(PairFault::OutOfMemory);
         };
-        let (device, answer) = save_both(self.alloc, device, undo_path, undo, path, text);
-        self.device = Some(device);
+        let (used, answer) = save_both(self.alloc, device, undo_path, undo, path, text);
+        self.device = Some(used);
         answer
     }
 }

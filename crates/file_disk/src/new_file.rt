@@ -98,7 +98,8 @@ impl<D: Device, K: Before> Write for InPlace<D, K> {
     ghost contents = { λ file. None };
 
     fn write(&mut self, bytes: &[u8]) -> io::Result<usize> {
-        self.device.append(bytes)
+        let device = &mut self.device;
+        device.append(bytes)
     }
 
     fn flush(&mut self) -> io::Result<()> {
