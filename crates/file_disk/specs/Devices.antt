@@ -81,6 +81,11 @@ abbrev pub grown : Option (List ℕ) → List ℕ → World → World
 grown None bytes world = world
 grown (Some path) bytes world = with_file path (Ok (bytes_in (held_at world path) ++ bytes)) world
 
+-- whether the open file has bytes that are not synced, after more are appended: one that doesn't store has none
+abbrev pub dirty_after : Option (List ℕ) → Bool → Bool
+dirty_after None dirty = dirty
+dirty_after (Some path) dirty = true
+
 -- the file at one path, at another one
 abbrev pub moved : List ℕ → List ℕ → World → World
 moved from to world = with_file to (held_at world from) (without_file from world)

@@ -9,12 +9,12 @@ use std::io;
 /// What a system does to files: each method is one call of it. One file at a time is open for writing, and one for
 /// reading.
 pub trait Device {
-    ghost use Rattle.std.specs.Prelude.{◌≡◌, ◌<◌, ◌≤◌, List, ℕ, [], Option, Some, None, Ok, take, length, IfOk, IfErr, OnOk, OnErr};
+    ghost use Rattle.std.specs.Prelude.{◌≡◌, ◌<◌, ◌≤◌, List, ℕ, [], Option, Some, None, Bool, false, Ok, take, length, IfOk, IfErr, OnOk, OnErr};
     ghost use Rattle.std.specs.Option.{option_map};
     ghost use Rattle.std.specs.Io.{WritesAtMost};
     ghost use Rattle.file_host.specs.World.{World, with_file, without_file};
     ghost use Rattle.file_host.specs.Saving.{ReadFails};
-    ghost use Rattle.file_disk.specs.Devices.{Leads, IsNew, IsDirect, IsOpen, grown, moved, linked};
+    ghost use Rattle.file_disk.specs.Devices.{Leads, IsNew, IsDirect, IsOpen, dirty_after, grown, moved, linked};
     ghost use Rattle.file_disk.specs.Inputs.{Unread, Opens, ReadsOn, IsAllRead, StopsReading};
 
     // The world, or None where nothing is known of it.
@@ -22,6 +22,9 @@ pub trait Device {
 
     // The path of the new file that is open for writing, or None for a file that doesn't store.
     ghost output: { Self → Option (List ℕ) };
+
+    // Whether bytes were written to that file since it was synced last.
+    ghost is_dirty: { Self → Bool };
 
     // What is still to be read of the file that is open for reading, or None where that isn't known.
     ghost unread: { Self → Option Unread };
@@ -40,52 +43,63 @@ pub trait Device {
         ensures free { OnOk result (IsNew (world self.old) path.now) }
         ensures open { OnOk result (IsOpen (world self.new) (output self.new) (Some path.now)) }
         ensures made { OnOk result (world self.new ≡ option_map (with_file path.now (Ok [])) (world self.old)) }
-        ensures stays { OnErr result (world self.new ≡ world self.old) };
+        ensures stays { OnErr result (world self.new ≡ world self.old) }
+        ensures clean { OnOk result (is_dirty self.new ≡ false) }
+        ensures kept { OnErr result (is_dirty self.new ≡ is_dirty self.old) };
 
     /// Opens a pipe, a device or a descriptor for writing. Fails for a file that stores.
     fn open_in_place(&mut self, path: &str) -> io::Result<()>
-        ensures open { OnOk result (IsOpen (world self.new) (output self.new) None) }
-        ensures stays { world self.new ≡ world self.old };
+        ensures open { OnOk result (output self.new ≡ None) }
+        ensures stays { world self.new ≡ world self.old }
+        ensures clean { OnOk result (is_dirty self.new ≡ false) };
 
     /// Appends bytes, or the first of them, to the open file, and returns how many.
     fn append(&mut self, bytes: &[u8]) -> io::Result<usize>
         ensures bound { WritesAtMost result bytes.now }
         ensures grown { IfOk result (λ n. world self.new ≡ option_map (grown (output self.old) (take n bytes.now)) (world self.old)) }
         ensures stays { OnErr result (world self.new ≡ world self.old) }
-        ensures open { output self.new ≡ output self.old };
+        ensures open { output self.new ≡ output self.old }
+        ensures dirty { is_dirty self.new ≡ dirty_after (output self.old) (is_dirty self.old) };
 
     /// Syncs the open file.
     fn sync(&mut self) -> io::Result<()>
-        ensures { world self.new ≡ world self.old };
+        ensures stays { world self.new ≡ world self.old }
+        ensures clean { OnOk result (is_dirty self.new ≡ false) };
 
     /// Gives the open file, which is at `new_path`, the group, owner and permissions of another file, as far as the
     /// system allows. Returns whether both have one owner.
     fn keep_access(&mut self, path: &str, new_path: &str) -> bool
         ensures { world self.new ≡ world self.old };
 
-    /// Moves a file to another path, in place of the file that is there.
+    /// Moves a file to another path, in place of the file that is there. The open file must be synced: after a crash, a
+    /// file that was moved before it was synced may hold anything.
     fn rename(&mut self, from: &str, to: &str) -> io::Result<()>
         requires from { IsDirect (world self.old) from.now }
         requires to { IsDirect (world self.old) to.now }
+        requires clean { is_dirty self.old ≡ false }
         ensures moved { OnOk result (world self.new ≡ option_map (moved from.now to.now) (world self.old)) }
-        ensures stays { OnErr result (world self.new ≡ world self.old) };
+        ensures stays { OnErr result (world self.new ≡ world self.old) }
+        ensures kept { is_dirty self.new ≡ is_dirty self.old };
 
     /// Links a file to a further path, where nothing is.
     fn link(&mut self, from: &str, to: &str) -> io::Result<()>
         requires { IsDirect (world self.old) from.now }
         ensures free { OnOk result (IsNew (world self.old) to.now) }
         ensures linked { OnOk result (world self.new ≡ option_map (linked from.now to.now) (world self.old)) }
-        ensures stays { OnErr result (world self.new ≡ world self.old) };
+        ensures stays { OnErr result (world self.new ≡ world self.old) }
+        ensures kept { is_dirty self.new ≡ is_dirty self.old };
 
     /// Removes a file.
     fn remove(&mut self, path: &str) -> io::Result<()>
         requires { IsDirect (world self.old) path.now }
         ensures removed { OnOk result (world self.new ≡ option_map (without_file path.now) (world self.old)) }
-        ensures stays { OnErr result (world self.new ≡ world self.old) };
+        ensures stays { OnErr result (world self.new ≡ world self.old) }
+        ensures kept { is_dirty self.new ≡ is_dirty self.old };
 
     /// Syncs the folder of a file, if it can be opened.
     fn sync_folder(&mut self, path: &str)
-        ensures { world self.new ≡ world self.old };
+        ensures stays { world self.new ≡ world self.old }
+        ensures kept { is_dirty self.new ≡ is_dirty self.old };
 
     /// Opens a file for reading, and returns its expected length.
     fn open_input(&mut self, path: &str) -> Result<u64, Failure<InputFault>>

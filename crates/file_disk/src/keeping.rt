@@ -1,5 +1,5 @@
 //! An old file that is kept at another path while a new one takes its place.
-ghost use Rattle.std.specs.Prelude.{◌≡◌, true, OnOk, OnErr, IfOk, IfErr, string_bytes};
+ghost use Rattle.std.specs.Prelude.{◌≡◌, true, false, OnOk, OnErr, IfOk, IfErr, string_bytes};
 ghost use Rattle.std.specs.Option.{option_map};
 ghost use Rattle.file_disk.specs.Devices.{IsDirect, IsNew, IsTarget, IsTemporary, kept_as, kept_moved, linked, moved};
 ghost use Rattle.file_disk.specs.Frames.{IfKnown, Litters};
@@ -28,6 +28,7 @@ pub(crate) fn put_and_keep<D: Device>(
     old_path: &mut String,
     is_owned: bool,
 ) -> io::Result<()>
+    requires clean { D.is_dirty device.old ≡ false }
     requires target { IsTarget (D.world device.old) file.now }
     requires direct { IsDirect (D.world device.old) new_path.now }
     requires named { IsTemporary new_path.now }
@@ -36,6 +37,7 @@ pub(crate) fn put_and_keep<D: Device>(
     ensures named { OnOk result (file.now.is_there ≡ true → IsTemporary (string_bytes old_path.new)) }
     ensures free { OnOk result (file.now.is_there ≡ true → IsNew (D.world device.old) (string_bytes old_path.new)) }
     ensures failed { OnErr result (IfKnown (UndoFails (string_bytes file.now.path)) (D.world device.old) (D.world device.new)) }
+    ensures clean { D.is_dirty device.new ≡ false }
 {
     if !file.is_there {
         return put_in_place(device, new_path, file.path.as_str());
@@ -61,12 +63,14 @@ fn keep_old<D: Device>(
     old_path: &mut String,
     is_owned: bool,
 ) -> io::Result<bool>
+    requires clean { D.is_dirty device.old ≡ false }
     requires target { IsTarget (D.world device.old) file.now }
     requires there { file.now.is_there ≡ true }
     ensures kept { IfOk result (λ is_linked. D.world device.new ≡ option_map (kept_as is_linked (string_bytes file.now.path) (string_bytes old_path.new)) (D.world device.old)) }
     ensures named { OnOk result (IsTemporary (string_bytes old_path.new)) }
     ensures free { OnOk result (IsNew (D.world device.old) (string_bytes old_path.new)) }
     ensures failed { OnErr result (IfKnown Litters (D.world device.old) (D.world device.new)) }
+    ensures clean { D.is_dirty device.new ≡ false }
 {
     for number in 1..=NUMBERS {
         set_name(old_path, file.path.as_str(), "/sfbank-old-", number)?;
@@ -87,12 +91,14 @@ fn keep_as<D: Device>(
     old_path: &str,
     is_owned: bool,
 ) -> Result<bool, KeepFault>
+    requires clean { D.is_dirty device.old ≡ false }
     requires target { IsTarget (D.world device.old) file.now }
     requires there { file.now.is_there ≡ true }
     requires named { IsTemporary old_path.now }
     ensures kept { IfOk result (λ is_linked. D.world device.new ≡ option_map (kept_as is_linked (string_bytes file.now.path) old_path.now) (D.world device.old)) }
     ensures free { OnOk result (IsNew (D.world device.old) old_path.now) }
     ensures failed { IfErr result (KeepFails (D.world device.old) (D.world device.new)) }
+    ensures clean { D.is_dirty device.new ≡ false }
 {
     if is_owned {
         match device.link(file.path.as_str(), old_path) {
@@ -109,12 +115,14 @@ fn keep_as<D: Device>(
 
 // Moves an old file to a path where nothing is.
 fn move_to<D: Device>(device: &mut D, file: &StoredFile, old_path: &str) -> Result<(), KeepFault>
+    requires clean { D.is_dirty device.old ≡ false }
     requires target { IsTarget (D.world device.old) file.now }
     requires there { file.now.is_there ≡ true }
     requires named { IsTemporary old_path.now }
     ensures moved { OnOk result (D.world device.new ≡ option_map (moved (string_bytes file.now.path) old_path.now) (D.world device.old)) }
     ensures free { OnOk result (IsNew (D.world device.old) old_path.now) }
     ensures failed { IfErr result (KeepFails (D.world device.old) (D.world device.new)) }
+    ensures clean { D.is_dirty device.new ≡ false }
 {
     match device.create_new(old_path, true) {
         Ok(()) => {}

@@ -1,5 +1,5 @@
 //! A device in memory, for tests, which fails at a call that the test picks.
-ghost use Rattle.std.specs.Prelude.{None};
+ghost use Rattle.std.specs.Prelude.{None, false};
 
 use crate::device::Device;
 use crate::target::{StoredFile, Target};
@@ -114,6 +114,8 @@ impl Device for MemoryDevice {
     ghost world = { λ device. None };
 
     ghost output = { λ device. None };
+
+    ghost is_dirty = { λ device. false };
 
     ghost unread = { λ device. None };
 

@@ -1,5 +1,5 @@
 //! Temporary files, by their numbered names in the folder of the file that is written.
-ghost use Rattle.std.specs.Prelude.{◌≡◌, ◌++◌, [], Ok, Some, OnOk, OnErr, string_bytes};
+ghost use Rattle.std.specs.Prelude.{◌≡◌, ◌++◌, [], Ok, Some, false, OnOk, OnErr, string_bytes};
 ghost use Rattle.std.specs.Option.{option_map};
 ghost use Rattle.file_host.specs.World.{with_file};
 ghost use Rattle.file_disk.specs.Devices.{IsNew, IsOpen, IsTemporary};
@@ -59,6 +59,7 @@ pub(crate) fn create_beside<D: Device>(
     ensures open { OnOk result (IsOpen (D.world device.new) (D.output device.new) (Some (string_bytes name.new))) }
     ensures made { OnOk result (D.world device.new ≡ option_map (with_file (string_bytes name.new) (Ok [])) (D.world device.old)) }
     ensures stays { OnErr result (D.world device.new ≡ D.world device.old) }
+    ensures clean { OnOk result (D.is_dirty device.new ≡ false) }
 {
     for number in 1..=NUMBERS {
         set_name(name, path, "/sfbank-new-", number)?;

@@ -1,5 +1,5 @@
 //! A new file that is written, and a pipe or a device that is written in place.
-ghost use Rattle.std.specs.Prelude.{◌≡◌, Ok, Some, None, OnOk, string_bytes};
+ghost use Rattle.std.specs.Prelude.{◌≡◌, Ok, Some, None, false, OnOk, string_bytes};
 ghost use Rattle.std.specs.Option.{option_map};
 ghost use Rattle.std.proofs.Props.{props};
 ghost use Rattle.base_outputs.specs.Writing.{Delivers};
@@ -90,7 +90,8 @@ fn put_whole<T: Text, W: Write>(text: &T, out: &mut W) -> Result<u64, WriteFault
 struct InPlace<D: Device, K: Before> {
     device: D,
     of: PhantomData<K>,
-    ghost open: { IsOpen (D.world device) (D.output device) None } by { Prim.hlevel props },
+    ghost open: { D.output device ≡ None } by { Prim.hlevel props },
+    ghost clean: { D.is_dirty device ≡ false } by { Prim.hlevel props },
     ghost stays: { D.world device ≡ K.before } by { Prim.hlevel props },
 }
 
@@ -112,9 +113,11 @@ pub(crate) fn write_in_place<D: Device, T: Text, K: Before>(
     device: D,
     text: &T,
 ) -> (D, Result<u64, WriteFault>)
-    requires open { IsOpen (D.world device) (D.output device) None }
+    requires open { D.output device ≡ None }
     requires before { D.world device ≡ K.before }
-    ensures { D.world result.0 ≡ K.before }
+    requires clean { D.is_dirty device ≡ false }
+    ensures stays { D.world result.0 ≡ K.before }
+    ensures clean { D.is_dirty result.0 ≡ false }
 {
     let mut file = InPlace::<D, K> {
         device,

@@ -1,5 +1,5 @@
 //! An undo script and the text that it undoes, saved together.
-ghost use Rattle.std.specs.Prelude.{◌≡◌, true, Ok, OnOk, OnErr, IfErr, string_bytes};
+ghost use Rattle.std.specs.Prelude.{◌≡◌, true, false, Ok, OnOk, OnErr, IfErr, string_bytes};
 ghost use Rattle.std.specs.Option.{option_map};
 ghost use Rattle.file_host.specs.World.{with_file, with_text, with_pair};
 ghost use Rattle.file_host.specs.Saving.{PairFails, SpoilsPair};
@@ -257,6 +257,7 @@ fn put_both<D: Device>(
     names: &mut Names,
     is_owned: bool,
 ) -> Result<(), Which>
+    requires clean { D.is_dirty device.old ≡ false }
     requires undo { IsTarget (D.world device.old) undo_file.now }
     requires text { IsTarget (D.world device.old) file.now }
     requires new_undo { IsTemporary (string_bytes names.old.new_undo) }
@@ -294,6 +295,7 @@ fn put_text<D: Device>(
     file: &StoredFile,
     names: &Names,
 ) -> Result<(), Which>
+    requires clean { D.is_dirty device.old ≡ false }
     requires undo { IsDirect (D.world device.old) (string_bytes undo_file.now.path) }
     requires text { IsDirect (D.world device.old) (string_bytes file.now.path) }
     requires new { IsDirect (D.world device.old) (string_bytes names.now.new_text) }
@@ -326,6 +328,7 @@ fn drop_old<D: Device>(device: &mut D, file: &StoredFile, old_path: &str) -> Res
 
 // Puts an old file back that was kept, or removes the new one where none was.
 fn put_back<D: Device>(device: &mut D, file: &StoredFile, old_path: &str)
+    requires clean { D.is_dirty device.old ≡ false }
     requires direct { IsDirect (D.world device.old) (string_bytes file.now.path) }
     requires kept { file.now.is_there ≡ true → IsDirect (D.world device.old) old_path.now }
     ensures { MayPutBack file.now.is_there (string_bytes file.now.path) old_path.now (D.world device.old) (D.world device.new) }

@@ -1,5 +1,5 @@
 //! A text that is saved by way of a new file, or written in place.
-ghost use Rattle.std.specs.Prelude.{◌≡◌, [], Ok, Some, OnOk, OnErr, IfErr, string_bytes};
+ghost use Rattle.std.specs.Prelude.{◌≡◌, [], Ok, Some, false, OnOk, OnErr, IfErr, string_bytes};
 ghost use Rattle.std.specs.Option.{option_map};
 ghost use Rattle.file_host.specs.World.{with_file, with_text};
 ghost use Rattle.file_host.specs.Saving.{SaveFails};
@@ -87,6 +87,7 @@ pub(crate) fn prepare<D: Device, T: Text>(
 ) -> (D, Result<Written, WriteFault>)
     ensures made { OnOk result.1 (Makes (D.world device) (D.world result.0) (string_bytes new_path.new) (T.bytes text.now)) }
     ensures failed { OnErr result.1 (IfKnown Litters (D.world device) (D.world result.0)) }
+    ensures clean { OnOk result.1 (D.is_dirty result.0 ≡ false) }
 {
     let Ok(()) = open_new(&mut device, file, new_path) else {
         return (device, Err(WriteFault { written: 0 }));
@@ -114,6 +115,7 @@ fn open_new<D: Device>(device: &mut D, file: &StoredFile, new_path: &mut String)
     ensures open { OnOk result (IsOpen (D.world device.new) (D.output device.new) (Some (string_bytes new_path.new))) }
     ensures made { OnOk result (D.world device.new ≡ option_map (with_file (string_bytes new_path.new) (Ok [])) (D.world device.old)) }
     ensures stays { OnErr result (D.world device.new ≡ D.world device.old) }
+    ensures clean { OnOk result (D.is_dirty device.new ≡ false) }
 {
     if file.is_there {
         device.check_writable(file.path.as_str())?;
@@ -123,7 +125,8 @@ fn open_new<D: Device>(device: &mut D, file: &StoredFile, new_path: &mut String)
 
 // Gives the new file, which is written, the access of the old one, and syncs it. Returns whether both have one owner.
 fn settle<D: Device>(device: &mut D, file: &StoredFile, new_path: &str) -> io::Result<bool>
-    ensures { D.world device.new ≡ D.world device.old }
+    ensures stays { D.world device.new ≡ D.world device.old }
+    ensures clean { OnOk result (D.is_dirty device.new ≡ false) }
 {
     let is_owned = file.is_there && device.keep_access(file.path.as_str(), new_path);
     device.sync()?;
@@ -134,8 +137,10 @@ fn settle<D: Device>(device: &mut D, file: &StoredFile, new_path: &str) -> io::R
 pub(crate) fn put_in_place<D: Device>(device: &mut D, new_path: &str, path: &str) -> io::Result<()>
     requires from { IsDirect (D.world device.old) new_path.now }
     requires to { IsDirect (D.world device.old) path.now }
+    requires clean { D.is_dirty device.old ≡ false }
     ensures moved { OnOk result (D.world device.new ≡ option_map (moved new_path.now path.now) (D.world device.old)) }
     ensures stays { OnErr result (D.world device.new ≡ D.world device.old) }
+    ensures clean { D.is_dirty device.new ≡ false }
 {
     device.rename(new_path, path)?;
     device.sync_folder(path);
@@ -145,7 +150,8 @@ pub(crate) fn put_in_place<D: Device>(device: &mut D, new_path: &str, path: &str
 /// Removes a file, if it can be.
 pub(crate) fn remove<D: Device>(device: &mut D, path: &str)
     requires { IsDirect (D.world device.old) path.now }
-    ensures { MayLose (D.world device.old) (D.world device.new) path.now }
+    ensures lost { MayLose (D.world device.old) (D.world device.new) path.now }
+    ensures kept { D.is_dirty device.new ≡ D.is_dirty device.old }
 {
     let _ = device.remove(path);
 }
@@ -156,7 +162,8 @@ pub(crate) fn send<D: Device, T: Text>(
     path: &str,
     text: &T,
 ) -> (D, Result<u64, WriteFault>)
-    ensures { D.world result.0 ≡ D.world device }
+    ensures stays { D.world result.0 ≡ D.world device }
+    ensures clean { OnOk result.1 (D.is_dirty result.0 ≡ false) }
 {
     match device.open_in_place(path) {
         Ok(()) => write_in_place::<D, T, Brand>(device, text),

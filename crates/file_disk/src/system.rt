@@ -1,5 +1,5 @@
 //! The device of a real system.
-ghost use Rattle.std.specs.Prelude.{None};
+ghost use Rattle.std.specs.Prelude.{None, false};
 
 use crate::descriptor::Descriptor;
 use crate::device::Device;
@@ -45,6 +45,8 @@ impl<R: Files + AllocGlobal> Device for System<'_, R> {
     ghost world = { λ system. None };
 
     ghost output = { λ system. None };
+
+    ghost is_dirty = { λ system. false };
 
     ghost unread = { λ system. None };
 

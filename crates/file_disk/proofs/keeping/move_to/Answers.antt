@@ -11,4 +11,4 @@ returns-in-Ok-rename-clause-moved g c =
 pub returns-in-Err-rename-clause-failed : goal.returns-in-Err-rename-clause-failed
 returns-in-Err-rename-clause-failed g c =
     move_failed _ (g.D.Device.world c.rename.new.self) _ c.args.old_path.now c.in-Ok.ensures.free c.requires.named
-    (c.in-Err-rename.ensures.stays ∙ c.in-Ok.ensures.made) c.remove.ensures
+    (c.in-Err-rename.ensures.stays ∙ c.in-Ok.ensures.made) c.remove.ensures.lost

@@ -18,7 +18,7 @@ returns-in-Ok-clause-put g c =
 pub returns-then-is_linked-clause-failed : goal.returns-then-is_linked-clause-failed
 returns-then-is_linked-clause-failed g c =
     let kept = c.in_ok-is_linked.ensures in
-    let lost = rw (c.as_str-then-is_linked.ensures.value, c.in-Err.ensures.stays) at c.remove.ensures in
+    let lost = rw (c.as_str-then-is_linked.ensures.value, c.in-Err.ensures.stays) at c.remove.ensures.lost in
     linked_undone _ (g.D.Device.world c.keep_old.new.device) _ c.in_ok-is_linked.is_linked _ _ c.if-is_linked.true
     (keeps_of _ c.args.file.now _ c.requires.target (search rules) kept.free kept.named) kept.kept lost
 

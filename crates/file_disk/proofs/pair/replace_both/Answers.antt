@@ -5,7 +5,7 @@ pub returns-in-Err-answer-clause-failed : goal.returns-in-Err-answer-clause-fail
 returns-in-Err-answer-clause-failed g c =
     let made = rw c.in-Ok.is at c.prepare-device.ensures.made in
     let failed = rw c.in-Err-answer.is at c.prepare-device-2.ensures.failed in
-    let lost = rw c.as_str.ensures.value at c.remove.ensures in
+    let lost = rw c.as_str.ensures.value at c.remove.ensures.lost in
     second_failed _ (g.D.Device.world c.prepare-device.result.0) (g.D.Device.world c.prepare-device-2.result.0) _
     c.args.undo_file.now c.args.file.now _ _ _ c.requires.undo c.requires.text made failed lost
 
