@@ -21,5 +21,6 @@ mod tests;
 pub use device::Device;
 pub use disk::Disk;
 pub use memory::{Behaviour, MemoryDevice};
+pub use resolving::is_standard_output;
 pub use system::System;
 pub use target::{StoredFile, Target};

@@ -9,6 +9,9 @@ use std::rt::Files;
 /// The most links that are followed; Linux has the same limit.
 const MOST_LINKS: usize = 40;
 
+/// The descriptor number of the standard output.
+const STANDARD_OUTPUT: i32 = 1;
+
 /// The folder of the process's open descriptors.
 const OWN_DESCRIPTORS: &str = "/proc/self/fd";
 
@@ -123,4 +126,10 @@ fn name_of(path: &str) -> &str {
 pub(crate) fn is_temporary(path: &str) -> bool {
     let name = name_of(path);
     name.starts_with("sfbank-new-") || name.starts_with("sfbank-old-")
+}
+
+/// Whether a path leads to the standard output. That is written as a stream, so that later writes follow in order: a
+/// descriptor that is opened again by its path has a position of its own.
+pub fn is_standard_output<R: Files + AllocGlobal>(rt: &R, path: &str) -> Result<bool, AllocError> {
+    Ok(matches!(resolve(rt, path)?, Resolved::Descriptor(STANDARD_OUTPUT)))
 }
