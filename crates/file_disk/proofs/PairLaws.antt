@@ -10,7 +10,7 @@ use Rattle.file_host.specs.Saving.{IsMovedAway}
 use Rattle.file_disk.specs.declared.target.StoredFile.{StoredFile}
 use Rattle.file_disk.specs.Devices.{IsNew, IsDirect, IsTarget, IsTemporary, moved, kept_moved}
 use Rattle.file_disk.specs.Frames.{IfKnown, IsFileOrLasting, MayLose}
-use Rattle.file_disk.specs.Pairs.{AreApart, BothFail, IsThere, MayPutBack, TakesBack, TextFails, UndoFails, put_back, puts_both, text_put}
+use Rattle.file_disk.specs.Pairs.{AreApart, BothFail, IsThere, MayPutBack, PutsBack, TextFails, UndoFails, put_back, puts_both, text_put}
 use Rattle.file_disk.proofs.WorldLaws.{put_beside, overwrites, swaps, keeps, holds, holds_beside, apart_by}
 use Rattle.file_disk.proofs.KeepLaws.{off_new, none_stays, none_lost}
 
@@ -49,7 +49,7 @@ direct_after (Some w) now path asked (inr gone) d = subst (λ (x : Option World)
 
 -- ---- the text that could not be put in place
 
-back_self : (w : World) (is_there : Bool) (path kept new_text : List ℕ) → TakesBack is_there path kept new_text w w
+back_self : (w : World) (is_there : Bool) (path kept new_text : List ℕ) → PutsBack is_there path kept new_text w w
 back_self w is_there path kept new_text = record {
   places = refl;
   links = refl;
@@ -59,7 +59,7 @@ back_self w is_there path kept new_text = record {
 }
 
 back_put : (w : World) (is_there : Bool) (path kept new_text : List ℕ)
-    → TakesBack is_there path kept new_text w (put_back is_there path kept w)
+    → PutsBack is_there path kept new_text w (put_back is_there path kept w)
 back_put w true path kept new_text = record {
   places = refl;
   links = refl;
@@ -82,7 +82,7 @@ or_else f g (inl a) = inl (f a)
 or_else f g (inr b) = inr (g b)
 
 back_lost : (w m n : World) (is_there : Bool) (path kept new_text : List ℕ) → w.place new_text ≢ w.place path
-    → TakesBack is_there path kept new_text w m → Loses new_text m n → TakesBack is_there path kept new_text w n
+    → PutsBack is_there path kept new_text w m → Loses new_text m n → PutsBack is_there path kept new_text w n
 back_lost w m n is_there path kept new_text apart t l =
     let same : held_at n path ≡ held_at m path =
     ap (λ (p : List ℕ → List ℕ). n.files (p path)) l.places
@@ -99,30 +99,30 @@ back_lost w m n is_there path kept new_text apart t l =
     }
 
 back_by : (w : World) (mid : Option World) (is_there : Bool) (path kept new_text : List ℕ)
-    → MayPutBack is_there path kept (Some w) mid → IfKnown (TakesBack is_there path kept new_text) (Some w) mid
+    → MayPutBack is_there path kept (Some w) mid → IfKnown (PutsBack is_there path kept new_text) (Some w) mid
 back_by w mid is_there path kept new_text (inl same) =
-    subst (λ (x : Option World). IfKnown (TakesBack is_there path kept new_text) (Some w) x) (sym same)
+    subst (λ (x : Option World). IfKnown (PutsBack is_there path kept new_text) (Some w) x) (sym same)
     (back_self w is_there path kept new_text)
 back_by w mid is_there path kept new_text (inr back) =
-    subst (λ (x : Option World). IfKnown (TakesBack is_there path kept new_text) (Some w) x) (sym back)
+    subst (λ (x : Option World). IfKnown (PutsBack is_there path kept new_text) (Some w) x) (sym back)
     (back_put w is_there path kept new_text)
 
 back_then_known : (w m : World) (now : Option World) (is_there : Bool) (path kept new_text : List ℕ)
-    → w.place new_text ≢ w.place path → TakesBack is_there path kept new_text w m
-    → IfKnown (Loses new_text) (Some m) now → IfKnown (TakesBack is_there path kept new_text) (Some w) now
+    → w.place new_text ≢ w.place path → PutsBack is_there path kept new_text w m
+    → IfKnown (Loses new_text) (Some m) now → IfKnown (PutsBack is_there path kept new_text) (Some w) now
 back_then_known w m None is_there path kept new_text apart t l = absurd l
 back_then_known w m (Some n) is_there path kept new_text apart t l =
     back_lost w m n is_there path kept new_text apart t l
 
 back_then : (w : World) (mid now : Option World) (is_there : Bool) (path kept new_text : List ℕ)
-    → w.place new_text ≢ w.place path → IfKnown (TakesBack is_there path kept new_text) (Some w) mid
-    → MayLose mid now new_text → IfKnown (TakesBack is_there path kept new_text) (Some w) now
+    → w.place new_text ≢ w.place path → IfKnown (PutsBack is_there path kept new_text) (Some w) mid
+    → MayLose mid now new_text → IfKnown (PutsBack is_there path kept new_text) (Some w) now
 back_then w None now is_there path kept new_text apart t lost = absurd t
 back_then w (Some m) now is_there path kept new_text apart t lost =
     back_then_known w m now is_there path kept new_text apart t (loses_of m now new_text lost)
 
 as_text_fails : (w : World) (now : Option World) (is_there : Bool) (undo_path kept path new_text : List ℕ)
-    → IfKnown (TakesBack is_there undo_path kept new_text) (Some w) now
+    → IfKnown (PutsBack is_there undo_path kept new_text) (Some w) now
     → IfKnown (TextFails is_there undo_path kept path new_text) (Some w) now
 as_text_fails w None is_there undo_path kept path new_text t = absurd t
 as_text_fails w (Some n) is_there undo_path kept path new_text t = inr t
@@ -307,7 +307,7 @@ back_here w m n false undo_path new_undo path new_text kept r k e = e ∙ sym (r
 -- the old undo script is back, or the new one stays
 put_back_fails : (w m n : World) (is_there : Bool) (undo_path new_undo path new_text kept : List ℕ)
     → Ready w is_there undo_path new_undo path new_text kept → Mid w m is_there undo_path new_undo kept
-    → TakesBack is_there undo_path kept new_text m n → BothFail undo_path new_undo path new_text w n
+    → PutsBack is_there undo_path kept new_text m n → BothFail undo_path new_undo path new_text w n
 put_back_fails w m n is_there undo_path new_undo path new_text kept r k t =
     let places = t.places ∙ k.places in
     let here : (held_at n undo_path ≡ held_at w undo_path) ⊎ (held_at n undo_path ≡ held_at w new_undo) =

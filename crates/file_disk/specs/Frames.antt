@@ -65,7 +65,7 @@ pub record Makes (before now : Option World) (path text : List ℕ) : Type 0 whe
 abbrev pub MayLose : Option World → Option World → List ℕ → Type 0
 MayLose before now path = (now ≡ before) ⊎ (now ≡ option_map (without_file path) before)
 
--- this holds after a fault that isn't out of memory, which there is none of
+-- a fault after which this holds; out of memory is none
 abbrev pub IfFault : Type 0 → Failure WriteFault → Type 0
 IfFault P (Fault fault) = P
 IfFault P OutOfMemory = ⊥

@@ -49,7 +49,7 @@ abbrev pub GivesAll : Option Unread → Result (List ℕ) InputFault → Type 0
 GivesAll None result = ⊤
 GivesAll (Some unread) result = given unread ≡ result
 
--- reading to the end failed as it must, or for want of memory
+-- reading to the end failed as it must, or an allocation failed
 abbrev pub FailsAs : Option Unread → Failure InputFault → Type 0
 FailsAs unread (Fault fault) = GivesAll unread (Err fault)
 FailsAs unread OutOfMemory = ⊤

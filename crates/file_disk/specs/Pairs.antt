@@ -53,7 +53,7 @@ abbrev pub puts_both : List ℕ → List ℕ → List ℕ → List ℕ → World
 puts_both undo_path new_undo path new_text world = moved new_text path (moved new_undo undo_path world)
 
 -- The file of the undo script, whose old one was kept where one was, is as it was put, or the old one is back.
-pub record TakesBack (is_there : Bool) (path kept new_text : List ℕ) (old new : World) : Type 0 where
+pub record PutsBack (is_there : Bool) (path kept new_text : List ℕ) (old new : World) : Type 0 where
   pub places : new.place ≡ old.place
   pub links : new.is_link ≡ old.is_link
   pub stores : new.stores ≡ old.stores
@@ -65,7 +65,7 @@ pub record TakesBack (is_there : Bool) (path kept new_text : List ℕ) (old new 
 -- The text could not be put in place, or the old undo script could not be removed after it was.
 abbrev pub TextFails : Bool → List ℕ → List ℕ → List ℕ → List ℕ → World → World → Type 0
 TextFails is_there undo_path kept path new_text old new =
-    (new ≡ moved new_text path old) ⊎ TakesBack is_there undo_path kept new_text old new
+    (new ≡ moved new_text path old) ⊎ PutsBack is_there undo_path kept new_text old new
 
 -- Two new files could not both be put in place.
 pub record BothFail (undo_path new_undo path new_text : List ℕ) (old new : World) : Type 0 where

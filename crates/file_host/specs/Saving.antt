@@ -9,7 +9,7 @@ use Rattle.file_host.specs.declared.faults.PairFault.{PairFault}
 use Rattle.file_host.specs.declared.faults.PairFault.TheVariants as pair
 use Rattle.file_host.specs.World.{World, Gives, held_at, stores_at}
 
--- A read failed with the fault that the file at this path has, or for want of memory.
+-- A read failed with the fault that the file at this path has, or since an allocation failed.
 abbrev pub ReadFails : Option World → List ℕ → Failure InputFault → Type 0
 ReadFails world path (Fault fault) = Gives world path (Err fault)
 ReadFails world path OutOfMemory = ⊤
