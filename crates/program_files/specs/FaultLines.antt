@@ -15,8 +15,8 @@ use Rattle.edit_forms.specs.CauseNames as causes
 use Rattle.edit_script.specs.RefusalText.{refusal_text}
 use Rattle.base_outputs.specs.declared.output_fault.OutputFault.{OutputFault}
 use Rattle.base_outputs.specs.OutputFaults as rejected
-use Rattle.program_files.specs.declared.input_fault.InputFault.{InputFault}
-use Rattle.program_files.specs.InputFaults.{reason_of}
+use Rattle.file_host.specs.declared.input_fault.InputFault.{InputFault}
+use Rattle.file_host.specs.InputFaults.{reason_of}
 use Rattle.program_files.specs.declared.run_fault.RunFault.{RunFault}
 use Rattle.program_files.specs.declared.run_fault.RunFault.TheVariants.{Read, ReadFirst, ReadSecond, Script}
 use Rattle.program_files.specs.declared.run_fault.RunFault.TheVariants.{Refused, NotNeutral, OtherVersion, Notes}

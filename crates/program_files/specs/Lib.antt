@@ -1,6 +1,5 @@
 pub mod Ending
 pub mod FaultLines
-pub mod InputFaults
 pub mod Inputs
 pub mod RunFaults
 pub mod Saving

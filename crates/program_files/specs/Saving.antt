@@ -2,8 +2,8 @@
 use Rattle.std.specs.Prelude.{◌≡◌, ◌+◌, ◌-◌, ◌^◌, ℕ, Result, Ok, Err, min, ⊤, ◌⊎◌}
 use Rattle.program_files.specs.declared.run_fault.RunFault.{RunFault}
 use Rattle.program_files.specs.declared.run_fault.RunFault.TheVariants.{Write}
-use Rattle.program_files.specs.declared.run_fault.Which.{Which}
-use Rattle.program_files.specs.declared.run_fault.Which.TheVariants.{Out, Undo}
+use Rattle.file_host.specs.declared.faults.Which.{Which}
+use Rattle.file_host.specs.declared.faults.Which.TheVariants.{Out, Undo}
 
 -- The count before and after a write: it grows by the bytes accepted, saturating at the largest `u64`.
 abbrev pub CountsWritten : {E : Type 0} → Result ℕ E → ℕ → ℕ → Type 0

@@ -2,9 +2,9 @@
 ghost use Rattle.std.specs.Prelude.{◌≡◌};
 ghost use Rattle.program_files.specs.Ending.{pipe_closed_if};
 
-use crate::input_fault::InputFault;
 use crate::run_fault::RunFault;
 use base_outputs::OutputFault;
+use file_host::InputFault;
 use std::alloc::AllocError;
 
 /// The path reported for the standard output in a fault.

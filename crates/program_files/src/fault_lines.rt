@@ -5,13 +5,13 @@ ghost use Rattle.base_outputs.specs.Writing.{Writes};
 ghost use Rattle.sample_view.specs.Pieces.{joined_bytes};
 ghost use Rattle.program_files.specs.FaultLines.{fault_line, status_of, read_line, first_read_line, second_read_line, read_text, script_line, notes_line, text_line, refused_line, refused_start, not_neutral_line, named_line, recording_line, no_member_line, write_line, file_line, reason_line, shown_reason, file_text, output_line, rejected_line, unexplained_line};
 
-use crate::input_fault::InputFault;
 use crate::run_fault::RunFault;
 use bank_format::ReadFault;
 use base_outputs::{Output, OutputFault, WriteFault};
 use base_texts::Text;
 use edit_refusals::{Cause, Refusal};
 use edit_script::RefusalText;
+use file_host::InputFault;
 use itoa::Buffer;
 use script_notes::NoteFault;
 use script_tokens::ScriptFault;

@@ -3,11 +3,11 @@ ghost use Rattle.std.specs.Prelude.{◌≡◌, ◌≢◌, ◌+◌, ◌<◌, ◌�
 ghost use Rattle.std.specs.Io.KnownBytes.{Consumes, IsAtEnd};
 ghost use Rattle.program_files.specs.Inputs.{most_bytes, ReadsPiece, ReadsAll, ReadsMost};
 ghost use Rattle.sf_base.specs.declared.memory.Failure.TheVariants.{Fault as FaultOf};
-ghost use Rattle.program_files.specs.declared.input_fault.InputFault.TheVariants.{TooLong};
+ghost use Rattle.file_host.specs.declared.input_fault.InputFault.TheVariants.{TooLong};
 
 use crate::fault::Fault;
-use crate::input_fault::InputFault;
 use crate::run_fault::RunFault;
+use file_host::InputFault;
 use sf_base::Failure;
 use sf_base::limits::FILE_LENGTH;
 use std::alloc::{AllocError, Global};

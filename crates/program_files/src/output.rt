@@ -8,9 +8,10 @@ ghost use Rattle.program_files.specs.Saving.{CountsWritten, EndsAs};
 
 use crate::descriptor::Descriptor;
 use crate::replacement::{Replacement, sync_folder};
-use crate::run_fault::{RunFault, Which};
+use crate::run_fault::RunFault;
 use crate::target::{Target, target_of};
 use crate::watched::is_broken_pipe;
+use file_host::Which;
 use std::alloc::AllocError;
 use std::fs::{File, OpenFile, OpenOptions};
 use std::io::{ErrorKind, Write};

@@ -3,7 +3,8 @@ ghost use Rattle.std.specs.Prelude.{Ok};
 ghost use Rattle.program_files.specs.Saving.{BothEnd};
 
 use crate::output::OutputFile;
-use crate::run_fault::{RunFault, Which};
+use crate::run_fault::RunFault;
+use file_host::Which;
 use std::rt::Files;
 
 /// Ends both outputs after their run. Where the bank replaces a file, the undo script is complete and on disk first:

@@ -5,19 +5,13 @@ ghost use Rattle.program_files.specs.RunFaults.{in_run};
 
 use bank_format::ReadFault;
 use edit_refusals::{Cause, Refusal};
+use file_host::Which;
 use script_notes::NoteFault;
 use script_tokens::ScriptFault;
 use sf_base::{Failure, OutOfMemory};
 use std::alloc::AllocFailed;
 use thiserror::Error;
 use wave_file::WaveFault;
-
-/// The text that a write fault is about.
-#[derive(Clone, Copy, Debug, PartialEq, Eq)]
-pub enum Which {
-    Out,
-    Undo,
-}
 
 /// Why a run fails.
 #[derive(Drop, Clone, Copy, Debug, PartialEq, Eq, Error)]

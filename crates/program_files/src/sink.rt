@@ -4,8 +4,9 @@ ghost use Rattle.std.specs.Io.{WritesAtMost};
 ghost use Rattle.std.specs.Io.KnownBytes.{WriteAppends, Keeps};
 
 use crate::output::OutputFile;
-use crate::run_fault::{RunFault, Which};
+use crate::run_fault::RunFault;
 use crate::target::{STANDARD_OUTPUT, Target, target_of};
+use file_host::Which;
 use std::alloc::AllocError;
 use std::io;
 use std::io::Write;

@@ -12,7 +12,7 @@ use Rattle.bank_format.specs.ReadChecks.{fault_of, ReadsAs}
 use Rattle.show_zone_map.specs.Picture.{picture}
 use Rattle.program_files.specs.declared.run_fault.RunFault.{RunFault}
 use Rattle.program_files.specs.declared.run_fault.RunFault.TheVariants as run
-use Rattle.program_files.specs.declared.run_fault.Which.TheVariants.{Out}
+use Rattle.file_host.specs.declared.faults.Which.TheVariants.{Out}
 use Rattle.program_files.specs.RunFaults.{in_run}
 use Rattle.sfbank.specs.Outcome.{after_reading, bank_in}
 use Rattle.sfbank.specs.Written.{IsWritten, RunsOneText}

@@ -22,7 +22,7 @@ use Rattle.show_listing.specs.Listing.{listing}
 use Rattle.show_listing.specs.Details.{detailed_listing}
 use Rattle.program_files.specs.declared.run_fault.RunFault.{RunFault}
 use Rattle.program_files.specs.declared.run_fault.RunFault.TheVariants as run
-use Rattle.program_files.specs.declared.run_fault.Which.TheVariants.{Out}
+use Rattle.file_host.specs.declared.faults.Which.TheVariants.{Out}
 use Rattle.sfbank.specs.Outcome.{after_script, after_reading, bank_in, counts_in, outcome, canon_outcome}
 use Rattle.sfbank.specs.Outcome.{show_outcome, show_details_outcome, without_undo, IsEmptyEdit, IsFixed}
 use Rattle.sfbank.specs.Written.{IsWritten, RunsOneText}

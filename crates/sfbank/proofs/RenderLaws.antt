@@ -24,7 +24,7 @@ use Rattle.mixer.specs.Render.{render, IsRendered}
 use Rattle.wave_file.specs.Wave.{wave, FitsWave}
 use Rattle.program_files.specs.declared.run_fault.RunFault.{RunFault}
 use Rattle.program_files.specs.declared.run_fault.RunFault.TheVariants as run
-use Rattle.program_files.specs.declared.run_fault.Which.TheVariants.{Out}
+use Rattle.file_host.specs.declared.faults.Which.TheVariants.{Out}
 use Rattle.sfbank.specs.Outcome.{Done, after_script, after_reading, bank_in, outcome, canon_outcome, after_notes}
 use Rattle.sfbank.specs.Outcome.{play_outcome, RestoredRendersSame, CanonRendersSame}
 use Rattle.sfbank.specs.Written.{IsWritten, RunsOneText}

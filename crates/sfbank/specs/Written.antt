@@ -3,8 +3,8 @@ use Rattle.std.specs.Prelude.{◌≡◌, ◌≤◌, ℕ, List, length, take, Opt
 use Rattle.std.specs.Io.KnownBytes.{Appends, Keeps}
 use Rattle.program_files.specs.declared.run_fault.RunFault.{RunFault}
 use Rattle.program_files.specs.declared.run_fault.RunFault.TheVariants as run
-use Rattle.program_files.specs.declared.run_fault.Which.{Which}
-use Rattle.program_files.specs.declared.run_fault.Which.TheVariants.{Out, Undo}
+use Rattle.file_host.specs.declared.faults.Which.{Which}
+use Rattle.file_host.specs.declared.faults.Which.TheVariants.{Out, Undo}
 use Rattle.sfbank.specs.Outcome.{Done}
 
 -- the bytes of two writers, before and after

@@ -4,8 +4,9 @@ ghost use Rattle.sfbank.specs.Written.{RunsOneText};
 
 use crate::writing::write_one;
 use base_progress::{NoReports, Progress};
+use file_host::Which;
 use mixer::render_with_progress;
-use program_files::{RunFault, Which};
+use program_files::RunFault;
 use script_notes::parse_notes;
 use sf_reader::read;
 use std::alloc::Global;

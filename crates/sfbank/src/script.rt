@@ -3,7 +3,8 @@ ghost use Rattle.sfbank.specs.BankScripts.{IsRemade, script_outcome};
 ghost use Rattle.sfbank.specs.Written.{RunsOneText};
 
 use crate::writing::write_one;
-use program_files::{RunFault, Which};
+use file_host::Which;
+use program_files::RunFault;
 use script_of_bank::{BankScript, SamplePoints};
 use sf_reader::read;
 use std::alloc::Global;

@@ -3,7 +3,8 @@ ghost use Rattle.sfbank.specs.Outcome.{show_outcome, show_details_outcome};
 ghost use Rattle.sfbank.specs.Written.{RunsOneText};
 
 use crate::writing::write_one;
-use program_files::{RunFault, Which};
+use file_host::Which;
+use program_files::RunFault;
 use sf_reader::read;
 use show_listing::{Details, Listing};
 use std::alloc::Global;

@@ -4,7 +4,8 @@ ghost use Rattle.sfbank.specs.Written.{RunsOneText};
 
 use crate::writing::write_one;
 use edit_refusals::Cause;
-use program_files::{RunFault, Which};
+use file_host::Which;
+use program_files::RunFault;
 use sf_reader::read;
 use std::alloc::Global;
 use std::io::Write;

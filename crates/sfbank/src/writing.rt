@@ -2,7 +2,8 @@
 ghost use Rattle.sfbank.specs.Written.{Delivers, IsWritten};
 
 use base_texts::{Text, write_text};
-use program_files::{RunFault, Which};
+use file_host::Which;
+use program_files::RunFault;
 use std::io::Write;
 
 /// Writes a text of a run whole, and flushes. Allocates nothing.

@@ -1,7 +1,8 @@
 //! Tests of the program that the checks cannot run: no argument, a terminal, and an input that fails after its first
 //! bytes.
 
-use program_files::{InputFault, read_whole};
+use file_host::InputFault;
+use program_files::read_whole;
 use sf_base::Failure;
 use sfbank::{NoReports, run};
 use std::alloc::AllocError;

@@ -1,6 +1,7 @@
 //! Ends a command by the result of its run: finishes the output files, and adds paths to faults.
 
-use program_files::{Fault, OutputFile, RunFault, Sink, Which, end_both};
+use file_host::Which;
+use program_files::{Fault, OutputFile, RunFault, Sink, end_both};
 use std::io::Write;
 use std::rt::Files;
 

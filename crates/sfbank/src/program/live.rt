@@ -6,12 +6,13 @@ use super::endings::at;
 use crate::writing::write_both;
 use bank_core::Bank;
 use edit_forms::Edit;
+use file_host::{InputFault, Which};
 use live_lines::Paths;
 use live_sessions::{InputLines, LiveFault, SaveFault, Saves, UndoLines, live_run};
 use program_commands::LivePaths;
 use program_files::{
-    Fault, InputFault, OutputCheck, OutputFile, RunFault, STANDARD_OUTPUT, Which, check_apart,
-    check_no_bank, end_both, read_file,
+    Fault, OutputCheck, OutputFile, RunFault, STANDARD_OUTPUT, check_apart, check_no_bank,
+    end_both, read_file,
 };
 use sf_writer::BankFile;
 use std::io::{BufReader, Read, Write};
