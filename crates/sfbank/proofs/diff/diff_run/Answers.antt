@@ -25,9 +25,9 @@ returns-clause-runs g c =
     let script =
     replacement_is a b banks (are_bytes a c.type_inv.first) (are_bytes b c.type_inv.second) c.in_ok-from.ensures
     in
-    runs_difference _ _ a b banks (texts_of (edits_between banks.first banks.second)) c.write_one-2.result
+    runs_difference _ _ a b banks (texts_of (edits_between banks.first banks.second)) c.write_one-in-None.result
     (are_bytes a c.type_inv.first) c.in_ok-from.ensures
-    script c.write_one-2.ensures
+    script c.write_one-in-None.ensures
 
 pub returns-in-Some-clause-nothing : goal.returns-in-Some-clause-nothing
 returns-in-Some-clause-nothing g c =
@@ -44,8 +44,8 @@ returns-clause-nothing g c =
     let edits = edits_between banks.first banks.second in
     let none : banks.first ≡ banks.second → edits ≡ [] =
     λ same. absurd (rw c.in-None.is at (c.in_ok-edits.ensures.nothing same)) in
-    writes_nothing _ _ c.args.first.now c.args.second.now banks edits c.write_one-2.result
-    c.in_ok-from.ensures none c.write_one-2.ensures
+    writes_nothing _ _ c.args.first.now c.args.second.now banks edits c.write_one-in-None.result
+    c.in_ok-from.ensures none c.write_one-in-None.ensures
 
 pub returns-in_err-edits-clause-runs : goal.returns-in_err-edits-clause-runs
 returns-in_err-edits-clause-runs g c =

@@ -51,5 +51,5 @@ returns g c =
     record {
       runs =
           ends_with _ (outcome_of c.args.forms file script) (texts_of_bank c.in_ok-edited_bank.edited_bank) c.write_both.result
-          (same ∙ c.in_ok-edited_bank.ensures.prepared) c.write_both.ensures;
+          (same ∙ c.in_ok-edited_bank.ensures.prepared) (rw c.as_slice-2.ensures.value at c.write_both.ensures);
     }

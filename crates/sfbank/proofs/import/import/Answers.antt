@@ -50,4 +50,4 @@ returns g c =
     c.in_ok-recording.recording n (import_edits n c.args.name.now c.in_ok-recording.recording)
     c.in_ok-bank.ensures.ok c.in_ok-recording.ensures refl refl in
     ends_with _ (import_outcome c.args.file.now c.args.wave.now c.args.name.now) (texts_of_bank c.in_ok-edited_bank.edited_bank)
-    c.write_both.result (same ∙ c.in_ok-edited_bank.ensures) c.write_both.ensures
+    c.write_both.result (same ∙ c.in_ok-edited_bank.ensures) (rw c.as_slice.ensures.value at c.write_both.ensures)
