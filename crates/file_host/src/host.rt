@@ -30,7 +30,8 @@ pub trait Host {
         ensures failed { IfErr result (SaveFails (world self.old) (world self.new) path.now (T.bytes text.now)) };
 
     /// Saves an undo script, and then the text that it undoes, each in place of the file that is there. If that fails,
-    /// each file is as it was, or holds its whole text, and the new text is never without its undo script.
+    /// each file is as it was, or holds its whole text, and the new text is never without its undo script; an old undo
+    /// script may be left moved aside. If both paths lead to one place, a fault states nothing of that place.
     fn save_pair<U: Text, T: Text>(
         &mut self,
         undo_path: &str,
