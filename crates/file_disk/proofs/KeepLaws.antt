@@ -5,29 +5,28 @@ use Rattle.std.specs.Prelude.{OnOk, OnErr}
 use Rattle.std.specs.Option.{option_map}
 use Rattle.file_host.specs.declared.input_fault.InputFault.{InputFault}
 use Rattle.file_host.specs.declared.input_fault.InputFault.TheVariants.{NotFound}
-use Rattle.file_host.specs.World.{World, held_at, with_file, without_file}
+use Rattle.file_host.specs.World.{Paths, World, place_of, held_at, with_file, without_file}
 use Rattle.file_disk.specs.declared.target.StoredFile.{StoredFile}
 use Rattle.file_disk.specs.Devices.{IsNew, IsTarget, IsTemporary, moved, linked, kept_as, kept_moved}
 use Rattle.file_disk.specs.Frames.{IfKnown, IsFileOrLasting, Litters, MayLose}
 use Rattle.file_disk.specs.Pairs.{IsThere, UndoFails}
-use Rattle.file_disk.proofs.WorldLaws.{put_beside, overwrites, swaps, keeps, holds, holds_beside, apart_by}
+use Rattle.file_host.proofs.FileLaws.{put_beside}
+use Rattle.file_disk.proofs.WorldLaws.{overwrites, swaps, keeps, holds, holds_beside, apart_by}
 
 -- a place that a temporary file was put at is neither that of a file nor a lasting one
 pub off_new : (w : World) (new place : List ℕ) → held_at w new ≡ Err NotFound → IsTemporary new → IsFileOrLasting w place
-    → place ≢ w.place new
+    → place ≢ place_of w new
 off_new w new place free named (inl there) = λ e. there (ap w.files e ∙ free)
 off_new w new place free named (inr lasting) = λ e. lasting new named (sym e)
 
 litters_self : (w : World) → Litters w w
-litters_self w = record { places = refl; links = refl; stores = refl; files = λ place keeps. refl }
+litters_self w = record { paths = refl; files = λ place keeps. refl }
 
 litters_put : (w : World) (new : List ℕ) (left : Result (List ℕ) InputFault) → held_at w new ≡ Err NotFound
     → IsTemporary new → Litters w (with_file new left w)
 litters_put w new left free named = record {
-  places = refl;
-  links = refl;
-  stores = refl;
-  files = λ place keeps. put_beside w.files (w.place new) left place (off_new w new place free named keeps);
+  paths = refl;
+  files = λ place keeps. put_beside w.files (place_of w new) left place (off_new w new place free named keeps);
 }
 
 -- a world of which nothing is known stays so
@@ -41,7 +40,7 @@ none_lost before now path e (inr gone) = gone ∙ ap (option_map (without_file p
 -- ---- a move
 
 -- the empty file that takes the name first is gone after the move
-move_over : (w : World) (path old : List ℕ) (left : Result (List ℕ) InputFault) → w.place path ≢ w.place old
+move_over : (w : World) (path old : List ℕ) (left : Result (List ℕ) InputFault) → place_of w path ≢ place_of w old
     → moved path old (with_file old left w) ≡ moved path old w
 move_over w path old left apart =
     ap (λ (x : Result (List ℕ) InputFault). with_file old x (without_file path (with_file old left w)))
@@ -72,7 +71,7 @@ move_failed (Some w) made now old free named e (inr gone) =
 
 -- ---- a new file in the place of one that is kept
 
-after_link : (w : World) (new path old : List ℕ) → w.place new ≢ w.place old → w.place path ≢ w.place old
+after_link : (w : World) (new path old : List ℕ) → place_of w new ≢ place_of w old → place_of w path ≢ place_of w old
     → moved new path (linked path old w) ≡ with_file old (held_at w path) (moved new path w)
 after_link w new path old new_apart path_apart =
     let kept = held_at w path in
@@ -81,8 +80,8 @@ after_link w new path old new_apart path_apart =
     ∙ ap (with_file path (held_at w new)) (swaps w new old (Err NotFound) kept new_apart)
     ∙ swaps (without_file new w) path old (held_at w new) kept path_apart
 
-after_move : (w : World) (new path old : List ℕ) → w.place new ≢ w.place old → w.place path ≢ w.place old
-    → w.place new ≢ w.place path
+after_move : (w : World) (new path old : List ℕ) → place_of w new ≢ place_of w old → place_of w path ≢ place_of w old
+    → place_of w new ≢ place_of w path
     → moved new path (moved path old w) ≡ with_file old (held_at w path) (moved new path w)
 after_move w new path old new_apart path_apart apart =
     let kept = held_at w path in
@@ -95,8 +94,8 @@ after_move w new path old new_apart path_apart apart =
     ∙ swaps (without_file path (without_file new w)) path old (held_at w new) kept path_apart
     ∙ ap (with_file old kept) (overwrites (without_file new w) path (Err NotFound) (held_at w new))
 
-after_keep : (w : World) (is_linked : Bool) (new path old : List ℕ) → w.place new ≢ w.place old
-    → w.place path ≢ w.place old → w.place new ≢ w.place path
+after_keep : (w : World) (is_linked : Bool) (new path old : List ℕ) → place_of w new ≢ place_of w old
+    → place_of w path ≢ place_of w old → place_of w new ≢ place_of w path
     → moved new path (kept_as is_linked path old w) ≡ with_file old (held_at w path) (moved new path w)
 after_keep w true new path old n p a = after_link w new path old n p
 after_keep w false new path old n p a = after_move w new path old n p a
@@ -111,7 +110,7 @@ pub record Puts (w : World) (new path old : List ℕ) : Type 0 where
   pub new_there : held_at w new ≢ Err NotFound
   pub path_there : held_at w path ≢ Err NotFound
   pub old_free : held_at w old ≡ Err NotFound
-  pub apart : w.place new ≢ w.place path
+  pub apart : place_of w new ≢ place_of w path
 
 pub put_done : (before kept now : Option World) (is_linked is_there : Bool) (new path old : List ℕ) → is_there ≡ true
     → IfKnown (λ v w. Puts v new path old) before before → kept ≡ option_map (kept_as is_linked path old) before
@@ -130,11 +129,9 @@ put_done (Some w) kept now is_linked is_there new path old t p e f =
 undo_same : (w : World) (path old : List ℕ) (left : Result (List ℕ) InputFault) → held_at w path ≢ Err NotFound
     → held_at w old ≡ Err NotFound → IsTemporary old → UndoFails path w (with_file old left w)
 undo_same w path old left there free named = record {
-  places = refl;
-  links = refl;
-  stores = refl;
+  paths = refl;
   here = inl (holds_beside w old path left (apart_by w path old there free));
-  others = λ place apart keeps. put_beside w.files (w.place old) left place (off_new w old place free named keeps);
+  others = λ place apart keeps. put_beside w.files (place_of w old) left place (off_new w old place free named keeps);
 }
 
 undo_gone : (w : World) (path old : List ℕ) → held_at w path ≢ Err NotFound → held_at w old ≡ Err NotFound
@@ -142,27 +139,25 @@ undo_gone : (w : World) (path old : List ℕ) → held_at w path ≢ Err NotFoun
 undo_gone w path old there free named =
     let kept = held_at w path in
     let gone = without_file path w in record {
-      places = refl;
-      links = refl;
-      stores = refl;
+      paths = refl;
       here = inr record {
         gone = holds_beside gone old path kept (apart_by w path old there free) ∙ holds w path (Err NotFound);
-        kept = w.place old;
+        kept = place_of w old;
         free = free;
         holds = holds gone old kept;
       };
       others = λ place apart keeps.
-          put_beside gone.files (w.place old) kept place (off_new w old place free named keeps)
-          ∙ put_beside w.files (w.place path) (Err NotFound) place apart;
+          put_beside gone.files (place_of w old) kept place (off_new w old place free named keeps)
+          ∙ put_beside w.files (place_of w path) (Err NotFound) place apart;
     }
 
 -- moved away, and back
-there_and_back : (w : World) (path old : List ℕ) → w.place path ≢ w.place old → held_at w old ≡ Err NotFound
+there_and_back : (w : World) (path old : List ℕ) → place_of w path ≢ place_of w old → held_at w old ≡ Err NotFound
     → moved old path (moved path old w) ≡ w
 there_and_back w path old apart free =
     let kept = held_at w path in
     let gone = without_file path w in
-    let back : w.place old ≢ w.place path = λ e. apart (sym e) in
+    let back : place_of w old ≢ place_of w path = λ e. apart (sym e) in
     ap (λ (x : Result (List ℕ) InputFault). with_file path x (without_file old (with_file old kept gone)))
     (holds gone old kept)
     ∙ ap (with_file path kept)
@@ -172,9 +167,7 @@ there_and_back w path old apart free =
 
 undo_self : (w : World) (path : List ℕ) → UndoFails path w w
 undo_self w path = record {
-  places = refl;
-  links = refl;
-  stores = refl;
+  paths = refl;
   here = inl refl;
   others = λ place apart keeps. refl;
 }
@@ -217,10 +210,8 @@ move_undone (Some w) kept now path old (Err u) k e f h =
 -- nothing but a new name changed
 undo_littered : (w n : World) (path : List ℕ) → held_at w path ≢ Err NotFound → Litters w n → UndoFails path w n
 undo_littered w n path there l = record {
-  places = l.places;
-  links = l.links;
-  stores = l.stores;
-  here = inl (ap (λ (p : List ℕ → List ℕ). n.files (p path)) l.places ∙ l.files (w.place path) (inl there));
+  paths = l.paths;
+  here = inl (ap (λ (p : Paths). n.files (p.place path)) l.paths ∙ l.files (place_of w path) (inl there));
   others = λ place apart keeps. l.files place keeps;
 }
 

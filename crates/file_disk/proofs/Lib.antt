@@ -4,3 +4,4 @@ pub mod NameLaws
 pub mod KeepLaws
 pub mod PairLaws
 pub mod SaveLaws
+pub mod BankLaws

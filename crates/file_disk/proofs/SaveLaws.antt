@@ -5,7 +5,7 @@ use Rattle.std.specs.Prelude.{OnOk, IfErr, ◌⊎◌}
 use Rattle.std.specs.Option.{option_map}
 use Rattle.file_host.specs.declared.input_fault.InputFault.{InputFault}
 use Rattle.file_host.specs.declared.input_fault.InputFault.TheVariants.{NotFound}
-use Rattle.file_host.specs.World.{World, held_at, stores_at, with_file, with_text, with_pair}
+use Rattle.file_host.specs.World.{World, place_of, held_at, stores_at, with_file, with_text, with_pair}
 use Rattle.file_host.specs.declared.faults.PairFault.{PairFault}
 use Rattle.file_host.specs.declared.faults.PairFault.TheVariants as pair
 use Rattle.file_host.specs.Saving.{IsMovedAway, PairFails, SpoilsPair, SpoilsTwo}
@@ -14,7 +14,8 @@ use Rattle.file_disk.specs.declared.target.Target.TheVariants.{Stores}
 use Rattle.file_disk.specs.Devices.{IsNew, IsTarget, IsTemporary, Leads, LeadsTo}
 use Rattle.file_disk.specs.Frames.{IfKnown, IsFileOrLasting, Litters, Makes, MayLose}
 use Rattle.file_disk.specs.Pairs.{BothFail, both_saved}
-use Rattle.file_disk.proofs.WorldLaws.{put_beside, holds, holds_beside, apart_by, is_with_text}
+use Rattle.file_host.proofs.FileLaws.{put_beside}
+use Rattle.file_disk.proofs.WorldLaws.{holds, holds_beside, apart_by, is_with_text}
 use Rattle.file_disk.proofs.PairLaws.{Loses, loses_of, back_to, at_place, shift_place}
 use Rattle.file_disk.proofs.KeepLaws.{off_new}
 
@@ -46,32 +47,28 @@ spoils_none : (w n : World) (undo_path undo path text : List ℕ) (is_there also
     → LeadsTo w undo_path undo_path is_there → LeadsTo w path path also_there → Litters w n
     → SpoilsTwo w n undo_path undo path text
 spoils_none w n undo_path undo path text is_there also_there t u l = record {
-  places = l.places;
-  links = l.links;
-  stores = l.stores;
-  undo_here = λ apart stores. inl (at_place n w undo_path l.places ∙ l.files (w.place undo_path) (inr t.apart));
-  text_here = λ apart stores. inl (at_place n w path l.places ∙ l.files (w.place path) (inr u.apart));
+  paths = l.paths;
+  undo_here = λ apart stores. inl (at_place n w undo_path l.paths ∙ l.files (place_of w undo_path) (inr t.apart));
+  text_here = λ apart stores. inl (at_place n w path l.paths ∙ l.files (place_of w path) (inr u.apart));
   others = λ place a b there. l.files place (inl there);
 }
 
-stays_listed : (w : World) (new place : List ℕ) (left : Result (List ℕ) InputFault) → place ≢ w.place new
+stays_listed : (w : World) (new place : List ℕ) (left : Result (List ℕ) InputFault) → place ≢ place_of w new
     → IsFileOrLasting w place → IsFileOrLasting (with_file new left w) place
 stays_listed w new place left apart (inl there) =
-    inl (λ none. there (sym (put_beside w.files (w.place new) left place apart) ∙ none))
+    inl (λ none. there (sym (put_beside w.files (place_of w new) left place apart) ∙ none))
 stays_listed w new place left apart (inr lasting) = inr lasting
 
 -- a temporary file was made, others were left, and it was removed or not
 littered_over : (w m n : World) (new text : List ℕ) → held_at w new ≡ Err NotFound → IsTemporary new
     → Litters (with_file new (Ok text) w) m → Loses new m n → Litters w n
 littered_over w m n new text free named l k = record {
-  places = k.places ∙ l.places;
-  links = k.links ∙ l.links;
-  stores = k.stores ∙ l.stores;
+  paths = k.paths ∙ l.paths;
   files = λ place keeps.
       let apart = off_new w new place free named keeps in
-      k.files place (shift_place m w place new l.places apart)
+      k.files place (shift_place m w place new l.paths apart)
       ∙ l.files place (stays_listed w new place (Ok text) apart keeps)
-      ∙ put_beside w.files (w.place new) (Ok text) place apart;
+      ∙ put_beside w.files (place_of w new) (Ok text) place apart;
 }
 
 second_at : (w m : World) (now : Option World) (new text : List ℕ) → held_at w new ≡ Err NotFound → IsTemporary new
@@ -107,8 +104,8 @@ second_failed (Some w) made failed now undo_file file new undo text t u m l lost
 
 -- two new files were made
 pub record Made (w : World) (undo_path new_undo path new_text undo : List ℕ) : Type 0 where
-  pub undo_apart : (other : List ℕ) → IsTemporary other → w.place other ≢ w.place undo_path
-  pub path_apart : (other : List ℕ) → IsTemporary other → w.place other ≢ w.place path
+  pub undo_apart : (other : List ℕ) → IsTemporary other → place_of w other ≢ place_of w undo_path
+  pub path_apart : (other : List ℕ) → IsTemporary other → place_of w other ≢ place_of w path
   pub undo_named : IsTemporary new_undo
   pub text_named : IsTemporary new_text
   pub undo_free : held_at w new_undo ≡ Err NotFound
@@ -118,17 +115,17 @@ is_some_file : {bytes : List ℕ} {held : Result (List ℕ) InputFault} → held
 is_some_file e none = let no = sym e ∙ none in cc
 
 two_apart : (w : World) (undo_path new_undo path new_text undo : List ℕ) → Made w undo_path new_undo path new_text undo
-    → w.place new_undo ≢ w.place new_text
+    → place_of w new_undo ≢ place_of w new_text
 two_apart w undo_path new_undo path new_text undo k =
     let v = with_file new_undo (Ok undo) w in
     apart_by v new_undo new_text (is_some_file (holds w new_undo (Ok undo))) k.text_free
 
-made_beside : (w : World) (new_undo new_text undo text place : List ℕ) → place ≢ w.place new_undo
-    → place ≢ w.place new_text
+made_beside : (w : World) (new_undo new_text undo text place : List ℕ) → place ≢ place_of w new_undo
+    → place ≢ place_of w new_text
     → (with_file new_text (Ok text) (with_file new_undo (Ok undo) w)).files place ≡ w.files place
 made_beside w new_undo new_text undo text place a b =
-    put_beside (with_file new_undo (Ok undo) w).files (w.place new_text) (Ok text) place b
-    ∙ put_beside w.files (w.place new_undo) (Ok undo) place a
+    put_beside (with_file new_undo (Ok undo) w).files (place_of w new_text) (Ok text) place b
+    ∙ put_beside w.files (place_of w new_undo) (Ok undo) place a
 
 -- a place with no file among both new ones
 none_made : (w : World) (undo_path new_undo path new_text undo text place : List ℕ)
@@ -138,9 +135,9 @@ none_made : (w : World) (undo_path new_undo path new_text undo text place : List
 none_made w undo_path new_undo path new_text undo text place k none =
     let v = with_file new_undo (Ok undo) w in
     let m = with_file new_text (Ok text) v in
-    let off_text : place ≢ w.place new_text =
+    let off_text : place ≢ place_of w new_text =
     λ e. is_some_file (ap m.files e ∙ holds v new_text (Ok text)) none in
-    let off_undo : place ≢ w.place new_undo =
+    let off_undo : place ≢ place_of w new_undo =
     λ e. is_some_file
     (ap m.files e ∙ holds_beside v new_text new_undo (Ok text) (two_apart w undo_path new_undo path new_text undo k)
     ∙ holds w new_undo (Ok undo)) none in
@@ -203,19 +200,17 @@ both_spoil w n undo_path new_undo path new_text undo text k f =
     ∙ holds w new_undo (Ok undo) in
     let text_is : held_at m new_text ≡ Ok text = holds v new_text (Ok text) in
     let undo_was : held_at m undo_path ≡ held_at w undo_path =
-    made_beside w new_undo new_text undo text (w.place undo_path) (back_to (k.undo_apart new_undo k.undo_named))
+    made_beside w new_undo new_text undo text (place_of w undo_path) (back_to (k.undo_apart new_undo k.undo_named))
     (back_to (k.undo_apart new_text k.text_named)) in
     let text_was : held_at m path ≡ held_at w path =
-    made_beside w new_undo new_text undo text (w.place path) (back_to (k.path_apart new_undo k.undo_named))
+    made_beside w new_undo new_text undo text (place_of w path) (back_to (k.path_apart new_undo k.undo_named))
     (back_to (k.path_apart new_text k.text_named)) in record {
-      places = f.places;
-      links = f.links;
-      stores = f.stores;
+      paths = f.paths;
       undo_here = λ apart stores. undo_left w n undo_path new_undo path new_text undo text k undo_is undo_was (f.undo_here apart);
       text_here = λ apart stores. text_left w n undo_path new_undo path new_text undo text undo_is text_is text_was (f.text_here apart);
       others = λ place a b there.
-          let off_undo : place ≢ w.place new_undo = λ e. there (ap w.files e ∙ k.undo_free) in
-          let off_text : place ≢ w.place new_text =
+          let off_undo : place ≢ place_of w new_undo = λ e. there (ap w.files e ∙ k.undo_free) in
+          let off_text : place ≢ place_of w new_text =
           λ e. there (ap w.files e ∙ none_there w undo_path new_undo path new_text undo k) in
           let same = made_beside w new_undo new_text undo text place off_undo off_text in
           f.others place a b off_undo off_text (inl (λ none. there (sym same ∙ none))) ∙ same;
@@ -261,7 +256,7 @@ pub target_of : (world : Option World) (path : List ℕ) (file : StoredFile) →
 target_of None path file l = tt
 target_of (Some w) path file l = record {
   place = refl;
-  stores = ap w.stores l.place ∙ l.stores;
+  stores = ap w.paths.stores l.place ∙ l.stores;
   direct = l.direct;
   apart = λ other named e. l.apart other named (e ∙ l.place);
   there = λ e none. l.there e (sym (ap w.files l.place) ∙ none);
@@ -305,33 +300,31 @@ undo_at w n path real undo now was (inr (inl e)) = inr (inl (sym now ∙ e))
 undo_at w n path real undo now was (inr (inr g)) = inr (inr (gone_at w n path real now was g))
 
 text_at : (w n : World) (undo_path undo_real undo path real text : List ℕ) → held_at n undo_real ≡ held_at n undo_path
-    → w.place undo_real ≡ w.place undo_path → held_at n real ≡ held_at n path → held_at w real ≡ held_at w path
+    → place_of w undo_real ≡ place_of w undo_path → held_at n real ≡ held_at n path → held_at w real ≡ held_at w path
     → (held_at n real ≡ held_at w real)
     ⊎ ((held_at n real ≡ Ok text) × (stores_at w undo_real ≡ true → held_at n undo_real ≡ Ok undo))
     → (held_at n path ≡ held_at w path)
     ⊎ ((held_at n path ≡ Ok text) × (stores_at w undo_path ≡ true → held_at n undo_path ≡ Ok undo))
 text_at w n undo_path undo_real undo path real text undo_now place now was (inl e) = inl (sym now ∙ e ∙ was)
 text_at w n undo_path undo_real undo path real text undo_now place now was (inr p) =
-    inr (sym now ∙ p.0, λ stores. sym undo_now ∙ p.1 (ap w.stores place ∙ stores))
+    inr (sym now ∙ p.0, λ stores. sym undo_now ∙ p.1 (ap w.paths.stores place ∙ stores))
 
-spoils_at : (w n : World) (undo_path undo_real undo path real text : List ℕ) → w.place undo_real ≡ w.place undo_path
-    → w.place real ≡ w.place path → SpoilsTwo w n undo_real undo real text → SpoilsTwo w n undo_path undo path text
+spoils_at : (w n : World) (undo_path undo_real undo path real text : List ℕ) → place_of w undo_real ≡ place_of w undo_path
+    → place_of w real ≡ place_of w path → SpoilsTwo w n undo_real undo real text → SpoilsTwo w n undo_path undo path text
 spoils_at w n undo_path undo_real undo path real text u p h =
-    let same : (a b : List ℕ) → w.place a ≡ w.place b → held_at n a ≡ held_at n b =
-    λ a b e. at_place n w a h.places ∙ ap n.files e ∙ sym (at_place n w b h.places) in
+    let same : (a b : List ℕ) → place_of w a ≡ place_of w b → held_at n a ≡ held_at n b =
+    λ a b e. at_place n w a h.paths ∙ ap n.files e ∙ sym (at_place n w b h.paths) in
     let undo_now = same undo_real undo_path u in
     let now = same real path p in
-    let off : w.place undo_path ≢ w.place path → w.place undo_real ≢ w.place real =
+    let off : place_of w undo_path ≢ place_of w path → place_of w undo_real ≢ place_of w real =
     λ apart e. apart (sym u ∙ e ∙ p) in record {
-      places = h.places;
-      links = h.links;
-      stores = h.stores;
+      paths = h.paths;
       undo_here = λ apart stores.
           undo_at w n undo_path undo_real undo undo_now (ap w.files u)
-          (h.undo_here (off apart) (ap w.stores u ∙ stores));
+          (h.undo_here (off apart) (ap w.paths.stores u ∙ stores));
       text_here = λ apart stores.
           text_at w n undo_path undo_real undo path real text undo_now u now (ap w.files p)
-          (h.text_here (off apart) (ap w.stores p ∙ stores));
+          (h.text_here (off apart) (ap w.paths.stores p ∙ stores));
       others = λ place a b there. h.others place (λ e. a (e ∙ u)) (λ e. b (e ∙ p)) there;
     }
 

@@ -6,27 +6,9 @@ use Rattle.std.specs.Str.{bytes_eq}
 use Rattle.std.proofs.lemmas.Slice.Eq.{bytes_eq-Decides}
 use Rattle.file_host.specs.declared.input_fault.InputFault.{InputFault}
 use Rattle.file_host.specs.declared.input_fault.InputFault.TheVariants.{NotFound}
-use Rattle.file_host.specs.World.{World, held_at, stores_at, file_put, with_file, with_text, without_file}
+use Rattle.file_host.specs.World.{World, place_of, held_at, stores_at, file_put, with_file, with_text, without_file}
+use Rattle.file_host.proofs.FileLaws.{pick_it, put_at, put_beside}
 use Rattle.file_disk.specs.Devices.{moved}
-
-pick_other : {X : Type 0} (x y : X) (b : Bool) → (b ≡ true → ⊥) → (if b then x else y) ≡ y
-pick_other x y true h = absurd (h refl)
-pick_other x y false h = refl
-
-pick_it : {X : Type 0} (x y : X) (b : Bool) → b ≡ true → (if b then x else y) ≡ x
-pick_it x y true h = refl
-pick_it x y false h = cc
-
--- the file that was put
-pub put_at : (held : List ℕ → Result (List ℕ) InputFault) (path : List ℕ) (left : Result (List ℕ) InputFault)
-    → file_put held path left path ≡ left
-put_at held path left = pick_it left (held path) (bytes_eq path path) ((bytes_eq-Decides path path).1 refl)
-
--- any other file
-pub put_beside : (held : List ℕ → Result (List ℕ) InputFault) (path : List ℕ) (left : Result (List ℕ) InputFault)
-    (asked : List ℕ) → asked ≢ path → file_put held path left asked ≡ held asked
-put_beside held path left asked h =
-    pick_other left (held asked) (bytes_eq asked path) (λ e. h ((bytes_eq-Decides asked path).0 e))
 
 -- ---- files in a row
 
@@ -65,36 +47,31 @@ put_same held path left is =
 
 -- a world with other files
 abbrev with_files : World → (List ℕ → Result (List ℕ) InputFault) → World
-with_files world files = record {
-  place = world.place;
-  is_link = world.is_link;
-  stores = world.stores;
-  files = files;
-}
+with_files world files = record { paths = world.paths; files = files }
 
 pub overwrites : (world : World) (path : List ℕ) (first last : Result (List ℕ) InputFault)
     → with_file path last (with_file path first world) ≡ with_file path last world
-overwrites world path first last = ap (with_files world) (put_put world.files (world.place path) first last)
+overwrites world path first last = ap (with_files world) (put_put world.files (place_of world path) first last)
 
-pub swaps : (world : World) (one other : List ℕ) (x y : Result (List ℕ) InputFault) → world.place one ≢ world.place other
+pub swaps : (world : World) (one other : List ℕ) (x y : Result (List ℕ) InputFault) → place_of world one ≢ place_of world other
     → with_file one x (with_file other y world) ≡ with_file other y (with_file one x world)
 swaps world one other x y apart =
-    ap (with_files world) (put_swap world.files (world.place one) (world.place other) x y apart)
+    ap (with_files world) (put_swap world.files (place_of world one) (place_of world other) x y apart)
 
 pub keeps : (world : World) (path : List ℕ) (left : Result (List ℕ) InputFault) → left ≡ held_at world path
     → with_file path left world ≡ world
-keeps world path left is = ap (with_files world) (put_same world.files (world.place path) left is)
+keeps world path left is = ap (with_files world) (put_same world.files (place_of world path) left is)
 
 pub same_path : (world : World) (one other : List ℕ) (left : Result (List ℕ) InputFault)
-    → world.place one ≡ world.place other → with_file one left world ≡ with_file other left world
+    → place_of world one ≡ place_of world other → with_file one left world ≡ with_file other left world
 same_path world one other left e = ap (λ (p : List ℕ). with_files world (file_put world.files p left)) e
 
 pub holds : (world : World) (path : List ℕ) (left : Result (List ℕ) InputFault) → held_at (with_file path left world) path ≡ left
-holds world path left = put_at world.files (world.place path) left
+holds world path left = put_at world.files (place_of world path) left
 
 pub holds_beside : (world : World) (path asked : List ℕ) (left : Result (List ℕ) InputFault)
-    → world.place asked ≢ world.place path → held_at (with_file path left world) asked ≡ held_at world asked
-holds_beside world path asked left apart = put_beside world.files (world.place path) left (world.place asked) apart
+    → place_of world asked ≢ place_of world path → held_at (with_file path left world) asked ≡ held_at world asked
+holds_beside world path asked left apart = put_beside world.files (place_of world path) left (place_of world asked) apart
 
 -- a new file that is put in place is the file there
 pub put_in_place : (world : World) (new real : List ℕ) (left : Result (List ℕ) InputFault)
@@ -106,16 +83,12 @@ put_in_place world new real left free =
 
 -- a place with a file is not a free one
 pub apart_by : (world : World) (one other : List ℕ) → held_at world one ≢ Err NotFound → held_at world other ≡ Err NotFound
-    → world.place one ≢ world.place other
+    → place_of world one ≢ place_of world other
 apart_by world one other there free same = there (ap world.files same ∙ free)
-
-text_if : (world with : World) (b : Bool) → b ≡ true → (if b then with else world) ≡ with
-text_if world with true e = refl
-text_if world with false e = cc
 
 -- a text at a place that stores, by any path to it
 pub is_with_text : (world : World) (path real text : List ℕ) → stores_at world path ≡ true
-    → world.place real ≡ world.place path → with_file real (Ok text) world ≡ with_text path text world
+    → place_of world real ≡ place_of world path → with_file real (Ok text) world ≡ with_text path text world
 is_with_text world path real text stores same =
     same_path world real path (Ok text) same
-    ∙ sym (text_if world (with_file path (Ok text) world) (stores_at world path) stores)
+    ∙ sym (pick_it (with_file path (Ok text) world) world (stores_at world path) stores)

@@ -3,7 +3,7 @@ use Rattle.std.specs.Prelude.{◌≡◌, ◌≢◌, ◌⊎◌, ℕ, List, [], �
 use Rattle.std.specs.Prelude.{codes, decimal, string_bytes, ⊤}
 use Rattle.file_host.specs.declared.input_fault.InputFault.{InputFault}
 use Rattle.file_host.specs.declared.input_fault.InputFault.TheVariants.{NotFound}
-use Rattle.file_host.specs.World.{World, held_at, stores_at, with_file, without_file}
+use Rattle.file_host.specs.World.{World, place_of, held_at, stores_at, with_file, without_file}
 use Rattle.file_disk.specs.declared.target.StoredFile.{StoredFile}
 use Rattle.file_disk.specs.declared.target.Target.{Target}
 use Rattle.file_disk.specs.declared.target.Target.TheVariants.{Stores, InPlace}
@@ -24,10 +24,10 @@ pub record IsTemporary (path : List ℕ) : Type 0 where
 -- The second path leads to the place of the first, which stores. It is no link itself, and no temporary file is at that
 -- place.
 pub record LeadsTo (world : World) (path real : List ℕ) (is_there : Bool) : Type 0 where
-  pub place : world.place real ≡ world.place path
+  pub place : place_of world real ≡ place_of world path
   pub stores : stores_at world path ≡ true
-  pub direct : world.is_link real ≡ false
-  pub apart : (other : List ℕ) → IsTemporary other → world.place other ≢ world.place path
+  pub direct : world.paths.is_link real ≡ false
+  pub apart : (other : List ℕ) → IsTemporary other → place_of world other ≢ place_of world path
   pub there : is_there ≡ true → held_at world path ≢ Err NotFound
   pub nothing : is_there ≡ false → held_at world path ≡ Err NotFound
 
@@ -50,7 +50,7 @@ IsTarget (Some world) file = LeadsTo world (string_bytes file.path) (string_byte
 pub record IsFree (world : World) (path : List ℕ) : Type 0 where
   pub nothing : held_at world path ≡ Err NotFound
   pub stores : stores_at world path ≡ true
-  pub direct : world.is_link path ≡ false
+  pub direct : world.paths.is_link path ≡ false
 
 -- the same, as far as is known
 abbrev pub IsNew : Option World → List ℕ → Type 0
@@ -60,7 +60,7 @@ IsNew (Some world) path = IsFree world path
 -- a path is no link, as far as is known
 abbrev pub IsDirect : Option World → List ℕ → Type 0
 IsDirect None path = ⊤
-IsDirect (Some world) path = world.is_link path ≡ false
+IsDirect (Some world) path = world.paths.is_link path ≡ false
 
 -- a path, where the world is known
 abbrev pub if_known : Option World → Option (List ℕ) → Option (List ℕ)

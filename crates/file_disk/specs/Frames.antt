@@ -6,7 +6,7 @@ use Rattle.sf_base.specs.declared.memory.Failure.{Failure}
 use Rattle.sf_base.specs.declared.memory.Failure.TheVariants.{Fault, OutOfMemory}
 use Rattle.file_host.specs.declared.input_fault.InputFault.{InputFault}
 use Rattle.file_host.specs.declared.input_fault.InputFault.TheVariants.{NotFound}
-use Rattle.file_host.specs.World.{World, held_at, with_file, without_file}
+use Rattle.file_host.specs.World.{World, place_of, held_at, with_file, without_file}
 use Rattle.file_disk.specs.Devices.{IsTemporary, IsNew}
 
 -- what the file at a path holds, in a world that may not be known
@@ -31,22 +31,12 @@ known_at (Some world) path = known_bytes (held_at world path)
 -- At a place there is a file, or no temporary file can be.
 abbrev pub IsFileOrLasting : World → List ℕ → Type 0
 IsFileOrLasting world place =
-    (world.files place ≢ Err NotFound) ⊎ ((other : List ℕ) → IsTemporary other → world.place other ≢ place)
+    (world.files place ≢ Err NotFound) ⊎ ((other : List ℕ) → IsTemporary other → place_of world other ≢ place)
 
 -- All is as it was, but at places of temporary files where nothing was.
 pub record Litters (before now : World) : Type 0 where
-  pub places : now.place ≡ before.place
-  pub links : now.is_link ≡ before.is_link
-  pub stores : now.stores ≡ before.stores
+  pub paths : now.paths ≡ before.paths
   pub files : (place : List ℕ) → IsFileOrLasting before place → now.files place ≡ before.files place
-
--- the same, but for what the file at this path holds
-pub record LittersBut (before now : World) (path : List ℕ) : Type 0 where
-  pub places : now.place ≡ before.place
-  pub links : now.is_link ≡ before.is_link
-  pub stores : now.stores ≡ before.stores
-  pub files : (place : List ℕ) → place ≢ before.place path → IsFileOrLasting before place
-      → now.files place ≡ before.files place
 
 -- a relation of two worlds, as far as is known
 abbrev pub IfKnown : (World → World → Type 0) → Option World → Option World → Type 0

@@ -1,5 +1,6 @@
 pub mod Devices
 pub mod Inputs
+pub mod Heads
 pub mod Frames
 pub mod Names
 pub mod Pairs

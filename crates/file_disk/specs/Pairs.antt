@@ -2,7 +2,7 @@
 use Rattle.std.specs.Prelude.{◌≡◌, ◌≢◌, ◌⊎◌, ℕ, List, Option, Some, None, Ok, Err, Bool, true, false, if◌then◌else◌, ⊤}
 use Rattle.std.specs.Option.{option_map}
 use Rattle.file_host.specs.declared.input_fault.InputFault.TheVariants.{NotFound}
-use Rattle.file_host.specs.World.{World, held_at, with_file, without_file}
+use Rattle.file_host.specs.World.{World, place_of, held_at, with_file, without_file}
 use Rattle.file_host.specs.declared.faults.PairFault.{PairFault}
 use Rattle.file_host.specs.declared.faults.PairFault.TheVariants as pair
 use Rattle.file_host.specs.Saving.{IsMovedAway, Spoils}
@@ -19,7 +19,7 @@ IsThere (Some world) path = held_at world path ≢ Err NotFound
 -- two paths lead to two places, as far as is known
 abbrev pub AreApart : Option World → List ℕ → List ℕ → Type 0
 AreApart None one other = ⊤
-AreApart (Some world) one other = world.place one ≢ world.place other
+AreApart (Some world) one other = place_of world one ≢ place_of world other
 
 -- an old file could not be kept: nothing changed where the name is taken
 abbrev pub KeepFails : Option World → Option World → KeepFault → Type 0
@@ -28,11 +28,9 @@ KeepFails old new Failed = IfKnown Litters old new
 
 -- The new file could not be put at this path: the old one is as it was, or was moved away.
 pub record UndoFails (path : List ℕ) (old new : World) : Type 0 where
-  pub places : new.place ≡ old.place
-  pub links : new.is_link ≡ old.is_link
-  pub stores : new.stores ≡ old.stores
+  pub paths : new.paths ≡ old.paths
   pub here : (held_at new path ≡ held_at old path) ⊎ IsMovedAway old new path
-  pub others : (place : List ℕ) → place ≢ old.place path → IsFileOrLasting old place
+  pub others : (place : List ℕ) → place ≢ place_of old path → IsFileOrLasting old place
       → new.files place ≡ old.files place
 
 -- an old file is put back, or, where none was, a new one is removed
@@ -54,13 +52,11 @@ puts_both undo_path new_undo path new_text world = moved new_text path (moved ne
 
 -- The file of the undo script, whose old one was kept where one was, is as it was put, or the old one is back.
 pub record PutsBack (is_there : Bool) (path kept new_text : List ℕ) (old new : World) : Type 0 where
-  pub places : new.place ≡ old.place
-  pub links : new.is_link ≡ old.is_link
-  pub stores : new.stores ≡ old.stores
+  pub paths : new.paths ≡ old.paths
   pub here : (held_at new path ≡ held_at old path)
       ⊎ (held_at new path ≡ (if is_there then held_at old kept else Err NotFound))
-  pub others : (place : List ℕ) → place ≢ old.place path → (is_there ≡ true → place ≢ old.place kept)
-      → place ≢ old.place new_text → new.files place ≡ old.files place
+  pub others : (place : List ℕ) → place ≢ place_of old path → (is_there ≡ true → place ≢ place_of old kept)
+      → place ≢ place_of old new_text → new.files place ≡ old.files place
 
 -- The text could not be put in place, or the old undo script could not be removed after it was.
 abbrev pub TextFails : Bool → List ℕ → List ℕ → List ℕ → List ℕ → World → World → Type 0
@@ -69,17 +65,15 @@ TextFails is_there undo_path kept path new_text old new =
 
 -- Two new files could not both be put in place.
 pub record BothFail (undo_path new_undo path new_text : List ℕ) (old new : World) : Type 0 where
-  pub places : new.place ≡ old.place
-  pub links : new.is_link ≡ old.is_link
-  pub stores : new.stores ≡ old.stores
-  pub undo_here : old.place undo_path ≢ old.place path
+  pub paths : new.paths ≡ old.paths
+  pub undo_here : place_of old undo_path ≢ place_of old path
       → (held_at new undo_path ≡ held_at old undo_path) ⊎ (held_at new undo_path ≡ held_at old new_undo)
       ⊎ IsMovedAway old new undo_path
-  pub text_here : old.place undo_path ≢ old.place path
+  pub text_here : place_of old undo_path ≢ place_of old path
       → (held_at new path ≡ held_at old path)
       ⊎ ((held_at new path ≡ held_at old new_text) × (held_at new undo_path ≡ held_at old new_undo))
-  pub others : (place : List ℕ) → place ≢ old.place undo_path → place ≢ old.place path → place ≢ old.place new_undo
-      → place ≢ old.place new_text → IsFileOrLasting old place → new.files place ≡ old.files place
+  pub others : (place : List ℕ) → place ≢ place_of old undo_path → place ≢ place_of old path → place ≢ place_of old new_undo
+      → place ≢ place_of old new_text → IsFileOrLasting old place → new.files place ≡ old.files place
 
 -- both texts are the files at these paths
 abbrev pub both_saved : List ℕ → List ℕ → List ℕ → List ℕ → World → World

@@ -5,6 +5,7 @@ use file_host::InputFault;
 use sf_base::Failure;
 use std::alloc::AllocError;
 use std::io;
+use std::io::Write;
 
 /// What a system does to files: each method is one call of it. One file at a time is open for writing, and one for
 /// reading.
@@ -12,10 +13,15 @@ pub trait Device {
     ghost use Rattle.std.specs.Prelude.{◌≡◌, ◌<◌, ◌≤◌, List, ℕ, [], Option, Some, None, Bool, false, Ok, take, length, IfOk, IfErr, OnOk, OnErr};
     ghost use Rattle.std.specs.Option.{option_map};
     ghost use Rattle.std.specs.Io.{WritesAtMost};
-    ghost use Rattle.file_host.specs.World.{World, with_file, without_file};
+    ghost use Rattle.file_host.specs.World.{World, with_file, without_file, with_stream};
     ghost use Rattle.file_host.specs.Saving.{ReadFails};
+    ghost use Rattle.file_host.specs.Checks.{IsOneFile, IsOutput};
     ghost use Rattle.file_disk.specs.Devices.{Leads, IsNew, IsDirect, IsOpen, dirty_after, grown, moved, linked};
     ghost use Rattle.file_disk.specs.Inputs.{Unread, Opens, ReadsOn, IsAllRead, StopsReading};
+    ghost use Rattle.file_disk.specs.Heads.{ReadsHead};
+
+    /// A file that is written as a stream.
+    type Stream: Write + Drop;
 
     // The world, or None where nothing is known of it.
     ghost world: { Self → Option World };
@@ -116,4 +122,31 @@ pub trait Device {
         ensures end { IfOk result (λ n. n ≡ 0 → IsAllRead (unread self.old)) }
         ensures failed { IfErr result (StopsReading (unread self.old)) }
         ensures stays { world self.new ≡ world self.old };
+
+    /// Reads the first bytes of a file. Returns whether it has as many as `head`.
+    fn read_head(&mut self, path: &str, head: &mut [u8]) -> bool
+        ensures length { length head.new ≡ length head.old }
+        ensures reads { ReadsHead (world self.old) path.now head.new result }
+        ensures stays { world self.new ≡ world self.old };
+
+    /// Whether two paths lead to one file: by links, by hard links, or as a new file in one folder. Never for a
+    /// character device, such as /dev/null.
+    fn is_one_file(&mut self, one: &str, other: &str) -> Result<bool, AllocError>
+        ensures found { IfOk result (IsOneFile (world self.old) one.now other.now) }
+        ensures stays { world self.new ≡ world self.old };
+
+    /// Whether a path leads to the standard output of the program.
+    fn is_output(&mut self, path: &str) -> Result<bool, AllocError>
+        ensures found { IfOk result (IsOutput (world self.old) path.now) }
+        ensures stays { world self.new ≡ world self.old };
+
+    /// Opens a file that is written as a stream, from its first write or flush on. A failed allocation is the only
+    /// error.
+    fn open_stream(&mut self, path: &str) -> Result<Self::Stream, AllocError>
+        ensures opened { OnOk result (world self.new ≡ option_map (with_stream path.now) (world self.old)) }
+        ensures stays { OnErr result (world self.new ≡ world self.old) };
+
+    /// Whether the last write failed because nothing reads the other end of a pipe, and no file was opened for writing
+    /// since.
+    fn is_pipe_closed(&self) -> bool;
 }

@@ -2,6 +2,7 @@
 ghost use Rattle.std.specs.Prelude.{◌≡◌};
 ghost use Rattle.file_disk.specs.Devices.{world_in};
 
+use crate::bank::has_bank;
 use crate::device::Device;
 use crate::pair::save_both;
 use crate::reading::read_file;
@@ -10,7 +11,7 @@ use base_outputs::WriteFault;
 use base_texts::Text;
 use file_host::{Host, InputFault, PairFault};
 use sf_base::Failure;
-use std::alloc::Global;
+use std::alloc::{AllocError, Global};
 
 /// Files on a device. A text is written to a new file beside the one that it replaces, which is put in place once it is
 /// written and synced; a pipe, a device or a descriptor is written in place.
@@ -19,6 +20,8 @@ pub struct Disk<D> {
     alloc: Global,
     // The device, which is moved out while a text is saved.
     device: Option<D>,
+    // How many bytes of its text the last save wrote that failed by a write fault.
+    written: u64,
 }
 
 impl<D: Device + Drop> Disk<D> {
@@ -29,6 +32,7 @@ impl<D: Device + Drop> Disk<D> {
         Disk {
             alloc,
             device: Some(device),
+            written: 0,
         }
     }
 
@@ -40,6 +44,10 @@ impl<D: Device + Drop> Disk<D> {
 
 impl<D: Device + Drop> Host for Disk<D> {
     ghost world = { λ disk. world_in D.world disk.device };
+
+    ghost written = { λ disk. disk.written };
+
+    type Stream = D::Stream;
 
     fn read(&mut self, alloc: Global, path: &str) -> Result<Vec<u8>, Failure<InputFault>> {
         match &mut self.device {
@@ -54,6 +62,9 @@ impl<D: Device + Drop> Host for Disk<D> {
         };
         let (device, answer) = save_text(self.alloc, device, path, text);
         self.device = Some(device);
+        if let Err(Failure::Fault(fault)) = answer {
+            self.written = fault.written;
+        }
         answer
     }
 
@@ -69,6 +80,44 @@ impl<D: Device + Drop> Host for Disk<D> {
         };
         let (used, answer) = save_both(self.alloc, device, undo_path, undo, path, text);
         self.device = Some(used);
+        if let Err(PairFault::Write(_, written)) = answer {
+            self.written = written;
+        }
         answer
+    }
+
+    fn is_one_file(&mut self, one: &str, other: &str) -> Result<bool, AllocError> {
+        match &mut self.device {
+            Some(device) => device.is_one_file(one, other),
+            None => Err(AllocError),
+        }
+    }
+
+    fn has_bank(&mut self, path: &str) -> Result<bool, AllocError> {
+        match &mut self.device {
+            Some(device) => has_bank(device, path),
+            None => Err(AllocError),
+        }
+    }
+
+    fn is_output(&mut self, path: &str) -> Result<bool, AllocError> {
+        match &mut self.device {
+            Some(device) => device.is_output(path),
+            None => Err(AllocError),
+        }
+    }
+
+    fn open_stream(&mut self, path: &str) -> Result<D::Stream, AllocError> {
+        match &mut self.device {
+            Some(device) => device.open_stream(path),
+            None => Err(AllocError),
+        }
+    }
+
+    fn is_pipe_closed(&self) -> bool {
+        match &self.device {
+            Some(device) => device.is_pipe_closed(),
+            None => false,
+        }
     }
 }

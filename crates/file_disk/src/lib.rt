@@ -2,17 +2,22 @@
 //! in place once they are written and synced.
 #![tactic(auto)]
 
+mod bank;
 mod descriptor;
 mod device;
 mod disk;
+mod identity;
 mod keeping;
 mod memory;
 mod names;
 mod new_file;
+#[cfg(test)]
+mod output_tests;
 mod pair;
 mod reading;
 mod resolving;
 mod saving;
+mod stream;
 mod system;
 mod target;
 #[cfg(test)]
@@ -20,7 +25,7 @@ mod tests;
 
 pub use device::Device;
 pub use disk::Disk;
-pub use memory::{Behaviour, MemoryDevice};
-pub use resolving::is_standard_output;
+pub use memory::{Behaviour, MemoryDevice, MemoryStream};
+pub use stream::SystemStream;
 pub use system::System;
 pub use target::{StoredFile, Target};

@@ -7,7 +7,7 @@ use file_host::InputFault;
 use sf_base::Failure;
 use std::alloc::{AllocError, Global};
 use std::io;
-use std::io::ErrorKind;
+use std::io::{ErrorKind, Write};
 
 /// The most bytes that one call writes or reads, so that texts are written and read in pieces.
 const PIECE: usize = 3;
@@ -110,7 +110,34 @@ impl MemoryDevice {
     }
 }
 
+/// A stream of a device in memory, which keeps what is written.
+#[derive(Drop)]
+pub struct MemoryStream {
+    bytes: Vec<u8>,
+}
+
+impl MemoryStream {
+    /// Returns what was written.
+    pub fn bytes(&self) -> &[u8] {
+        self.bytes.as_slice()
+    }
+}
+
+impl Write for MemoryStream {
+    fn write(&mut self, bytes: &[u8]) -> io::Result<usize> {
+        let count = bytes.len().min(PIECE);
+        self.bytes.extend_from_slice(&bytes[..count])?;
+        Ok(count)
+    }
+
+    fn flush(&mut self) -> io::Result<()> {
+        Ok(())
+    }
+}
+
 impl Device for MemoryDevice {
+    type Stream = MemoryStream;
+
     ghost world = { λ device. None };
 
     ghost output = { λ device. None };
@@ -240,5 +267,43 @@ impl Device for MemoryDevice {
         }
         self.read += count;
         Ok(count)
+    }
+
+    fn read_head(&mut self, path: &str, head: &mut [u8]) -> bool {
+        let is_called = self.call().is_ok();
+        match self.file(path) {
+            Some(bytes) if is_called && bytes.len() >= head.len() => {
+                head.copy_from_slice(&bytes[..head.len()]);
+                true
+            }
+            _ => false,
+        }
+    }
+
+    fn is_one_file(&mut self, one: &str, other: &str) -> Result<bool, AllocError> {
+        match self.call() {
+            Ok(()) => Ok(one == other),
+            Err(_) => Err(AllocError),
+        }
+    }
+
+    fn is_output(&mut self, path: &str) -> Result<bool, AllocError> {
+        match self.call() {
+            Ok(()) => Ok(path == "pipe-output"),
+            Err(_) => Err(AllocError),
+        }
+    }
+
+    fn open_stream(&mut self, _path: &str) -> Result<MemoryStream, AllocError> {
+        match self.call() {
+            Ok(()) => Ok(MemoryStream {
+                bytes: Vec::new(self.alloc),
+            }),
+            Err(_) => Err(AllocError),
+        }
+    }
+
+    fn is_pipe_closed(&self) -> bool {
+        false
     }
 }

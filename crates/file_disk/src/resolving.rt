@@ -115,7 +115,7 @@ fn if_found<T: Drop>(found: Result<T, Error>) -> Result<Option<T>, AllocError> {
 }
 
 /// The last component of a path.
-fn name_of(path: &str) -> &str {
+pub(crate) fn name_of(path: &str) -> &str {
     match path.rsplit_once('/') {
         Some((_, name)) => name,
         None => path,
@@ -130,6 +130,9 @@ pub(crate) fn is_temporary(path: &str) -> bool {
 
 /// Whether a path leads to the standard output. That is written as a stream, so that later writes follow in order: a
 /// descriptor that is opened again by its path has a position of its own.
-pub fn is_standard_output<R: Files + AllocGlobal>(rt: &R, path: &str) -> Result<bool, AllocError> {
+pub(crate) fn is_standard_output<R: Files + AllocGlobal>(
+    rt: &R,
+    path: &str,
+) -> Result<bool, AllocError> {
     Ok(matches!(resolve(rt, path)?, Resolved::Descriptor(STANDARD_OUTPUT)))
 }

@@ -3,8 +3,10 @@ ghost use Rattle.std.specs.Prelude.{None, false};
 
 use crate::descriptor::Descriptor;
 use crate::device::Device;
+use crate::identity::is_one_file;
 use crate::names::folder_of;
-use crate::resolving::{Resolved, is_temporary, resolve};
+use crate::resolving::{Resolved, is_standard_output, is_temporary, resolve};
+use crate::stream::SystemStream;
 use crate::target::{StoredFile, Target};
 use file_host::InputFault;
 use sf_base::Failure;
@@ -28,6 +30,9 @@ pub struct System<'a, R: Files> {
     rt: &'a R,
     output: Option<R::File>,
     input: Option<R::File>,
+    // Whether the last write failed because nothing reads the other end of a pipe, and no file was opened for writing
+    // since.
+    is_pipe_closed: bool,
 }
 
 impl<'a, R: Files> System<'a, R> {
@@ -37,11 +42,14 @@ impl<'a, R: Files> System<'a, R> {
             rt,
             output: None,
             input: None,
+            is_pipe_closed: false,
         }
     }
 }
 
-impl<R: Files + AllocGlobal> Device for System<'_, R> {
+impl<'a, R: Files + AllocGlobal> Device for System<'a, R> {
+    type Stream = SystemStream<'a, R>;
+
     ghost world = { λ system. None };
 
     ghost output = { λ system. None };
@@ -69,11 +77,13 @@ impl<R: Files + AllocGlobal> Device for System<'_, R> {
     }
 
     fn check_writable(&mut self, path: &str) -> io::Result<()> {
+        self.is_pipe_closed = false;
         let _file = OpenOptions::new().write(true).open(self.rt, path)?;
         Ok(())
     }
 
     fn create_new(&mut self, path: &str, is_private: bool) -> io::Result<()> {
+        self.is_pipe_closed = false;
         let mode = if is_private { PRIVATE } else { SHARED };
         let file = OpenOptions::new()
             .write(true)
@@ -85,6 +95,7 @@ impl<R: Files + AllocGlobal> Device for System<'_, R> {
     }
 
     fn open_in_place(&mut self, path: &str) -> io::Result<()> {
+        self.is_pipe_closed = false;
         let file = match resolve(self.rt, path)? {
             Resolved::Descriptor(number) => Descriptor::new(self.rt, number)?.open(self.rt, path)?,
             _ => open_existing(self.rt, path)?,
@@ -94,10 +105,12 @@ impl<R: Files + AllocGlobal> Device for System<'_, R> {
     }
 
     fn append(&mut self, bytes: &[u8]) -> io::Result<usize> {
-        match &mut self.output {
-            Some(file) => file.write(bytes),
-            None => Err(io::Error::from(ErrorKind::NotFound)),
-        }
+        let Some(file) = &mut self.output else {
+            return Err(io::Error::from(ErrorKind::NotFound));
+        };
+        let answer = file.write(bytes);
+        self.is_pipe_closed = is_broken_pipe(&answer);
+        answer
     }
 
     fn sync(&mut self) -> io::Result<()> {
@@ -164,6 +177,37 @@ impl<R: Files + AllocGlobal> Device for System<'_, R> {
             Ok(count) => Ok(count),
             Err(error) => Err(failure_of(&error)),
         }
+    }
+
+    fn read_head(&mut self, path: &str, head: &mut [u8]) -> bool {
+        match File::open(self.rt, path) {
+            Ok(mut file) => file.read_exact(head).is_ok(),
+            Err(_) => false,
+        }
+    }
+
+    fn is_one_file(&mut self, one: &str, other: &str) -> Result<bool, AllocError> {
+        is_one_file(self.rt, one, other)
+    }
+
+    fn is_output(&mut self, path: &str) -> Result<bool, AllocError> {
+        is_standard_output(self.rt, path)
+    }
+
+    fn open_stream(&mut self, path: &str) -> Result<SystemStream<'a, R>, AllocError> {
+        SystemStream::new(self.rt, path)
+    }
+
+    fn is_pipe_closed(&self) -> bool {
+        self.is_pipe_closed
+    }
+}
+
+/// Whether a write failed because nothing reads the other end of a pipe.
+fn is_broken_pipe(answer: &io::Result<usize>) -> bool {
+    match answer {
+        Ok(_) => false,
+        Err(error) => error.kind() == ErrorKind::BrokenPipe,
     }
 }
 

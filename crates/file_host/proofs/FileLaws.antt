@@ -1,6 +1,6 @@
 -- Laws of files.
 use Rattle.std.proofs.Common.{◌≡◌, ◌≢◌, ℕ, List, [], ◌∷◌, ◌++◌, take, length, get_or, Option, Some, Result, Ok, Err}
-use Rattle.std.proofs.Common.{Bool, true, false, refl, sym, ap, subst, ◌∙◌, string_bytes, ◌<◌, ◌+◌, if◌then◌else◌, inl}
+use Rattle.std.proofs.Common.{Bool, true, false, refl, sym, ap, subst, ◌∙◌, string_bytes, ◌<◌, ◌+◌, if◌then◌else◌}
 use Rattle.std.specs.Prelude.{OnOk}
 use Rattle.std.specs.Option.{option_map}
 use Rattle.std.specs.Str.{bytes_eq}
@@ -9,8 +9,7 @@ use Rattle.std.proofs.lemmas.Slice.Eq.{bytes_eq-Decides}
 use Rattle.file_host.specs.declared.input_fault.InputFault.{InputFault}
 use Rattle.file_host.specs.declared.saved.SavedFile.{SavedFile}
 use Rattle.file_host.specs.World.{World, file_put, with_text, with_pair}
-use Rattle.file_host.specs.Saving.{Spoils, SpoilsPair}
-use Rattle.file_host.specs.Journal.{Pushes, no_files, held_after, found_or_not, world_of}
+use Rattle.file_host.specs.Journal.{Pushes, no_files, held_after, found_or_not, plain_paths, world_of}
 
 -- ---- one file
 
@@ -18,7 +17,7 @@ pick_other : {X : Type 0} (x y : X) (b : Bool) → (b ≡ true → ⊥) → (if 
 pick_other x y true h = absurd (h refl)
 pick_other x y false h = refl
 
-pick_it : {X : Type 0} (x y : X) (b : Bool) → b ≡ true → (if b then x else y) ≡ x
+pub pick_it : {X : Type 0} (x y : X) (b : Bool) → b ≡ true → (if b then x else y) ≡ x
 pick_it x y true h = refl
 pick_it x y false h = cc
 
@@ -74,33 +73,7 @@ world_pushed old new path bytes p =
     ap (held_after no_files) p.items ∙ held_more no_files old p.file
     ∙ ap (λ (x : List ℕ). file_put (held_after no_files old) x (Ok p.file.bytes.items)) p.named
     ∙ ap (λ (x : List ℕ). file_put (held_after no_files old) path (Ok x)) p.holds in
-    ap (λ (f : List ℕ → Result (List ℕ) InputFault). record {
-      place = λ (x : List ℕ). x;
-      is_link = λ (x : List ℕ). false;
-      stores = λ (x : List ℕ). true;
-      files = f;
-    }) files
-
--- nothing changed
-pub untouched : (world : World) (path text : List ℕ) → Spoils (Some world) (Some world) path text
-untouched world path text = record {
-  places = refl;
-  links = refl;
-  stores = refl;
-  here = λ stores. inl refl;
-  others = λ place apart there. refl;
-}
-
-pub untouched_pair : (world : World) (undo_path undo path text : List ℕ)
-    → SpoilsPair (Some world) (Some world) undo_path undo path text
-untouched_pair world undo_path undo path text = record {
-  places = refl;
-  links = refl;
-  stores = refl;
-  undo_here = λ apart stores. inl refl;
-  text_here = λ apart stores. inl refl;
-  others = λ place apart other there. refl;
-}
+    ap (λ (f : List ℕ → Result (List ℕ) InputFault). record { paths = plain_paths; files = f }) files
 
 -- the same for a save, which may fail
 pub saved_if_pushed : {U E : Type 0} (r : Result U E) (old new : List SavedFile) (path bytes : List ℕ)

@@ -3,7 +3,7 @@ use Rattle.std.specs.Prelude.{◌≡◌, ℕ, List, [], ◌∷◌, ◌++◌, Opt
 use Rattle.file_host.specs.declared.input_fault.InputFault.{InputFault}
 use Rattle.file_host.specs.declared.input_fault.InputFault.TheVariants.{NotFound}
 use Rattle.file_host.specs.declared.saved.SavedFile.{SavedFile}
-use Rattle.file_host.specs.World.{World, file_put}
+use Rattle.file_host.specs.World.{Paths, World, file_put}
 
 -- no files
 abbrev pub no_files : List ℕ → Result (List ℕ) InputFault
@@ -14,14 +14,18 @@ abbrev pub held_after : (List ℕ → Result (List ℕ) InputFault) → List Sav
 held_after held [] = held
 held_after held (file ∷ files) = held_after (file_put held (string_bytes file.path) (Ok file.bytes.items)) files
 
--- the world of a host in memory: no path is a link, and each place stores
-abbrev pub world_of : List SavedFile → World
-world_of saved = record {
+-- the paths of a host in memory: each is a place of its own, which stores
+abbrev pub plain_paths : Paths
+plain_paths = record {
   place = λ path. path;
   is_link = λ path. false;
+  is_output = λ path. false;
   stores = λ place. true;
-  files = held_after no_files saved;
+  is_shared = λ place. false;
 }
+
+abbrev pub world_of : List SavedFile → World
+world_of saved = record { paths = plain_paths; files = held_after no_files saved }
 
 -- the bytes that were found, or that there are none
 abbrev pub found_or_not : Option (List ℕ) → Result (List ℕ) InputFault

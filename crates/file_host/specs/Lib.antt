@@ -2,3 +2,4 @@ pub mod InputFaults
 pub mod World
 pub mod Saving
 pub mod Journal
+pub mod Checks

@@ -7,7 +7,7 @@ use Rattle.file_host.specs.declared.input_fault.InputFault.{InputFault}
 use Rattle.file_host.specs.declared.input_fault.InputFault.TheVariants.{NotFound}
 use Rattle.file_host.specs.declared.faults.PairFault.{PairFault}
 use Rattle.file_host.specs.declared.faults.PairFault.TheVariants as pair
-use Rattle.file_host.specs.World.{World, Gives, held_at, stores_at}
+use Rattle.file_host.specs.World.{World, Gives, held_at, place_of, stores_at}
 
 -- A read failed with the fault that the file at this path has, or since an allocation failed.
 abbrev pub ReadFails : Option World → List ℕ → Failure InputFault → Type 0
@@ -16,11 +16,9 @@ ReadFails world path OutOfMemory = ⊤
 
 -- Each file that was there at another place stays. The one at this path is as it was, or holds the whole text.
 pub record SpoilsOne (old new : World) (path text : List ℕ) : Type 0 where
-  pub places : new.place ≡ old.place
-  pub links : new.is_link ≡ old.is_link
-  pub stores : new.stores ≡ old.stores
+  pub paths : new.paths ≡ old.paths
   pub here : stores_at old path ≡ true → (held_at new path ≡ held_at old path) ⊎ (held_at new path ≡ Ok text)
-  pub others : (place : List ℕ) → place ≢ old.place path → old.files place ≢ Err NotFound
+  pub others : (place : List ℕ) → place ≢ place_of old path → old.files place ≢ Err NotFound
       → new.files place ≡ old.files place
 
 -- the same, as far as is known
@@ -45,16 +43,14 @@ pub record IsMovedAway (old new : World) (path : List ℕ) : Type 0 where
 -- undo script is as it was, or holds the whole script, or was moved away; the other file is as it was, or holds the whole
 -- text, and then the undo script is whole.
 pub record SpoilsTwo (old new : World) (undo_path undo path text : List ℕ) : Type 0 where
-  pub places : new.place ≡ old.place
-  pub links : new.is_link ≡ old.is_link
-  pub stores : new.stores ≡ old.stores
-  pub undo_here : old.place undo_path ≢ old.place path → stores_at old undo_path ≡ true
+  pub paths : new.paths ≡ old.paths
+  pub undo_here : place_of old undo_path ≢ place_of old path → stores_at old undo_path ≡ true
       → (held_at new undo_path ≡ held_at old undo_path) ⊎ (held_at new undo_path ≡ Ok undo)
       ⊎ IsMovedAway old new undo_path
-  pub text_here : old.place undo_path ≢ old.place path → stores_at old path ≡ true
+  pub text_here : place_of old undo_path ≢ place_of old path → stores_at old path ≡ true
       → (held_at new path ≡ held_at old path)
       ⊎ ((held_at new path ≡ Ok text) × (stores_at old undo_path ≡ true → held_at new undo_path ≡ Ok undo))
-  pub others : (place : List ℕ) → place ≢ old.place undo_path → place ≢ old.place path → old.files place ≢ Err NotFound
+  pub others : (place : List ℕ) → place ≢ place_of old undo_path → place ≢ place_of old path → old.files place ≢ Err NotFound
       → new.files place ≡ old.files place
 
 -- the same, as far as is known
@@ -67,3 +63,12 @@ SpoilsPair (Some old) (Some new) undo_path undo path text = SpoilsTwo old new un
 abbrev pub PairFails : Option World → Option World → List ℕ → List ℕ → List ℕ → List ℕ → PairFault → Type 0
 PairFails old new undo_path undo path text (pair.Write which written) = SpoilsPair old new undo_path undo path text
 PairFails old new undo_path undo path text pair.OutOfMemory = new ≡ old
+
+-- a write fault counts this many bytes
+abbrev pub Counts : ℕ → Failure WriteFault → Type 0
+Counts n (Fault fault) = fault.written ≡ n
+Counts n OutOfMemory = ⊤
+
+abbrev pub CountsPair : ℕ → PairFault → Type 0
+CountsPair n (pair.Write which written) = written ≡ n
+CountsPair n pair.OutOfMemory = ⊤

@@ -1,18 +1,26 @@
 -- The world of files, and how it changes. None stands for a world of which nothing is known.
-use Rattle.std.specs.Prelude.{◌≡◌, ℕ, List, length, Option, Some, None, Result, Ok, Err, Bool, true}
+use Rattle.std.specs.Prelude.{◌≡◌, ℕ, List, length, Option, Some, None, Result, Ok, Err, Bool, true, false}
 use Rattle.std.specs.Prelude.{if◌then◌else◌, nat_le, ⊤}
 use Rattle.std.specs.Str.{bytes_eq}
 use Rattle.file_host.specs.declared.input_fault.InputFault.{InputFault}
 use Rattle.file_host.specs.declared.input_fault.InputFault.TheVariants.{NotFound, TooLong}
 
-pub record World : Type 0 where
+-- where paths lead
+pub record Paths : Type 0 where
   -- the place of the file that a path leads to: two paths may lead to one file
   pub place : List ℕ → List ℕ
   -- whether a path is itself a link, which leads to the place of another path
   pub is_link : List ℕ → Bool
+  -- whether a path leads to the standard output of the program
+  pub is_output : List ℕ → Bool
   -- whether what is written at a place is what a later read gives there: a regular file or nothing yet, and no pipe,
   -- device or folder
   pub stores : List ℕ → Bool
+  -- whether several outputs may be at a place: a character device, which keeps nothing
+  pub is_shared : List ℕ → Bool
+
+pub record World : Type 0 where
+  pub paths : Paths
   -- what the file at each place holds, or why it can't be read: NotFound where there is none
   pub files : List ℕ → Result (List ℕ) InputFault
 
@@ -25,9 +33,13 @@ abbrev pub read_of : Result (List ℕ) InputFault → Result (List ℕ) InputFau
 read_of (Ok bytes) = if nat_le (length bytes) most_bytes then Ok bytes else Err TooLong
 read_of (Err fault) = Err fault
 
+-- the place that a path leads to
+abbrev pub place_of : World → List ℕ → List ℕ
+place_of world path = world.paths.place path
+
 -- what the file at the place of a path holds
 abbrev pub held_at : World → List ℕ → Result (List ℕ) InputFault
-held_at world path = world.files (world.place path)
+held_at world path = world.files (place_of world path)
 
 -- what a read at a path gives
 abbrev pub file_at : World → List ℕ → Result (List ℕ) InputFault
@@ -35,7 +47,7 @@ file_at world path = read_of (held_at world path)
 
 -- whether what is written at a path is what a later read gives there
 abbrev pub stores_at : World → List ℕ → Bool
-stores_at world path = world.stores (world.place path)
+stores_at world path = world.paths.stores (place_of world path)
 
 -- files, of which the one at this place holds this
 abbrev pub file_put : (List ℕ → Result (List ℕ) InputFault) → List ℕ → Result (List ℕ) InputFault → List ℕ
@@ -45,10 +57,8 @@ file_put files place left asked = if bytes_eq asked place then left else files a
 -- a world whose file at this path holds this
 abbrev pub with_file : List ℕ → Result (List ℕ) InputFault → World → World
 with_file path left world = record {
-  place = world.place;
-  is_link = world.is_link;
-  stores = world.stores;
-  files = file_put world.files (world.place path) left;
+  paths = world.paths;
+  files = file_put world.files (place_of world path) left;
 }
 
 -- a world without a file at this path
@@ -62,6 +72,17 @@ with_text path text world = if stores_at world path then with_file path (Ok text
 -- the world after an undo script was saved, and then a text
 abbrev pub with_pair : List ℕ → List ℕ → List ℕ → List ℕ → World → World
 with_pair undo_path undo path text world = with_text path text (with_text undo_path undo world)
+
+-- the places that store, but for one that is written as a stream
+abbrev pub stores_but : (List ℕ → Bool) → List ℕ → List ℕ → Bool
+stores_but stores place asked = if bytes_eq asked place then false else stores asked
+
+-- a world in which the file at this path is written as a stream: what a later read gives there isn't known
+abbrev pub with_stream : List ℕ → World → World
+with_stream path world = record {
+  paths = record world.paths { stores = stores_but world.paths.stores (place_of world path) };
+  files = world.files;
+}
 
 -- a read at this path gives this, as far as is known
 abbrev pub Gives : Option World → List ℕ → Result (List ℕ) InputFault → Type 0

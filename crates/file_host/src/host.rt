@@ -5,17 +5,25 @@ use crate::input_fault::InputFault;
 use base_outputs::WriteFault;
 use base_texts::Text;
 use sf_base::Failure;
-use std::alloc::Global;
+use std::alloc::{AllocError, Global};
+use std::io::Write;
 
 /// The world of files, each known by its path.
 pub trait Host {
-    ghost use Rattle.std.specs.Prelude.{◌≡◌, Option, Ok, IfOk, IfErr, OnOk};
+    ghost use Rattle.std.specs.Prelude.{◌≡◌, ℕ, Option, Ok, IfOk, IfErr, OnOk, OnErr};
     ghost use Rattle.std.specs.Option.{option_map};
-    ghost use Rattle.file_host.specs.World.{World, Gives, with_text, with_pair};
-    ghost use Rattle.file_host.specs.Saving.{ReadFails, SaveFails, PairFails};
+    ghost use Rattle.file_host.specs.World.{World, Gives, with_text, with_pair, with_stream};
+    ghost use Rattle.file_host.specs.Saving.{ReadFails, SaveFails, PairFails, Counts, CountsPair};
+    ghost use Rattle.file_host.specs.Checks.{IsOneFile, IsOutput, HasBank};
+
+    /// A file that is written as a stream.
+    type Stream: Write + Drop;
 
     // The world, or None where nothing is known of it.
     ghost world: { Self → Option World };
+
+    // How many bytes of its text the last save wrote that failed by a write fault.
+    ghost written: { Self → ℕ };
 
     /// Reads a whole file.
     fn read(&mut self, alloc: Global, path: &str) -> Result<Vec<u8>, Failure<InputFault>>
@@ -27,7 +35,8 @@ pub trait Host {
     /// whole text.
     fn save<T: Text>(&mut self, path: &str, text: &T) -> Result<(), Failure<WriteFault>>
         ensures saved { OnOk result (world self.new ≡ option_map (with_text path.now (T.bytes text.now)) (world self.old)) }
-        ensures failed { IfErr result (SaveFails (world self.old) (world self.new) path.now (T.bytes text.now)) };
+        ensures failed { IfErr result (SaveFails (world self.old) (world self.new) path.now (T.bytes text.now)) }
+        ensures counted { IfErr result (Counts (written self.new)) };
 
     /// Saves an undo script, and then the text that it undoes, each in place of the file that is there. If that fails,
     /// each file is as it was, or holds its whole text, and the new text is never without its undo script; an old undo
@@ -40,5 +49,31 @@ pub trait Host {
         text: &T,
     ) -> Result<(), PairFault>
         ensures saved { OnOk result (world self.new ≡ option_map (with_pair undo_path.now (U.bytes undo.now) path.now (T.bytes text.now)) (world self.old)) }
-        ensures failed { IfErr result (PairFails (world self.old) (world self.new) undo_path.now (U.bytes undo.now) path.now (T.bytes text.now)) };
+        ensures failed { IfErr result (PairFails (world self.old) (world self.new) undo_path.now (U.bytes undo.now) path.now (T.bytes text.now)) }
+        ensures counted { IfErr result (CountsPair (written self.new)) };
+
+    /// Whether two paths lead to one file: by links, by hard links, or as a new file in one folder. Never for a
+    /// character device, such as /dev/null.
+    fn is_one_file(&mut self, one: &str, other: &str) -> Result<bool, AllocError>
+        ensures found { IfOk result (IsOneFile (world self.old) one.now other.now) }
+        ensures stays { world self.new ≡ world self.old };
+
+    /// Whether there is a regular file at a path that begins as a bank does.
+    fn has_bank(&mut self, path: &str) -> Result<bool, AllocError>
+        ensures found { IfOk result (HasBank (world self.old) path.now) }
+        ensures stays { world self.new ≡ world self.old };
+
+    /// Whether a path leads to the standard output of the program.
+    fn is_output(&mut self, path: &str) -> Result<bool, AllocError>
+        ensures found { IfOk result (IsOutput (world self.old) path.now) }
+        ensures stays { world self.new ≡ world self.old };
+
+    /// Opens a file that is written as a stream, from its first write or flush on. A failed allocation is the only
+    /// error.
+    fn open_stream(&mut self, path: &str) -> Result<Self::Stream, AllocError>
+        ensures opened { OnOk result (world self.new ≡ option_map (with_stream path.now) (world self.old)) }
+        ensures stays { OnErr result (world self.new ≡ world self.old) };
+
+    /// Whether the last save failed because nothing reads the other end of a pipe.
+    fn is_pipe_closed(&self) -> bool;
 }

@@ -1,6 +1,7 @@
 //! The world of files as a program sees it: files that are read whole, and texts that are saved whole.
 #![tactic(auto)]
 
+mod checks;
 mod faults;
 mod host;
 mod input_fault;
@@ -9,7 +10,8 @@ mod saved;
 #[cfg(test)]
 mod tests;
 
+pub use checks::{begins_as_bank, check_apart, check_no_bank};
 pub use faults::{PairFault, Which};
 pub use host::Host;
 pub use input_fault::InputFault;
-pub use memory::MemoryHost;
+pub use memory::{MemoryHost, MemoryStream};

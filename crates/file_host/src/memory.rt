@@ -1,8 +1,10 @@
 //! A host in memory, for tests.
-ghost use Rattle.std.specs.Prelude.{◌≡◌, [], Some, OnOk, OnErr, IfOk};
+ghost use Rattle.std.specs.Prelude.{◌≡◌, ℕ, [], Some, OnOk, OnErr, IfOk, IfErr};
 ghost use Rattle.std.specs.Option.{option_map};
+ghost use Rattle.file_host.specs.Saving.{Counts, CountsPair};
 ghost use Rattle.file_host.specs.Journal.{Pushes, no_files, held_after, found_or_not, world_of};
 
+use crate::checks::begins_as_bank;
 use crate::faults::{PairFault, Which};
 use crate::host::Host;
 use crate::input_fault::InputFault;
@@ -12,6 +14,8 @@ use base_texts::{Text, write_text};
 use sf_base::Failure;
 use sf_base::limits::FILE_LENGTH;
 use std::alloc::{AllocError, Global};
+use std::io;
+use std::io::Write;
 
 /// A host whose files are in memory, each path a file of its own.
 #[derive(Drop)]
@@ -21,6 +25,8 @@ pub struct MemoryHost {
     files: Vec<SavedFile>,
     // How many more bytes can be saved.
     room: usize,
+    // How many bytes of its text the last save wrote that failed.
+    written: u64,
 }
 
 impl MemoryHost {
@@ -32,6 +38,7 @@ impl MemoryHost {
             alloc,
             files: Vec::new(alloc),
             room,
+            written: 0,
         }
     }
 
@@ -46,15 +53,16 @@ impl MemoryHost {
     fn push<T: Text>(&mut self, path: &str, text: &T) -> Result<(), Failure<WriteFault>>
         ensures pushed { OnOk result (Pushes self.old.files.items self.new.files.items path.now (T.bytes text.now)) }
         ensures failed { OnErr result (self.new.files.items ≡ self.old.files.items) }
+        ensures counted { IfErr result (Counts self.new.written) }
     {
         let Ok(bytes) = written(self.alloc, text) else {
             return Err(Failure::OutOfMemory);
         };
         let length = bytes.len();
         if length > self.room {
-            return Err(Failure::Fault(WriteFault {
-                written: self.room as u64,
-            }));
+            let written = self.room as u64;
+            self.written = written;
+            return Err(Failure::Fault(WriteFault { written }));
         }
         self.keep(path, bytes)?;
         self.room -= length;
@@ -86,8 +94,26 @@ fn newest<'a>(files: &'a [SavedFile], path: &str) -> Option<&'a [u8]>
     found
 }
 
+/// A stream of a host in memory, which has none: opening one is out of memory.
+#[derive(Drop)]
+pub struct MemoryStream;
+
+impl Write for MemoryStream {
+    fn write(&mut self, bytes: &[u8]) -> io::Result<usize> {
+        Ok(bytes.len())
+    }
+
+    fn flush(&mut self) -> io::Result<()> {
+        Ok(())
+    }
+}
+
 impl Host for MemoryHost {
     ghost world = { λ host. Some (world_of host.files.items) };
+
+    ghost written = { λ host. host.written };
+
+    type Stream = MemoryStream;
 
     fn read(&mut self, alloc: Global, path: &str) -> Result<Vec<u8>, Failure<InputFault>> {
         let Some(bytes) = newest(self.files.as_slice(), path) else {
@@ -125,10 +151,37 @@ impl Host for MemoryHost {
             }
         }
     }
+
+    fn is_one_file(&mut self, one: &str, other: &str) -> Result<bool, AllocError> {
+        Ok(one == other)
+    }
+
+    fn has_bank(&mut self, path: &str) -> Result<bool, AllocError> {
+        match newest(self.files.as_slice(), path) {
+            Some(bytes) => Ok(begins_as_bank(bytes)),
+            None => Ok(false),
+        }
+    }
+
+    fn is_output(&mut self, path: &str) -> Result<bool, AllocError> {
+        let _ = path;
+        Ok(false)
+    }
+
+    fn open_stream(&mut self, path: &str) -> Result<MemoryStream, AllocError> {
+        let _ = path;
+        Err(AllocError)
+    }
+
+    fn is_pipe_closed(&self) -> bool {
+        false
+    }
 }
 
 // The fault of a pair, of which this text can't be saved.
-fn pair_fault(which: Which, failure: Failure<WriteFault>) -> PairFault {
+fn pair_fault(which: Which, failure: Failure<WriteFault>) -> PairFault
+    ensures { (n : ℕ) → Counts n failure → CountsPair n result }
+{
     match failure {
         Failure::OutOfMemory => PairFault::OutOfMemory,
         Failure::Fault(fault) => PairFault::Write(which, fault.written),

@@ -1,7 +1,7 @@
 //! Tests of the host in memory.
 
-use crate::{Host, InputFault, MemoryHost, PairFault, Which};
-use base_outputs::{Output, WriteFault};
+use crate::{Host, InputFault, MemoryHost, PairFault, Which, check_apart, check_no_bank};
+use base_outputs::{Output, OutputFault, WriteFault};
 use base_texts::Text;
 use sf_base::Failure;
 use std::io::Write;
@@ -53,4 +53,31 @@ fn a_pair_is_saved_together(rt: HostRuntime) {
     );
     assert!(rt; host.file("a") == Some(b"new".as_slice()));
     assert!(rt; host.file("undo") == Some(b"undo".as_slice()));
+}
+
+#[test]
+fn an_output_is_apart(rt: HostRuntime) {
+    let mut host = MemoryHost::new(rt.alloc(), 0);
+    let is_rejected = Err(Failure::Fault(OutputFault::SameFile));
+    for (output, answer) in [("c", Ok(())), ("a", is_rejected), ("b", is_rejected)] {
+        assert!(rt; check_apart(&mut host, output, &["a", "b"]) == answer);
+    }
+}
+
+#[test]
+fn an_output_replaces_no_bank(rt: HostRuntime) {
+    let mut host = MemoryHost::new(rt.alloc(), 100);
+    assert!(rt; host.save("bank", &Bytes(b"RIFF\x08\0\0\0sfbkLIST")).is_ok());
+    assert!(rt; host.save("wave", &Bytes(b"RIFF\x08\0\0\0WAVEfmt ")).is_ok());
+    assert!(rt; host.save("short", &Bytes(b"RIFF\x08\0\0\0sfb")).is_ok());
+    let is_rejected = Err(Failure::Fault(OutputFault::HoldsBank));
+    for (output, force, answer) in [
+        ("new", false, Ok(())),
+        ("wave", false, Ok(())),
+        ("short", false, Ok(())),
+        ("bank", true, Ok(())),
+        ("bank", false, is_rejected),
+    ] {
+        assert!(rt; check_no_bank(&mut host, output, force) == answer);
+    }
 }

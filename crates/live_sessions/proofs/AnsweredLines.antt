@@ -5,6 +5,7 @@ use Rattle.std.specs.Prelude.{IfOk}
 use Rattle.std.specs.List.{flat_map}
 use Rattle.std.specs.Io.KnownBytes.{Appends}
 use Rattle.std.proofs.KnownBytes.{Appends-nil}
+use Rattle.file_host.specs.World.{World}
 use Rattle.sf_base.specs.declared.memory.Failure.{Failure}
 use Rattle.sf_base.specs.declared.memory.Failure.TheVariants as failures
 use Rattle.script_tokens.specs.TokenValue.{values_in}
@@ -24,38 +25,43 @@ use Rattle.live_sessions.specs.declared.requests.Next.{Next}
 use Rattle.live_sessions.specs.declared.requests.Next.TheVariants as next
 use Rattle.live_sessions.specs.declared.fault.LiveFault.{LiveFault}
 use Rattle.live_sessions.specs.declared.fault.LiveFault.TheVariants as fault
-use Rattle.live_sessions.specs.Saved.{Saved, Adds}
+use Rattle.live_sessions.specs.declared.saving.SessionFiles.{SessionFiles}
 use Rattle.live_sessions.specs.AnswerTexts.{kind_of, listing_now, preamble, next_of, is_last, failure_answer, IsWritten}
-use Rattle.live_sessions.specs.Steps.{RequestIs, StopsIn, FramesStop, Does, frames_of, saves_of, preamble_of, events_of}
-use Rattle.live_sessions.specs.Steps.{is_end}
-use Rattle.live_sessions.specs.Turns.{RequestResult, LineIs, Turn, Streams, answered, ends}
+use Rattle.live_sessions.specs.Streams.{Streams, SavesNothing}
+use Rattle.live_sessions.specs.Steps.{RequestIs, StopsIn, FramesStop, Does, frames_of, preamble_of}
+use Rattle.live_sessions.specs.Steps.{events_of, is_end}
+use Rattle.live_sessions.specs.Turns.{RequestResult, LineIs, FilesAfterAnswer, Turn, answered, ends}
 use Rattle.live_sessions.specs.Runs.{Answers, IsLineResult, StopsLine}
-use Rattle.live_sessions.proofs.RequestLaws.{adds_nothing}
+use Rattle.live_sessions.proofs.RequestLaws.{with_input, request_alike, stops_alike, files_after_memory}
 
 -- the outputs of a session
-abbrev pub around : Option (List ℕ) → Option (List ℕ) → Option (List Saved) → Streams
-around answers pcm saved = record { input = None; answers = answers; pcm = pcm; saved = saved }
+abbrev pub around : Option (List ℕ) → Option (List ℕ) → Option World → ℕ → Streams
+around answers pcm files written = with_input None answers pcm files written
 
 abbrev pub turn_of : List ℕ → LiveState → Option Answer → LiveState → Turn
 turn_of line old a new = record { line = line; old = old; answer = a; new = new }
 
 -- ---- a line without a request
 
-pub none_asked : (counts : Counts) (line : List ℕ) (s : LiveState) (o p : Option (List ℕ)) (v : Option (List Saved))
+pub none_asked : (own : SessionFiles) (counts : Counts) (line : List ℕ) (s : LiveState) (o p : Option (List ℕ))
+    (v : Option World) (y : ℕ)
     → request_of (values_in line) ≡ Ok None
-    → Answers counts line s s (around o p v) (around o p v) false
-none_asked counts line s o p v e = record {
+    → Answers own counts line s s (around o p v y) (around o p v y) false
+none_asked own counts line s o p v y e = record {
   turn = turn_of line s None s;
   line_is = refl;
   begins = refl;
   leaves = refl;
   passes = record {
     is = (e, refl);
-    answers = subst (λ (x : RequestResult). Appends o o (answered x None (preamble_of counts s) ++ [])) (sym e) (Appends-nil o);
+    answers = subst (λ (x : RequestResult). Appends o o (answered x None (preamble_of counts s) ++ [])) (sym e)
+        (Appends-nil o);
     pcm =
         subst (λ (x : RequestResult). Appends p p (flat_map sample_bytes (answered x None (frames_of s)))) (sym e)
         (Appends-nil p);
-    saved = subst (λ (x : RequestResult). Adds v v (answered x None (saves_of s))) (sym e) (adds_nothing v);
+    files =
+        subst (λ (x : RequestResult). FilesAfterAnswer own x s None (around o p v y) (around o p v y)) (sym e)
+        (refl, refl);
   };
   ends = ap (λ (x : RequestResult). ends x None) e;
 }
@@ -63,58 +69,67 @@ none_asked counts line s o p v e = record {
 -- ---- a line with a fault, or whose allocation fails
 
 -- a line with this answer writes this answer alone
-pub record Bare (counts : Counts) (s : LiveState) (x : RequestResult) (a : Answer) : Type 0 where
+pub record Bare (own : SessionFiles) (counts : Counts) (s : LiveState) (x : RequestResult) (a : Answer) : Type 0 where
   pub is : LineIs x s (Some a) s
   pub reported : answered x (Some a) (preamble_of counts s) ≡ []
   pub frames : answered x (Some a) (frames_of s) ≡ []
-  pub saves : answered x (Some a) (saves_of s) ≡ []
+  pub files : (b c : Streams) → SavesNothing b c → FilesAfterAnswer own x s (Some a) b c
   pub ends : ends x (Some a) ≡ false
 
--- a request that runs out of memory writes no listing or frames, saves nothing, changes no voice and ends no session
+-- a request that runs out of memory writes no listing or frames, changes no voice and ends no session
 abbrev pub NothingDone : LiveState → Request → LiveState → Type 0
 NothingDone old r new =
     ((counts : Counts) → preamble_of counts old r answer.OutOfMemory ≡ []) × (frames_of old r answer.OutOfMemory ≡ [])
-    × (saves_of old r answer.OutOfMemory ≡ [])
     × (events_of r answer.OutOfMemory new ≡ []) × (is_end r answer.OutOfMemory ≡ false)
 
 pub nothing_done : (old : LiveState) (r : Request) (new : LiveState) → NothingDone old r new
-nothing_done old (asks.Edit e) new = ((λ counts. refl), refl, refl, refl, refl)
-nothing_done old (asks.Neutral e) new = ((λ counts. refl), refl, refl, refl, refl)
-nothing_done old asks.Undo new = ((λ counts. refl), refl, refl, refl, refl)
-nothing_done old asks.Redo new = ((λ counts. refl), refl, refl, refl, refl)
-nothing_done old (asks.Note n) new = ((λ counts. refl), refl, refl, refl, refl)
-nothing_done old (asks.Frames n) new = ((λ counts. refl), refl, refl, refl, refl)
-nothing_done old (asks.Save paths) new = ((λ counts. refl), refl, refl, refl, refl)
-nothing_done old asks.Show new = ((λ counts. refl), refl, refl, refl, refl)
-nothing_done old asks.Help new = ((λ counts. refl), refl, refl, refl, refl)
-nothing_done old asks.Quit new = ((λ counts. refl), refl, refl, refl, refl)
+nothing_done old (asks.Edit e) new = ((λ counts. refl), refl, refl, refl)
+nothing_done old (asks.Neutral e) new = ((λ counts. refl), refl, refl, refl)
+nothing_done old asks.Undo new = ((λ counts. refl), refl, refl, refl)
+nothing_done old asks.Redo new = ((λ counts. refl), refl, refl, refl)
+nothing_done old (asks.Note n) new = ((λ counts. refl), refl, refl, refl)
+nothing_done old (asks.Frames n) new = ((λ counts. refl), refl, refl, refl)
+nothing_done old (asks.Save paths) new = ((λ counts. refl), refl, refl, refl)
+nothing_done old asks.Show new = ((λ counts. refl), refl, refl, refl)
+nothing_done old asks.Help new = ((λ counts. refl), refl, refl, refl)
+nothing_done old asks.Quit new = ((λ counts. refl), refl, refl, refl)
 
-memory_bare : (counts : Counts) (s : LiveState) (x : RequestResult) → Bare counts s x answer.OutOfMemory
-memory_bare counts s (Ok None) = record { is = inr (refl, refl); reported = refl; frames = refl; saves = refl; ends = refl }
-memory_bare counts s (Ok (Some r)) =
+memory_bare : (own : SessionFiles) (counts : Counts) (s : LiveState) (x : RequestResult)
+    → Bare own counts s x answer.OutOfMemory
+memory_bare own counts s (Ok None) =
+    record { is = inr (refl, refl); reported = refl; frames = refl; files = λ b c h. h; ends = refl }
+memory_bare own counts s (Ok (Some r)) =
     let none = nothing_done s r s in
-    record { is = inr (refl, refl); reported = none.0 counts; frames = none.1; saves = none.2; ends = none.4 }
-memory_bare counts s (Err f) = record { is = inr (refl, refl); reported = refl; frames = refl; saves = refl; ends = refl }
+    record {
+      is = inr (refl, refl);
+      reported = none.0 counts;
+      frames = none.1;
+      files = λ b c h. files_after_memory own s r b c h;
+      ends = none.3;
+    }
+memory_bare own counts s (Err f) =
+    record { is = inr (refl, refl); reported = refl; frames = refl; files = λ b c h. h; ends = refl }
 
-fault_bare : (counts : Counts) (s : LiveState) (x : RequestResult) (f : RequestFault) → x ≡ Err f → Bare counts s x (answer.Fault f)
-fault_bare counts s x f e =
-    let at : Bare counts s (Err f) (answer.Fault f) =
-    record { is = inl (refl, refl); reported = refl; frames = refl; saves = refl; ends = refl } in
-    subst (λ (y : RequestResult). Bare counts s y (answer.Fault f)) (sym e) at
+fault_bare : (own : SessionFiles) (counts : Counts) (s : LiveState) (x : RequestResult) (f : RequestFault) → x ≡ Err f
+    → Bare own counts s x (answer.Fault f)
+fault_bare own counts s x f e =
+    let at : Bare own counts s (Err f) (answer.Fault f) =
+    record { is = inl (refl, refl); reported = refl; frames = refl; files = λ b c h. h; ends = refl } in
+    subst (λ (y : RequestResult). Bare own counts s y (answer.Fault f)) (sym e) at
 
-failure_bare : (counts : Counts) (s : LiveState) (x : RequestResult) (why : Failure RequestFault) → Fails why x
-    → Bare counts s x (failure_answer why)
-failure_bare counts s x (failures.Fault f) h = fault_bare counts s x f h
-failure_bare counts s x failures.OutOfMemory h = memory_bare counts s x
+failure_bare : (own : SessionFiles) (counts : Counts) (s : LiveState) (x : RequestResult) (why : Failure RequestFault)
+    → Fails why x → Bare own counts s x (failure_answer why)
+failure_bare own counts s x (failures.Fault f) h = fault_bare own counts s x f h
+failure_bare own counts s x failures.OutOfMemory h = memory_bare own counts s x
 
-failure_written : (counts : Counts) (line : List ℕ) (s : LiveState) (o n p : Option (List ℕ)) (v : Option (List Saved))
-    (why : Failure RequestFault) (a : Answer)
+failure_written : (own : SessionFiles) (counts : Counts) (line : List ℕ) (s : LiveState) (o n p : Option (List ℕ))
+    (v : Option World) (y : ℕ) (why : Failure RequestFault) (a : Answer)
     → Fails why (request_of (values_in line)) → a ≡ failure_answer why → Appends o n (answer_text a)
-    → Answers counts line s s (around o p v) (around n p v) false
-failure_written counts line s o n p v why a h e is_written =
-    let b : Bare counts s (request_of (values_in line)) a =
-    subst (λ (x : Answer). Bare counts s (request_of (values_in line)) x) (sym e)
-    (failure_bare counts s (request_of (values_in line)) why h) in
+    → Answers own counts line s s (around o p v y) (around n p v y) false
+failure_written own counts line s o n p v y why a h e is_written =
+    let b : Bare own counts s (request_of (values_in line)) a =
+    subst (λ (x : Answer). Bare own counts s (request_of (values_in line)) x) (sym e)
+    (failure_bare own counts s (request_of (values_in line)) why h) in
     record {
       turn = turn_of line s (Some a) s;
       line_is = refl;
@@ -124,19 +139,20 @@ failure_written counts line s o n p v why a h e is_written =
         is = b.is;
         answers = subst (λ (xs : List ℕ). Appends o n (xs ++ answer_text a)) (sym b.reported) is_written;
         pcm = subst (λ (xs : List ℤ). Appends p p (flat_map sample_bytes xs)) (sym b.frames) (Appends-nil p);
-        saved = subst (λ (xs : List Saved). Adds v v xs) (sym b.saves) (adds_nothing v);
+        files = b.files (around o p v y) (around n p v y) (refl, refl);
       };
       ends = b.ends;
     }
 
-failure_not_written : (counts : Counts) (line : List ℕ) (s : LiveState) (o n p : Option (List ℕ)) (v : Option (List Saved))
-    (why : Failure RequestFault) (a : Answer) (f : LiveFault)
-    → Fails why (request_of (values_in line)) → a ≡ failure_answer why → IsWritten {U = Next} o n (answer_text a) (Err f)
-    → StopsLine counts line s (around o p v) (around n p v) f
-failure_not_written counts line s o n p v why a (fault.Answers k) h e is_written =
-    let b : Bare counts s (request_of (values_in line)) a =
-    subst (λ (x : Answer). Bare counts s (request_of (values_in line)) x) (sym e)
-    (failure_bare counts s (request_of (values_in line)) why h) in
+failure_not_written : (own : SessionFiles) (counts : Counts) (line : List ℕ) (s : LiveState) (o n p : Option (List ℕ))
+    (v : Option World) (y : ℕ) (why : Failure RequestFault) (a : Answer) (f : LiveFault)
+    → Fails why (request_of (values_in line)) → a ≡ failure_answer why
+    → IsWritten {U = Next} o n (answer_text a) (Err f)
+    → StopsLine own counts line s (around o p v y) (around n p v y) f
+failure_not_written own counts line s o n p v y why a (fault.Answers k) h e is_written =
+    let b : Bare own counts s (request_of (values_in line)) a =
+    subst (λ (x : Answer). Bare own counts s (request_of (values_in line)) x) (sym e)
+    (failure_bare own counts s (request_of (values_in line)) why h) in
     record {
       turn = turn_of line s (Some a) s;
       line_is = refl;
@@ -146,24 +162,24 @@ failure_not_written counts line s o n p v why a (fault.Answers k) h e is_written
         within = subst (λ (xs : List ℕ). k ≤ length (xs ++ answer_text a)) (sym b.reported) is_written.0;
         answers = subst (λ (xs : List ℕ). Appends o n (take k (xs ++ answer_text a))) (sym b.reported) is_written.1;
         pcm = subst (λ (xs : List ℤ). Appends p p (flat_map sample_bytes xs)) (sym b.frames) (Appends-nil p);
-        saved = subst (λ (xs : List Saved). Adds v v xs) (sym b.saves) (adds_nothing v);
+        files = b.files (around o p v y) (around n p v y) (refl, refl);
       };
     }
-failure_not_written counts line s o n p v why a (fault.File g) h e is_written = absurd is_written
-failure_not_written counts line s o n p v why a fault.Memory h e is_written = absurd is_written
-failure_not_written counts line s o n p v why a fault.Input h e is_written = absurd is_written
-failure_not_written counts line s o n p v why a (fault.Pcm k) h e is_written = absurd is_written
+failure_not_written own counts line s o n p v y why a (fault.File g) h e is_written = absurd is_written
+failure_not_written own counts line s o n p v y why a fault.Memory h e is_written = absurd is_written
+failure_not_written own counts line s o n p v y why a fault.Input h e is_written = absurd is_written
+failure_not_written own counts line s o n p v y why a (fault.Pcm k) h e is_written = absurd is_written
 
-pub failure_answered : (counts : Counts) (line : List ℕ) (s : LiveState) (o n p : Option (List ℕ)) (v : Option (List Saved))
-    (why : Failure RequestFault) (a : Answer) (r : Result Next LiveFault)
+pub failure_answered : (own : SessionFiles) (counts : Counts) (line : List ℕ) (s : LiveState) (o n p : Option (List ℕ))
+    (v : Option World) (y : ℕ) (why : Failure RequestFault) (a : Answer) (r : Result Next LiveFault)
     → Fails why (request_of (values_in line)) → a ≡ failure_answer why → IsWritten o n (answer_text a) r
     → IfOk r (λ (x : Next). x ≡ next.Line)
-    → IsLineResult counts line s s (around o p v) (around n p v) r
-failure_answered counts line s o n p v why a (Ok x) h e is_written goes =
-    subst (λ (y : Next). Answers counts line s s (around o p v) (around n p v) (is_last y)) (sym goes)
-    (failure_written counts line s o n p v why a h e is_written)
-failure_answered counts line s o n p v why a (Err f) h e is_written goes =
-    failure_not_written counts line s o n p v why a f h e is_written
+    → IsLineResult own counts line s s (around o p v y) (around n p v y) r
+failure_answered own counts line s o n p v y why a (Ok x) h e is_written goes =
+    subst (λ (u : Next). Answers own counts line s s (around o p v y) (around n p v y) (is_last u)) (sym goes)
+    (failure_written own counts line s o n p v y why a h e is_written)
+failure_answered own counts line s o n p v y why a (Err f) h e is_written goes =
+    failure_not_written own counts line s o n p v y why a f h e is_written
 
 -- ---- a request
 
@@ -219,12 +235,13 @@ same_end old new asks.Quit (answer.WriteFault path n) h = absurd h
 same_end old new asks.Quit (answer.Rejected path f) h = absurd h
 
 -- the turn of a line with this request
-request_written : (counts : Counts) (line : List ℕ) (old new : LiveState) (r : Request) (a : Answer) (k : RequestKind)
-    (next : Next) (o n p q : Option (List ℕ)) (v w : Option (List Saved))
-    → request_of (values_in line) ≡ Ok (Some r) → k ≡ kind_of r → next ≡ next_of k → Does old new r a p q v w
+request_written : (own : SessionFiles) (counts : Counts) (line : List ℕ) (old new : LiveState) (r : Request)
+    (a : Answer) (k : RequestKind) (next : Next) (o n p q : Option (List ℕ)) (v w : Option World) (y z : ℕ)
+    → request_of (values_in line) ≡ Ok (Some r) → k ≡ kind_of r → next ≡ next_of k
+    → Does own old new r a (around None p v y) (around None q w z)
     → Appends o n (preamble counts new k ++ answer_text a)
-    → Answers counts line old new (around o p v) (around n q w) (is_last next)
-request_written counts line old new r a k next o n p q v w e kind_is next_is d is_written =
+    → Answers own counts line old new (around o p v y) (around n q w z) (is_last next)
+request_written own counts line old new r a k next o n p q v w y z e kind_is next_is d is_written =
     let reported : preamble counts new k ≡ preamble_of counts old r a =
     ap (preamble counts new) kind_is ∙ same_reported counts old new r a d.session in
     let last : is_end r a ≡ is_last next =
@@ -236,22 +253,27 @@ request_written counts line old new r a k next o n p q v w e kind_is next_is d i
       leaves = refl;
       passes = record {
         is = subst (λ (x : RequestResult). LineIs x old (Some a) new) (sym e) (inl d.session);
-        answers = subst (λ (x : RequestResult). Appends o n (answered x (Some a) (preamble_of counts old) ++ answer_text a)) (sym e)
+        answers = subst
+            (λ (x : RequestResult). Appends o n (answered x (Some a) (preamble_of counts old) ++ answer_text a)) (sym e)
             (subst (λ (xs : List ℕ). Appends o n (xs ++ answer_text a)) reported is_written);
         pcm =
-            subst (λ (x : RequestResult). Appends p q (flat_map sample_bytes (answered x (Some a) (frames_of old)))) (sym e)
+            subst (λ (x : RequestResult). Appends p q (flat_map sample_bytes (answered x (Some a) (frames_of old))))
+            (sym e)
             d.frames;
-        saved = subst (λ (x : RequestResult). Adds v w (answered x (Some a) (saves_of old))) (sym e) d.saves;
+        files =
+            subst (λ (x : RequestResult). FilesAfterAnswer own x old (Some a) (around o p v y) (around n q w z)) (sym e)
+            (request_alike own old r a (around None p v y) (around None q w z) None None o n p q d.files);
       };
       ends = ap (λ (x : RequestResult). ends x (Some a)) e ∙ last;
     }
 
-request_not_written : (counts : Counts) (line : List ℕ) (old new : LiveState) (r : Request) (a : Answer) (k : RequestKind)
-    (o n p q : Option (List ℕ)) (v w : Option (List Saved)) (f : LiveFault)
-    → request_of (values_in line) ≡ Ok (Some r) → k ≡ kind_of r → Does old new r a p q v w
+request_not_written : (own : SessionFiles) (counts : Counts) (line : List ℕ) (old new : LiveState) (r : Request)
+    (a : Answer) (k : RequestKind) (o n p q : Option (List ℕ)) (v w : Option World) (y z : ℕ) (f : LiveFault)
+    → request_of (values_in line) ≡ Ok (Some r) → k ≡ kind_of r
+    → Does own old new r a (around None p v y) (around None q w z)
     → IsWritten {U = Next} o n (preamble counts new k ++ answer_text a) (Err f)
-    → StopsLine counts line old (around o p v) (around n q w) f
-request_not_written counts line old new r a k o n p q v w (fault.Answers m) e kind_is d is_written =
+    → StopsLine own counts line old (around o p v y) (around n q w z) f
+request_not_written own counts line old new r a k o n p q v w y z (fault.Answers m) e kind_is d is_written =
     let reported : preamble counts new k ≡ preamble_of counts old r a =
     ap (preamble counts new) kind_is ∙ same_reported counts old new r a d.session in
     let S : List ℕ → Type 0 = λ xs. (m ≤ length (xs ++ answer_text a)) × Appends o n (take m (xs ++ answer_text a)) in
@@ -266,25 +288,33 @@ request_not_written counts line old new r a k o n p q v w (fault.Answers m) e ki
         within = both.0;
         answers = both.1;
         pcm =
-            subst (λ (x : RequestResult). Appends p q (flat_map sample_bytes (answered x (Some a) (frames_of old)))) (sym e)
+            subst (λ (x : RequestResult). Appends p q (flat_map sample_bytes (answered x (Some a) (frames_of old))))
+            (sym e)
             d.frames;
-        saved = subst (λ (x : RequestResult). Adds v w (answered x (Some a) (saves_of old))) (sym e) d.saves;
+        files =
+            subst (λ (x : RequestResult). FilesAfterAnswer own x old (Some a) (around o p v y) (around n q w z)) (sym e)
+            (request_alike own old r a (around None p v y) (around None q w z) None None o n p q d.files);
       };
     }
-request_not_written counts line old new r a k o n p q v w (fault.File g) e kind_is d is_written = absurd is_written
-request_not_written counts line old new r a k o n p q v w fault.Memory e kind_is d is_written = absurd is_written
-request_not_written counts line old new r a k o n p q v w fault.Input e kind_is d is_written = absurd is_written
-request_not_written counts line old new r a k o n p q v w (fault.Pcm m) e kind_is d is_written = absurd is_written
+request_not_written own counts line old new r a k o n p q v w y z (fault.File g) e kind_is d is_written =
+    absurd is_written
+request_not_written own counts line old new r a k o n p q v w y z fault.Memory e kind_is d is_written =
+    absurd is_written
+request_not_written own counts line old new r a k o n p q v w y z fault.Input e kind_is d is_written = absurd is_written
+request_not_written own counts line old new r a k o n p q v w y z (fault.Pcm m) e kind_is d is_written =
+    absurd is_written
 
-pub request_answered : (counts : Counts) (line : List ℕ) (old new : LiveState) (r : Request) (a : Answer) (k : RequestKind)
-    (o n p q : Option (List ℕ)) (v w : Option (List Saved)) (result : Result Next LiveFault)
-    → request_of (values_in line) ≡ Ok (Some r) → k ≡ kind_of r → Does old new r a p q v w
+pub request_answered : (own : SessionFiles) (counts : Counts) (line : List ℕ) (old new : LiveState) (r : Request)
+    (a : Answer) (k : RequestKind) (o n p q : Option (List ℕ)) (v w : Option World) (y z : ℕ)
+    (result : Result Next LiveFault)
+    → request_of (values_in line) ≡ Ok (Some r) → k ≡ kind_of r
+    → Does own old new r a (around None p v y) (around None q w z)
     → IsWritten o n (preamble counts new k ++ answer_text a) result → IfOk result (λ (x : Next). x ≡ next_of k)
-    → IsLineResult counts line old new (around o p v) (around n q w) result
-request_answered counts line old new r a k o n p q v w (Ok x) e kind_is d is_written next_is =
-    request_written counts line old new r a k x o n p q v w e kind_is next_is d is_written
-request_answered counts line old new r a k o n p q v w (Err f) e kind_is d is_written next_is =
-    request_not_written counts line old new r a k o n p q v w f e kind_is d is_written
+    → IsLineResult own counts line old new (around o p v y) (around n q w z) result
+request_answered own counts line old new r a k o n p q v w y z (Ok x) e kind_is d is_written next_is =
+    request_written own counts line old new r a k x o n p q v w y z e kind_is next_is d is_written
+request_answered own counts line old new r a k o n p q v w y z (Err f) e kind_is d is_written next_is =
+    request_not_written own counts line old new r a k o n p q v w y z f e kind_is d is_written
 
 -- a request stops only by a fault of the writer of frames
 abbrev IsOfFrames : LiveFault → Type 0
@@ -298,31 +328,38 @@ of_frames old n p q fault.Memory h = h
 of_frames old n p q fault.Input h = h
 of_frames old n p q (fault.Answers k) h = h
 
-only_frames : (old : LiveState) (r : Request) (p q : Option (List ℕ)) (v w : Option (List Saved)) (f : LiveFault)
-    → StopsIn old r p q v w f → IsOfFrames f
-only_frames old (asks.Edit e) p q v w f h = absurd h
-only_frames old (asks.Neutral e) p q v w f h = absurd h
-only_frames old asks.Undo p q v w f h = absurd h
-only_frames old asks.Redo p q v w f h = absurd h
-only_frames old (asks.Note n) p q v w f h = absurd h
-only_frames old (asks.Frames n) p q v w f h = of_frames old n p q f h.0
-only_frames old (asks.Save paths) p q v w f h = absurd h
-only_frames old asks.Show p q v w f h = absurd h
-only_frames old asks.Help p q v w f h = absurd h
-only_frames old asks.Quit p q v w f h = absurd h
+only_frames : (old : LiveState) (r : Request) (b c : Streams) (f : LiveFault) → StopsIn old r b c f → IsOfFrames f
+only_frames old (asks.Edit e) b c f h = absurd h
+only_frames old (asks.Neutral e) b c f h = absurd h
+only_frames old asks.Undo b c f h = absurd h
+only_frames old asks.Redo b c f h = absurd h
+only_frames old (asks.Note n) b c f h = absurd h
+only_frames old (asks.Frames n) b c f h = of_frames old n b.pcm c.pcm f h.0
+only_frames old (asks.Save paths) b c f h = absurd h
+only_frames old asks.Show b c f h = absurd h
+only_frames old asks.Help b c f h = absurd h
+only_frames old asks.Quit b c f h = absurd h
 
-pub request_stopped : (counts : Counts) (line : List ℕ) (old : LiveState) (r : Request) (o p q : Option (List ℕ))
-    (v w : Option (List Saved)) (f : LiveFault)
-    → request_of (values_in line) ≡ Ok (Some r) → StopsIn old r p q v w f
-    → StopsLine counts line old (around o p v) (around o q w) f
-request_stopped counts line old r o p q v w (fault.Pcm n) e h = record {
+pub request_stopped : (own : SessionFiles) (counts : Counts) (line : List ℕ) (old : LiveState) (r : Request)
+    (o p q : Option (List ℕ)) (v w : Option World) (y z : ℕ) (f : LiveFault)
+    → request_of (values_in line) ≡ Ok (Some r) → StopsIn old r (around None p v y) (around None q w z) f
+    → StopsLine own counts line old (around o p v y) (around o q w z) f
+request_stopped own counts line old r o p q v w y z (fault.Pcm n) e h = record {
   turn = turn_of line old None old;
   line_is = refl;
   begins = refl;
-  stops = record { request = r; is = e; stops = h; answers = Appends-nil o };
+  stops = record {
+    request = r;
+    is = e;
+    stops = stops_alike old r (around None p v y) (around None q w z) None None o o (fault.Pcm n) h;
+    answers = Appends-nil o;
+  };
 }
-request_stopped counts line old r o p q v w (fault.File g) e h = absurd (only_frames old r p q v w (fault.File g) h)
-request_stopped counts line old r o p q v w fault.Memory e h = absurd (only_frames old r p q v w fault.Memory h)
-request_stopped counts line old r o p q v w fault.Input e h = absurd (only_frames old r p q v w fault.Input h)
-request_stopped counts line old r o p q v w (fault.Answers n) e h =
-    absurd (only_frames old r p q v w (fault.Answers n) h)
+request_stopped own counts line old r o p q v w y z (fault.File g) e h =
+    absurd (only_frames old r (around None p v y) (around None q w z) (fault.File g) h)
+request_stopped own counts line old r o p q v w y z fault.Memory e h =
+    absurd (only_frames old r (around None p v y) (around None q w z) fault.Memory h)
+request_stopped own counts line old r o p q v w y z fault.Input e h =
+    absurd (only_frames old r (around None p v y) (around None q w z) fault.Input h)
+request_stopped own counts line old r o p q v w y z (fault.Answers n) e h =
+    absurd (only_frames old r (around None p v y) (around None q w z) (fault.Answers n) h)

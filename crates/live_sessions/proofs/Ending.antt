@@ -9,36 +9,53 @@ use Rattle.std.specs.Io.KnownBytes.{Appends, IsAtEnd}
 use Rattle.std.proofs.KnownBytes.{Appends-nil, Appends-trans}
 use Rattle.std.proofs.lemmas.Grind.{flat_map-append}
 use Rattle.std.proofs.lemmas.List.{map-append}
+use Rattle.file_host.specs.World.{World}
 use Rattle.script_tokens.specs.Lines.{lines_of}
 use Rattle.bank_format.specs.declared.fault.Counts.{Counts}
+use Rattle.live_lines.specs.declared.answer.Answer.{Answer}
 use Rattle.live_sessions.specs.declared.live.LiveState.{LiveState}
 use Rattle.live_sessions.specs.declared.requests.Next.{Next}
 use Rattle.live_sessions.specs.declared.requests.Next.TheVariants as next
 use Rattle.live_sessions.specs.declared.fault.LiveFault.{LiveFault}
 use Rattle.live_sessions.specs.declared.fault.LiveFault.TheVariants as fault
-use Rattle.live_sessions.specs.Saved.{Saved, Adds}
-use Rattle.live_sessions.specs.Turns.{LineIs, Turn, Streams, request_in, text_in, bytes_in, saves_in, ends_in, AreTurns}
-use Rattle.live_sessions.specs.Turns.{Reads, Passes, Passed}
-use Rattle.live_sessions.specs.Runs.{OnlyReads, EndsWell, ReadsPart, Unread, EndsBy, most_lines, Plays, IsLineResult, Continues}
+use Rattle.live_sessions.specs.declared.saving.SessionFiles.{SessionFiles}
+use Rattle.live_sessions.specs.Streams.{Streams, SavesNothing}
+use Rattle.live_sessions.specs.Turns.{RequestResult, LineIs, Turn, request_in, text_in, bytes_in, ends_in}
+use Rattle.live_sessions.specs.Turns.{FilesAfterAnswer, FilesAfterLine, AreTurns}
+use Rattle.live_sessions.specs.Turns.{Reads, Passes, FilesAfter, Passed}
+use Rattle.live_sessions.specs.Runs.{OnlyReads, EndsWell, ReadsPart, Unread, EndsBy, most_lines, Plays, IsLineResult}
+use Rattle.live_sessions.specs.Runs.{Continues}
 use Rattle.live_sessions.specs.Runs.{IsNextLineResult, IsReadFault}
-use Rattle.live_sessions.proofs.RequestLaws.{adds_nothing, adds_then}
+use Rattle.live_sessions.proofs.RequestLaws.{with_input, request_alike, stops_alike}
 use Rattle.live_sessions.proofs.AnsweredLines.{around}
-
-abbrev pub with_input : Option (List ℕ) → Option (List ℕ) → Option (List ℕ) → Option (List Saved) → Streams
-with_input input answers pcm saved = record { input = input; answers = answers; pcm = pcm; saved = saved }
 
 -- ---- a line that was read
 
-passes_read : (counts : Counts) (t : Turn) (i j o n p q : Option (List ℕ)) (v w : Option (List Saved))
-    → Passes counts t (around o p v) (around n q w)
-    → Passes counts t (with_input i o p v) (with_input j n q w)
-passes_read counts t i j o n p q v w h = record { is = h.is; answers = h.answers; pcm = h.pcm; saved = h.saved }
+-- what a line does to the files does not depend on the other streams
+answer_alike : (own : SessionFiles) (x : RequestResult) (live : LiveState) (a : Option Answer) (b c : Streams)
+    (i j o n p q : Option (List ℕ)) → FilesAfterAnswer own x live a b c
+    → FilesAfterAnswer own x live a (with_input i o p b.files b.written) (with_input j n q c.files c.written)
+answer_alike own (Ok (Some r)) live (Some a) b c i j o n p q h = request_alike own live r a b c i j o n p q h
+answer_alike own (Ok (Some r)) live None b c i j o n p q h = h
+answer_alike own (Ok None) live a b c i j o n p q h = h
+answer_alike own (Err f) live a b c i j o n p q h = h
 
-pub line_result : (counts : Counts) (line : List ℕ) (old new : LiveState) (i j o n p q : Option (List ℕ))
-    (v w : Option (List Saved)) (why : Option ErrorKind) (r : Result Next LiveFault)
-    → Reads i j (line ∷ []) → IsLineResult counts line old new (around o p v) (around n q w) r
-    → IsNextLineResult counts old new (with_input i o p v) (with_input j n q w) why r
-line_result counts line old new i j o n p q v w why (Ok next.Line) read h = record {
+passes_read : (own : SessionFiles) (counts : Counts) (t : Turn) (i j o n p q : Option (List ℕ)) (v w : Option World)
+    (y z : ℕ)
+    → Passes own counts t (around o p v y) (around n q w z)
+    → Passes own counts t (with_input i o p v y) (with_input j n q w z)
+passes_read own counts t i j o n p q v w y z h = record {
+  is = h.is;
+  answers = h.answers;
+  pcm = h.pcm;
+  files = answer_alike own (request_in t) t.old t.answer (around o p v y) (around n q w z) i j o n p q h.files;
+}
+
+pub line_result : (own : SessionFiles) (counts : Counts) (line : List ℕ) (old new : LiveState)
+    (i j o n p q : Option (List ℕ)) (v w : Option World) (y z : ℕ) (why : Option ErrorKind) (r : Result Next LiveFault)
+    → Reads i j (line ∷ []) → IsLineResult own counts line old new (around o p v y) (around n q w z) r
+    → IsNextLineResult own counts old new (with_input i o p v y) (with_input j n q w z) why r
+line_result own counts line old new i j o n p q v w y z why (Ok next.Line) read h = record {
   line = line;
   input = read;
   answers =
@@ -51,18 +68,18 @@ line_result counts line old new i j o n p q v w why (Ok next.Line) read h = reco
             h.begins;
         leaves =
             h.leaves;
-        passes = passes_read counts h.turn i j o n p q v w h.passes;
+        passes = passes_read own counts h.turn i j o n p q v w y z h.passes;
         ends = h.ends;
       };
 }
-line_result counts line old new i j o n p q v w why (Ok next.End) read h = inr (record {
+line_result own counts line old new i j o n p q v w y z why (Ok next.End) read h = inr (record {
   turn = h.turn;
   begins = h.begins;
   input = subst (λ (l : List ℕ). Reads i j (l ∷ [])) (sym h.line_is) read;
-  passes = passes_read counts h.turn i j o n p q v w h.passes;
+  passes = passes_read own counts h.turn i j o n p q v w y z h.passes;
   ends = h.ends;
 })
-line_result counts line old new i j o n p q v w why (Err (fault.Answers k)) read h = record {
+line_result own counts line old new i j o n p q v w y z why (Err (fault.Answers k)) read h = record {
   turn = h.turn;
   begins = h.begins;
   input = subst (λ (l : List ℕ). Reads i j (l ∷ [])) (sym h.line_is) read;
@@ -74,53 +91,65 @@ line_result counts line old new i j o n p q v w why (Err (fault.Answers k)) read
             h.stops.within;
         answers = h.stops.answers;
         pcm = h.stops.pcm;
-        saved = h.stops.saved;
+        files =
+            answer_alike own (request_in h.turn) h.turn.old h.turn.answer (around o p v y) (around n q w z) i j o n p q
+            h.stops.files;
       };
 }
-line_result counts line old new i j o n p q v w why (Err (fault.Pcm k)) read h = record {
+line_result own counts line old new i j o n p q v w y z why (Err (fault.Pcm k)) read h = record {
   turn = h.turn;
   begins = h.begins;
   input = subst (λ (l : List ℕ). Reads i j (l ∷ [])) (sym h.line_is) read;
-  stops = record { request = h.stops.request; is = h.stops.is; stops = h.stops.stops; answers = h.stops.answers };
+  stops = record {
+    request = h.stops.request;
+    is = h.stops.is;
+    stops =
+        stops_alike h.turn.old h.stops.request (around o p v y) (around n q w z) i j o n (fault.Pcm k) h.stops.stops;
+    answers = h.stops.answers;
+  };
 }
-line_result counts line old new i j o n p q v w why (Err (fault.File f)) read h = absurd h.stops
-line_result counts line old new i j o n p q v w why (Err fault.Memory) read h = absurd h.stops
-line_result counts line old new i j o n p q v w why (Err fault.Input) read h = absurd h.stops
+line_result own counts line old new i j o n p q v w y z why (Err (fault.File f)) read h = absurd h.stops
+line_result own counts line old new i j o n p q v w y z why (Err fault.Memory) read h = absurd h.stops
+line_result own counts line old new i j o n p q v w y z why (Err fault.Input) read h = absurd h.stops
 
-only_reads : (i j o p : Option (List ℕ)) (v : Option (List Saved)) → OnlyReads (with_input i o p v) (with_input j o p v)
-only_reads i j o p v = record { answers = refl; pcm = refl; saved = refl }
+only_reads : (i j o p : Option (List ℕ)) (v : Option World) (y : ℕ)
+    → OnlyReads (with_input i o p v y) (with_input j o p v y)
+only_reads i j o p v y = record { answers = refl; pcm = refl; files = (refl, refl) }
 
-no_line : (i j o p : Option (List ℕ)) (v : Option (List Saved)) (why : Option ErrorKind) (P : ErrorKind → Type 0)
+no_line : (i j o p : Option (List ℕ)) (v : Option World) (y : ℕ) (why : Option ErrorKind) (P : ErrorKind → Type 0)
     (kind : ErrorKind) → why ≡ Some kind → P kind → ReadsPart i j
-    → Unread (with_input i o p v) (with_input j o p v) why P
-no_line i j o p v why P kind e h part = record {
+    → Unread (with_input i o p v y) (with_input j o p v y) why P
+no_line i j o p v y why P kind e h part = record {
   failed = subst (λ (w : Option ErrorKind). IsSomeAnd w P) (sym e) h;
   part = part;
-  only = only_reads i j o p v;
+  only = only_reads i j o p v y;
 }
 
-pub unread : (counts : Counts) (old new : LiveState) (i j o p : Option (List ℕ)) (v : Option (List Saved))
-    (why : Option ErrorKind) (kind : ErrorKind) (f : LiveFault) → why ≡ Some kind → IsReadFault kind f → ReadsPart i j
-    → IsNextLineResult counts old new (with_input i o p v) (with_input j o p v) why (Err f)
-unread counts old new i j o p v why kind fault.Memory e h part =
-    no_line i j o p v why (λ k. k ≡ OutOfMemory) kind e h part
-unread counts old new i j o p v why kind fault.Input e h part =
-    no_line i j o p v why (λ k. k ≢ OutOfMemory) kind e h part
-unread counts old new i j o p v why kind (fault.File f) e h part = absurd h
-unread counts old new i j o p v why kind (fault.Answers k) e h part = absurd h
-unread counts old new i j o p v why kind (fault.Pcm k) e h part = absurd h
+pub unread : (own : SessionFiles) (counts : Counts) (old new : LiveState) (i j o p : Option (List ℕ)) (v : Option World)
+    (y : ℕ) (why : Option ErrorKind) (kind : ErrorKind) (f : LiveFault) → why ≡ Some kind → IsReadFault kind f
+    → ReadsPart i j
+    → IsNextLineResult own counts old new (with_input i o p v y) (with_input j o p v y) why (Err f)
+unread own counts old new i j o p v y why kind fault.Memory e h part =
+    no_line i j o p v y why (λ k. k ≡ OutOfMemory) kind e h part
+unread own counts old new i j o p v y why kind fault.Input e h part =
+    no_line i j o p v y why (λ k. k ≢ OutOfMemory) kind e h part
+unread own counts old new i j o p v y why kind (fault.File f) e h part = absurd h
+unread own counts old new i j o p v y why kind (fault.Answers k) e h part = absurd h
+unread own counts old new i j o p v y why kind (fault.Pcm k) e h part = absurd h
 
-pub at_end : (counts : Counts) (old : LiveState) (i j o p : Option (List ℕ)) (v : Option (List Saved)) → IsAtEnd i
-    → EndsWell counts old (with_input i o p v) (with_input j o p v)
-at_end counts old i j o p v h = inl (h, only_reads i j o p v)
+pub at_end : (own : SessionFiles) (counts : Counts) (old : LiveState) (i j o p : Option (List ℕ)) (v : Option World)
+    (y : ℕ) → IsAtEnd i
+    → EndsWell own counts old (with_input i o p v y) (with_input j o p v y)
+at_end own counts old i j o p v y h = inl (h, only_reads i j o p v y)
 
 -- ---- lines in order
 
 -- `n` lines were answered
-pub record Reached (counts : Counts) (n : ℕ) (first last : LiveState) (old new : Streams) : Type 0 where
+pub record Reached (own : SessionFiles) (counts : Counts) (n : ℕ) (first last : LiveState)
+    (old new : Streams) : Type 0 where
   pub turns : List Turn
   pub count : length turns ≡ n
-  pub passed : Passed counts first turns last old new
+  pub passed : Passed own counts first turns last old new
 
 reads_nothing : (i : Option (List ℕ)) → Reads i i []
 reads_nothing None = tt
@@ -146,6 +175,19 @@ going_then (s ∷ ts) t h e =
     let at : (b : Bool) → P b = elim [ true ↦ λ k. k | false ↦ λ k. going_then ts t k e ] in
     at (ends_in s) h
 
+-- a line after no line
+line_from : (own : SessionFiles) (t : Turn) (a b c : Streams) → SavesNothing a b → FilesAfterLine own t b c
+    → FilesAfterLine own t a c
+line_from own t a b c e h =
+    subst (λ (n : ℕ). FilesAfterLine own t (with_input a.input a.answers a.pcm a.files n) c) e.1
+    (subst (λ (w : Option World). FilesAfterLine own t (with_input a.input a.answers a.pcm w b.written) c) e.0
+    (answer_alike own (request_in t) t.old t.answer b c a.input c.input a.answers c.answers a.pcm c.pcm h))
+
+files_then : (own : SessionFiles) (ts : List Turn) (t : Turn) (a b c : Streams) → FilesAfter own ts a b
+    → FilesAfterLine own t b c → FilesAfter own (ts ++ t ∷ []) a c
+files_then own [] t a b c e h = (c, line_from own t a b c e h, (refl, refl))
+files_then own (s ∷ ts) t a b c f h = (f.0, f.1, files_then own ts t f.0 b c f.2 h)
+
 one_of : {X : Type 0} (f : Turn → List X) (t : Turn) → flat_map f (t ∷ []) ≡ f t
 one_of f t = append-nil (f t)
 
@@ -153,8 +195,9 @@ more_of : {X : Type 0} (f : Turn → List X) (ts : List Turn) (t : Turn)
     → flat_map f (ts ++ t ∷ []) ≡ flat_map f ts ++ f t
 more_of f ts t = flat_map-append f ts (t ∷ []) ∙ ap (λ (xs : List _). flat_map f ts ++ xs) (one_of f t)
 
-pub reached_first : (counts : Counts) (first : LiveState) (a : Streams) → Reached counts 0 first first a a
-reached_first counts first a = record {
+pub reached_first : (own : SessionFiles) (counts : Counts) (first : LiveState) (a : Streams)
+    → Reached own counts 0 first first a a
+reached_first own counts first a = record {
   turns = [];
   count = refl;
   passed = record {
@@ -163,13 +206,14 @@ reached_first counts first a = record {
     input = reads_nothing a.input;
     answers = Appends-nil a.answers;
     pcm = Appends-nil a.pcm;
-    saved = adds_nothing a.saved;
+    files = (refl, refl);
   };
 }
 
-pub reached_next : (counts : Counts) (n : ℕ) (first last new : LiveState) (a b c : Streams) → Reached counts n first last a b
-    → Continues counts last new b c → Reached counts (n + 1) first new a c
-reached_next counts n first last new a b c r g =
+pub reached_next : (own : SessionFiles) (counts : Counts) (n : ℕ) (first last new : LiveState) (a b c : Streams)
+    → Reached own counts n first last a b → Continues own counts last new b c
+    → Reached own counts (n + 1) first new a c
+reached_next own counts n first last new a b c r g =
     let t : Turn = g.answers.turn in
     let ts : List Turn = r.turns in
     record {
@@ -190,29 +234,32 @@ reached_next counts n first last new a b c r g =
             r.passed.answers g.answers.passes.answers);
         pcm = subst (λ (xs : List ℕ). Appends a.pcm c.pcm xs) (sym (more_of bytes_in ts t))
             (Appends-trans a.pcm b.pcm c.pcm (flat_map bytes_in ts) (bytes_in t) r.passed.pcm g.answers.passes.pcm);
-        saved = subst (λ (xs : List Saved). Adds a.saved c.saved xs) (sym (more_of saves_in ts t))
-            (adds_then a.saved b.saved c.saved (flat_map saves_in ts) (saves_in t) r.passed.saved
-            g.answers.passes.saved);
+        files = files_then own ts t a b c r.passed.files g.answers.passes.files;
       };
     }
 
-pub plays_to : (counts : Counts) (n : ℕ) (first last : LiveState) (a b c : Streams) (why : Option ErrorKind)
-    (r : Result (Unit {0}) LiveFault)
-    → Reached counts n first last a b → EndsBy counts last b c why r → Plays counts first a c why r
-plays_to counts n first last a b c why r h e =
+pub plays_to : (own : SessionFiles) (counts : Counts) (n : ℕ) (first last : LiveState) (a b c : Streams)
+    (why : Option ErrorKind) (r : Result (Unit {0}) LiveFault)
+    → Reached own counts n first last a b → EndsBy own counts last b c why r → Plays own counts first a c why r
+plays_to own counts n first last a b c why r h e =
     record { turns = h.turns; last = last; between = b; passed = h.passed; end = inl e }
 
-pub plays_full : (counts : Counts) (n : ℕ) (first last : LiveState) (a b : Streams) (why : Option ErrorKind)
-    → Reached counts n first last a b → n ≡ most_lines → Plays counts first a b why (Err fault.Input)
-plays_full counts n first last a b why h e =
+pub plays_full : (own : SessionFiles) (counts : Counts) (n : ℕ) (first last : LiveState) (a b : Streams)
+    (why : Option ErrorKind)
+    → Reached own counts n first last a b → n ≡ most_lines → Plays own counts first a b why (Err fault.Input)
+plays_full own counts n first last a b why h e =
     record { turns = h.turns; last = last; between = b; passed = h.passed; end = inr (h.count ∙ e, refl) }
 
 -- ---- the whole run
 
-pub continues : (counts : Counts) (x : Next) (old new : LiveState) (a b : Streams) (why : Option ErrorKind) → x ≡ next.Line
-    → IsNextLineResult counts old new a b why (Ok x) → Continues counts old new a b
-continues counts x old new a b why e h = subst (λ (y : Next). IsNextLineResult counts old new a b why (Ok y)) e h
+pub continues : (own : SessionFiles) (counts : Counts) (x : Next) (old new : LiveState) (a b : Streams)
+    (why : Option ErrorKind) → x ≡ next.Line
+    → IsNextLineResult own counts old new a b why (Ok x) → Continues own counts old new a b
+continues own counts x old new a b why e h =
+    subst (λ (y : Next). IsNextLineResult own counts old new a b why (Ok y)) e h
 
-pub ends_well : (counts : Counts) (x : Next) (old new : LiveState) (a b : Streams) (why : Option ErrorKind) → x ≡ next.End
-    → IsNextLineResult counts old new a b why (Ok x) → EndsWell counts old a b
-ends_well counts x old new a b why e h = subst (λ (y : Next). IsNextLineResult counts old new a b why (Ok y)) e h
+pub ends_well : (own : SessionFiles) (counts : Counts) (x : Next) (old new : LiveState) (a b : Streams)
+    (why : Option ErrorKind) → x ≡ next.End
+    → IsNextLineResult own counts old new a b why (Ok x) → EndsWell own counts old a b
+ends_well own counts x old new a b why e h =
+    subst (λ (y : Next). IsNextLineResult own counts old new a b why (Ok y)) e h

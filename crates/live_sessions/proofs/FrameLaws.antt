@@ -271,7 +271,7 @@ out_of_memory_renders : (x : RequestResult) (old new : LiveState) (b : Parts) �
     → LineRendersAs x old (Some answer.OutOfMemory) new b
 out_of_memory_renders (Ok None) old new b here e = renders_nothing old new b here e
 out_of_memory_renders (Ok (Some r)) old new b here e =
-    let none = nothing_done old r new in renders_equal old new b [] _ [] _ none.3 none.1 (renders_nothing old new b here e)
+    let none = nothing_done old r new in renders_equal old new b [] _ [] _ none.2 none.1 (renders_nothing old new b here e)
 out_of_memory_renders (Err f) old new b here e = renders_nothing old new b here e
 
 line_renders : (x : RequestResult) (old new : LiveState) (oa : Option Answer) (b : Parts) → bank_now old.session ≡ Some b

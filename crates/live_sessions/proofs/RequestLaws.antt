@@ -1,36 +1,54 @@
 -- One request.
-use Rattle.std.proofs.Common.{◌≡◌, ℕ, ℤ, List, [], ◌++◌, Option, Some, None, sym, ap, subst, append-nil}
-use Rattle.std.proofs.Common.{append_assoc, ◌∙◌}
+use Rattle.std.proofs.Common.{◌≡◌, ℕ, ℤ, List, [], Option, sym, subst}
 use Rattle.std.specs.List.{flat_map}
 use Rattle.std.specs.Io.KnownBytes.{Appends}
 use Rattle.std.proofs.KnownBytes.{Appends-nil}
+use Rattle.file_host.specs.World.{World}
 use Rattle.wave_file.specs.Wave.{sample_bytes}
 use Rattle.live_lines.specs.declared.answer.Answer.{Answer}
+use Rattle.live_lines.specs.declared.answer.Answer.TheVariants as answer
 use Rattle.live_lines.specs.declared.request.Request.{Request}
+use Rattle.live_lines.specs.declared.request.Request.TheVariants as asks
 use Rattle.live_sessions.specs.declared.live.LiveState.{LiveState}
-use Rattle.live_sessions.specs.Saved.{Saved, Adds}
-use Rattle.live_sessions.specs.Steps.{RequestIs, Does, frames_of, saves_of}
+use Rattle.live_sessions.specs.declared.fault.LiveFault.{LiveFault}
+use Rattle.live_sessions.specs.declared.saving.SessionFiles.{SessionFiles}
+use Rattle.live_sessions.specs.Streams.{Streams, SavesNothing}
+use Rattle.live_sessions.specs.Steps.{RequestIs, Does, StopsIn, FilesAfterRequest, frames_of}
 
-pub adds_nothing : (saved : Option (List Saved)) → Adds saved saved []
-adds_nothing None = tt
-adds_nothing (Some saves) = sym (append-nil saves)
+abbrev pub with_input : Option (List ℕ) → Option (List ℕ) → Option (List ℕ) → Option World → ℕ → Streams
+with_input input answers pcm files written =
+    record { input = input; answers = answers; pcm = pcm; files = files; written = written }
 
-pub adds_then : (a b c : Option (List Saved)) (xs ys : List Saved) → Adds a b xs → Adds b c ys → Adds a c (xs ++ ys)
-adds_then None b c xs ys p q = tt
-adds_then (Some x) None c xs ys p q = absurd p
-adds_then (Some x) (Some y) None xs ys p q = absurd q
-adds_then (Some x) (Some y) (Some z) xs ys p q = q ∙ ap (λ (l : List Saved). l ++ ys) p ∙ append_assoc x xs ys
+-- what a request does to the files does not depend on the other streams, and a fault of frames only on those of frames
+-- and
+-- files
+pub request_alike : (own : SessionFiles) (live : LiveState) (r : Request) (a : Answer) (b c : Streams)
+    (i j o n p q : Option (List ℕ)) → FilesAfterRequest own live r a b c
+    → FilesAfterRequest own live r a (with_input i o p b.files b.written) (with_input j n q c.files c.written)
+request_alike own live (asks.Save paths) a b c i j o n p q h = h
+request_alike own live other a b c i j o n p q h = h
+
+pub stops_alike : (live : LiveState) (r : Request) (b c : Streams) (i j o n : Option (List ℕ)) (why : LiveFault)
+    → StopsIn live r b c why
+    → StopsIn live r (with_input i o b.pcm b.files b.written) (with_input j n c.pcm c.files c.written) why
+stops_alike live (asks.Frames m) b c i j o n why h = h
+stops_alike live other b c i j o n why h = absurd h
+
+-- an allocation failed
+pub files_after_memory : (own : SessionFiles) (live : LiveState) (r : Request) (b c : Streams) → SavesNothing b c
+    → FilesAfterRequest own live r answer.OutOfMemory b c
+files_after_memory own live (asks.Save paths) b c h = h.0
+files_after_memory own live other b c h = h
 
 -- requests that write no frames and save nothing
-pub does_without_output : (old new : LiveState) (r : Request) (a : Answer) (pcm : Option (List ℕ)) (saved : Option (List Saved))
-    → RequestIs old r a new
-    → frames_of old r a ≡ [] → saves_of old r a ≡ [] → Does old new r a pcm pcm saved saved
-does_without_output old new r a pcm saved h f s = record {
+pub does_without_output : (own : SessionFiles) (old new : LiveState) (r : Request) (a : Answer) (b : Streams)
+    → RequestIs old r a new → frames_of old r a ≡ [] → FilesAfterRequest own old r a b b → Does own old new r a b b
+does_without_output own old new r a b h f s = record {
   session = h;
-  frames = subst (λ (xs : List ℤ). Appends pcm pcm (flat_map sample_bytes xs)) (sym f) (Appends-nil pcm);
-  saves = subst (λ (xs : List Saved). Adds saved saved xs) (sym s) (adds_nothing saved);
+  frames = subst (λ (xs : List ℤ). Appends b.pcm b.pcm (flat_map sample_bytes xs)) (sym f) (Appends-nil b.pcm);
+  files = s;
 }
 
-pub does_equal : (old new : LiveState) (r s : Request) (a : Answer) (pcm : Option (List ℕ)) (saved : Option (List Saved))
-    → r ≡ s → Does old new s a pcm pcm saved saved → Does old new r a pcm pcm saved saved
-does_equal old new r s a pcm saved e h = subst (λ (x : Request). Does old new x a pcm pcm saved saved) (sym e) h
+pub does_equal : (own : SessionFiles) (old new : LiveState) (r s : Request) (a : Answer) (b : Streams)
+    → r ≡ s → Does own old new s a b b → Does own old new r a b b
+does_equal own old new r s a b e h = subst (λ (x : Request). Does own old new x a b b) (sym e) h

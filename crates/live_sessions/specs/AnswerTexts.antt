@@ -1,5 +1,5 @@
 -- The text that a request writes before its answer, and how the text that answers a line is written.
-use Rattle.std.specs.Prelude.{◌≡◌, ◌≤◌, ℕ, Bool, true, false, List, [], length, take, Option, Result, Ok, Err}
+use Rattle.std.specs.Prelude.{◌≤◌, ℕ, Bool, true, false, List, [], length, take, Option, Result, Ok, Err}
 use Rattle.std.specs.Option.{option_map_or}
 use Rattle.std.specs.Io.KnownBytes.{Appends}
 use Rattle.bank_parts.specs.declared.parts.Parts.{Parts}

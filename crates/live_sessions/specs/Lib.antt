@@ -7,6 +7,8 @@ pub use Rattle.live_lines.specs.Requests
 pub use Rattle.live_lines.specs.Answers
 pub use Rattle.mixer.specs.Events
 pub mod Saved
+pub mod Streams
+pub mod FileSaves
 pub mod AnswerTexts
 pub mod Steps
 pub mod Turns

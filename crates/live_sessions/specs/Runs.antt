@@ -15,8 +15,10 @@ use Rattle.live_sessions.specs.declared.fault.LiveFault.TheVariants as fault
 use Rattle.live_sessions.specs.declared.live.LiveState.{LiveState}
 use Rattle.live_sessions.specs.declared.requests.Next.{Next}
 use Rattle.live_sessions.specs.declared.requests.Next.TheVariants as next
+use Rattle.live_sessions.specs.declared.saving.SessionFiles.{SessionFiles}
 use Rattle.live_sessions.specs.Steps.{started_with}
-use Rattle.live_sessions.specs.Turns.{Turn, Streams, Reads, Passes, Passed, StopsAt, ends_in}
+use Rattle.live_sessions.specs.Streams.{Streams, SavesNothing}
+use Rattle.live_sessions.specs.Turns.{Turn, Reads, Passes, Passed, StopsAt, ends_in}
 
 -- ---- the last line
 
@@ -28,26 +30,28 @@ line_feed = 10
 pub record OnlyReads (between new : Streams) : Type 0 where
   pub answers : new.answers ≡ between.answers
   pub pcm : new.pcm ≡ between.pcm
-  pub saved : new.saved ≡ between.saved
+  pub files : SavesNothing between new
 
 -- a line ends the session
-pub record Quits (counts : Counts) (last : LiveState) (between new : Streams) : Type 0 where
+pub record Quits (own : SessionFiles) (counts : Counts) (last : LiveState) (between new : Streams) : Type 0 where
   pub turn : Turn
   pub begins : turn.old ≡ last
   pub input : Reads between.input new.input (turn.line ∷ [])
-  pub passes : Passes counts turn between new
+  pub passes : Passes own counts turn between new
   pub ends : ends_in turn ≡ true
 
 -- a writer fails at a line
-pub record Stops (counts : Counts) (last : LiveState) (between new : Streams) (why : LiveFault) : Type 0 where
+pub record Stops (own : SessionFiles) (counts : Counts) (last : LiveState) (between new : Streams)
+    (why : LiveFault) : Type 0 where
   pub turn : Turn
   pub begins : turn.old ≡ last
   pub input : Reads between.input new.input (turn.line ∷ [])
-  pub stops : StopsAt counts turn between new why
+  pub stops : StopsAt own counts turn between new why
 
 -- the input is at its end, or a line ends the session
-abbrev pub EndsWell : Counts → LiveState → Streams → Streams → Type 0
-EndsWell counts last between new = (IsAtEnd between.input × OnlyReads between new) ⊎ Quits counts last between new
+abbrev pub EndsWell : SessionFiles → Counts → LiveState → Streams → Streams → Type 0
+EndsWell own counts last between new =
+    (IsAtEnd between.input × OnlyReads between new) ⊎ Quits own counts last between new
 
 -- A part of one line was read of known bytes, or all of it: only the last of these bytes can be a line feed.
 abbrev pub ReadsPart : Option (List ℕ) → Option (List ℕ) → Type 0
@@ -60,13 +64,14 @@ pub record Unread (between new : Streams) (failure : Option ErrorKind) (why : Er
   pub only : OnlyReads between new
 
 -- the end, or the fault: the last read failed by a failed allocation or for another reason, or a writer failed
-abbrev pub EndsBy : Counts → LiveState → Streams → Streams → Option ErrorKind → Result (Unit {0}) LiveFault → Type 0
-EndsBy counts last between new failure (Ok u) = EndsWell counts last between new
-EndsBy counts last between new failure (Err (fault.File f)) = ⊥
-EndsBy counts last between new failure (Err fault.Memory) = Unread between new failure (λ kind. kind ≡ OutOfMemory)
-EndsBy counts last between new failure (Err fault.Input) = Unread between new failure (λ kind. kind ≢ OutOfMemory)
-EndsBy counts last between new failure (Err (fault.Answers n)) = Stops counts last between new (fault.Answers n)
-EndsBy counts last between new failure (Err (fault.Pcm n)) = Stops counts last between new (fault.Pcm n)
+abbrev pub EndsBy : SessionFiles → Counts → LiveState → Streams → Streams → Option ErrorKind
+    → Result (Unit {0}) LiveFault → Type 0
+EndsBy own counts last between new failure (Ok u) = EndsWell own counts last between new
+EndsBy own counts last between new failure (Err (fault.File f)) = ⊥
+EndsBy own counts last between new failure (Err fault.Memory) = Unread between new failure (λ kind. kind ≡ OutOfMemory)
+EndsBy own counts last between new failure (Err fault.Input) = Unread between new failure (λ kind. kind ≢ OutOfMemory)
+EndsBy own counts last between new failure (Err (fault.Answers n)) = Stops own counts last between new (fault.Answers n)
+EndsBy own counts last between new failure (Err (fault.Pcm n)) = Stops own counts last between new (fault.Pcm n)
 
 -- the most lines that a session reads
 abbrev pub most_lines : ℕ
@@ -80,21 +85,21 @@ IsFull turns between new other = ⊥
 -- ---- the whole session
 
 -- lines were answered, and then the session ended
-pub record Plays (counts : Counts) (first : LiveState) (old new : Streams) (failure : Option ErrorKind)
-    (r : Result (Unit {0}) LiveFault) : Type 0 where
+pub record Plays (own : SessionFiles) (counts : Counts) (first : LiveState) (old new : Streams)
+    (failure : Option ErrorKind) (r : Result (Unit {0}) LiveFault) : Type 0 where
   pub turns : List Turn
   pub last : LiveState
   pub between : Streams
-  pub passed : Passed counts first turns last old between
-  pub end : EndsBy counts last between new failure r ⊎ IsFull turns between new r
+  pub passed : Passed own counts first turns last old between
+  pub end : EndsBy own counts last between new failure r ⊎ IsFull turns between new r
 
 -- the file is read as a bank, with which the session begins
-pub record PlaysBank (file : List ℕ) (old new : Streams) (failure : Option ErrorKind) (r : Result (Unit {0}) LiveFault)
-    : Type 0 where
+pub record PlaysBank (own : SessionFiles) (file : List ℕ) (old new : Streams) (failure : Option ErrorKind)
+    (r : Result (Unit {0}) LiveFault) : Type 0 where
   pub bank : Parts
   pub counts : Counts
   pub reads : ReadsAs file bank counts
-  pub plays : Plays counts (started_with bank) old new failure r
+  pub plays : Plays own counts (started_with bank) old new failure r
 
 -- nothing was read of the input, and nothing was written
 abbrev pub IsUntouched : Streams → Streams → Type 0
@@ -102,48 +107,53 @@ IsUntouched old new = (new.input ≡ old.input) × OnlyReads old new
 
 -- The result of a session. If its file is no bank, or an allocation fails while reading it, nothing is read of the
 -- input and nothing is written. `failure` is why the last read of the input failed, if it did.
-abbrev pub Runs : List ℕ → Streams → Streams → Option ErrorKind → Result (Unit {0}) LiveFault → Type 0
-Runs file old new failure (Ok u) = PlaysBank file old new failure (Ok u)
-Runs file old new failure (Err (fault.File f)) = (fault_of file ≡ Some f) × IsUntouched old new
-Runs file old new failure (Err fault.Memory) = IsUntouched old new ⊎ PlaysBank file old new failure (Err fault.Memory)
-Runs file old new failure (Err fault.Input) = PlaysBank file old new failure (Err fault.Input)
-Runs file old new failure (Err (fault.Answers n)) = PlaysBank file old new failure (Err (fault.Answers n))
-Runs file old new failure (Err (fault.Pcm n)) = PlaysBank file old new failure (Err (fault.Pcm n))
+abbrev pub Runs : SessionFiles → List ℕ → Streams → Streams → Option ErrorKind → Result (Unit {0}) LiveFault → Type 0
+Runs own file old new failure (Ok u) = PlaysBank own file old new failure (Ok u)
+Runs own file old new failure (Err (fault.File f)) = (fault_of file ≡ Some f) × IsUntouched old new
+Runs own file old new failure (Err fault.Memory) =
+    IsUntouched old new ⊎ PlaysBank own file old new failure (Err fault.Memory)
+Runs own file old new failure (Err fault.Input) = PlaysBank own file old new failure (Err fault.Input)
+Runs own file old new failure (Err (fault.Answers n)) = PlaysBank own file old new failure (Err (fault.Answers n))
+Runs own file old new failure (Err (fault.Pcm n)) = PlaysBank own file old new failure (Err (fault.Pcm n))
 
 -- ---- one line of a session
 
 -- this line is answered; whether it ends the session
-pub record Answers (counts : Counts) (line : List ℕ) (live live_new : LiveState) (old new : Streams) (ending : Bool) : Type
-    0 where
+pub record Answers (own : SessionFiles) (counts : Counts) (line : List ℕ) (live live_new : LiveState)
+    (old new : Streams) (ending : Bool) : Type 0 where
   pub turn : Turn
   pub line_is : turn.line ≡ line
   pub begins : turn.old ≡ live
   pub leaves : turn.new ≡ live_new
-  pub passes : Passes counts turn old new
+  pub passes : Passes own counts turn old new
   pub ends : ends_in turn ≡ ending
 
 -- a writer fails at this line
-pub record StopsLine (counts : Counts) (line : List ℕ) (live : LiveState) (old new : Streams) (why : LiveFault) : Type 0 where
+pub record StopsLine (own : SessionFiles) (counts : Counts) (line : List ℕ) (live : LiveState) (old new : Streams)
+    (why : LiveFault) : Type 0 where
   pub turn : Turn
   pub line_is : turn.line ≡ line
   pub begins : turn.old ≡ live
-  pub stops : StopsAt counts turn old new why
+  pub stops : StopsAt own counts turn old new why
 
-abbrev pub IsLineResult : Counts → List ℕ → LiveState → LiveState → Streams → Streams → Result Next LiveFault → Type 0
-IsLineResult counts line live live_new old new (Ok n) = Answers counts line live live_new old new (is_last n)
-IsLineResult counts line live live_new old new (Err why) = StopsLine counts line live old new why
+abbrev pub IsLineResult : SessionFiles → Counts → List ℕ → LiveState → LiveState → Streams → Streams
+    → Result Next LiveFault → Type 0
+IsLineResult own counts line live live_new old new (Ok n) = Answers own counts line live live_new old new (is_last n)
+IsLineResult own counts line live live_new old new (Err why) = StopsLine own counts line live old new why
 
 -- the line was read before it was answered
-pub record Continues (counts : Counts) (live live_new : LiveState) (old new : Streams) : Type 0 where
+pub record Continues (own : SessionFiles) (counts : Counts) (live live_new : LiveState)
+    (old new : Streams) : Type 0 where
   pub line : List ℕ
   pub input : Reads old.input new.input (line ∷ [])
-  pub answers : Answers counts line live live_new old new false
+  pub answers : Answers own counts line live live_new old new false
 
 -- the result of the next line
-abbrev pub IsNextLineResult : Counts → LiveState → LiveState → Streams → Streams → Option ErrorKind → Result Next LiveFault → Type 0
-IsNextLineResult counts live live_new old new failure (Ok next.Line) = Continues counts live live_new old new
-IsNextLineResult counts live live_new old new failure (Ok next.End) = EndsWell counts live old new
-IsNextLineResult counts live live_new old new failure (Err why) = EndsBy counts live old new failure (Err why)
+abbrev pub IsNextLineResult : SessionFiles → Counts → LiveState → LiveState → Streams → Streams → Option ErrorKind
+    → Result Next LiveFault → Type 0
+IsNextLineResult own counts live live_new old new failure (Ok next.Line) = Continues own counts live live_new old new
+IsNextLineResult own counts live live_new old new failure (Ok next.End) = EndsWell own counts live old new
+IsNextLineResult own counts live live_new old new failure (Err why) = EndsBy own counts live old new failure (Err why)
 
 -- ---- how a line is read
 

@@ -1,5 +1,5 @@
--- What a session saves.
-use Rattle.std.specs.Prelude.{◌≡◌, ℕ, List, ◌++◌, reverse, Option, Some, None}
+-- The two texts of a save.
+use Rattle.std.specs.Prelude.{ℕ, List, reverse}
 use Rattle.bank_parts.specs.declared.parts.Parts.{Parts}
 use Rattle.bank_format.specs.Canon.{canon}
 use Rattle.edit_forms.specs.declared.edit.Edit.{Edit}
@@ -17,9 +17,3 @@ undo_text back = texts_of (reverse back)
 -- the canonical file of a bank, and its undo script, of inverses with the oldest edit's first
 abbrev pub saved_of : Parts → List Edit → Saved
 saved_of b back = record { out = canon b; undo = undo_text back }
-
--- known saves are kept, and these are appended
-abbrev pub Adds : Option (List Saved) → Option (List Saved) → List Saved → Type 0
-Adds None new more = Unit {0}
-Adds (Some saves) None more = ⊥
-Adds (Some saves) (Some now) more = now ≡ saves ++ more

@@ -7,8 +7,9 @@ use Rattle.std.specs.Option.{option_map_or}
 use Rattle.bank_parts.specs.declared.parts.Parts.{Parts}
 use Rattle.bank_format.specs.declared.fault.Counts.{Counts}
 use Rattle.edit_forms.specs.declared.edit.Edit.{Edit}
-use Rattle.inverse_edits.specs.Histories.{IsHistory, bank_now, new_history, IsEdited, IsRefusalNow, MovesForward, IsUndoFailure}
-use Rattle.inverse_edits.specs.Histories.{IsRedoFailure, undo_edits}
+use Rattle.inverse_edits.specs.Histories.{IsHistory, bank_now, new_history, IsEdited, IsRefusalNow, MovesForward}
+use Rattle.inverse_edits.specs.Histories.{IsUndoFailure}
+use Rattle.inverse_edits.specs.Histories.{IsRedoFailure}
 use Rattle.sound_neutral_edits.specs.Neutral.{is_neutral}
 use Rattle.script_notes.specs.Notes.{Numbers}
 use Rattle.mixer.specs.StartFrames.{note_voices}
@@ -24,8 +25,10 @@ use Rattle.live_sessions.specs.declared.live.LiveState.{LiveState}
 use Rattle.wave_file.specs.Wave.{sample_bytes}
 use Rattle.live_sessions.specs.declared.fault.LiveFault.{LiveFault}
 use Rattle.live_sessions.specs.declared.fault.LiveFault.TheVariants as fault
-use Rattle.live_sessions.specs.Saved.{Saved, Adds, saved_of}
+use Rattle.live_sessions.specs.declared.saving.SessionFiles.{SessionFiles}
 use Rattle.live_sessions.specs.AnswerTexts.{listing_now}
+use Rattle.live_sessions.specs.FileSaves.{FilesAfterSave}
+use Rattle.live_sessions.specs.Streams.{Streams, SavesNothing}
 
 -- a new session with a bank: no edit, no voice and no frame yet
 abbrev pub started_with : Parts → LiveState
@@ -145,16 +148,6 @@ abbrev pub frames_of : LiveState → Request → Answer → List ℤ
 frames_of old (asks.Frames m) a = block_if old m a
 frames_of old other a = []
 
-abbrev pub saves_if : LiveState → Answer → List Saved
-saves_if old answer.Done =
-    option_map_or (λ (b : Parts). saved_of b (undo_edits old.session) ∷ []) (bank_now old.session) []
-saves_if old other = []
-
--- what a request saves: the current bank and its undo script
-abbrev pub saves_of : LiveState → Request → Answer → List Saved
-saves_of old (asks.Save paths) a = saves_if old a
-saves_of old other a = []
-
 abbrev pub preamble_if : Answer → List ℕ → List ℕ
 preamble_if answer.Done text = text
 preamble_if other text = []
@@ -164,6 +157,11 @@ abbrev pub preamble_of : Counts → LiveState → Request → Answer → List �
 preamble_of counts old asks.Show a = preamble_if a (listing_now counts old)
 preamble_of counts old asks.Help a = preamble_if a HELP.now
 preamble_of counts old other a = []
+
+-- the files after a request: only a save changes them
+abbrev pub FilesAfterRequest : SessionFiles → LiveState → Request → Answer → Streams → Streams → Type 0
+FilesAfterRequest own live (asks.Save paths) a old new = FilesAfterSave own live paths a old.files new.files new.written
+FilesAfterRequest own live other a old new = SavesNothing old new
 
 abbrev pub is_done : Answer → Bool
 is_done answer.Done = true
@@ -176,12 +174,12 @@ is_end other a = false
 
 -- ---- one request that is done
 
--- the session after it, the frames written, and what was saved
-pub record Does (old new : LiveState) (r : Request) (a : Answer) (pcm pcm_new : Option (List ℕ))
-    (saved saved_new : Option (List Saved)) : Type 0 where
-  pub session : RequestIs old r a new
-  pub frames : Appends pcm pcm_new (flat_map sample_bytes (frames_of old r a))
-  pub saves : Adds saved saved_new (saves_of old r a)
+-- the session after it, the frames written, and the files after it
+pub record Does (own : SessionFiles) (live live_new : LiveState) (r : Request) (a : Answer)
+    (old new : Streams) : Type 0 where
+  pub session : RequestIs live r a live_new
+  pub frames : Appends old.pcm new.pcm (flat_map sample_bytes (frames_of live r a))
+  pub files : FilesAfterRequest own live r a old new
 
 -- The writer failed after a prefix of these frames. The fault counts the bytes of all frames of the session so far,
 -- saturating.
@@ -196,9 +194,7 @@ abbrev pub FramesStop : LiveState → ℕ → Option (List ℕ) → Option (List
 FramesStop old count pcm pcm_new (fault.Pcm written) = StopsInFrames old count pcm pcm_new written
 FramesStop old count pcm pcm_new other = ⊥
 
--- only a request for frames stops midway, and nothing was saved
-abbrev pub StopsIn : LiveState → Request → Option (List ℕ) → Option (List ℕ) → Option (List Saved) → Option (List Saved)
-    → LiveFault → Type 0
-StopsIn old (asks.Frames count) pcm pcm_new saved saved_new why =
-    FramesStop old count pcm pcm_new why × Adds saved saved_new []
-StopsIn old other pcm pcm_new saved saved_new why = ⊥
+-- only a request for frames stops midway
+abbrev pub StopsIn : LiveState → Request → Streams → Streams → LiveFault → Type 0
+StopsIn live (asks.Frames count) old new why = FramesStop live count old.pcm new.pcm why × SavesNothing old new
+StopsIn live other old new why = ⊥

@@ -18,8 +18,10 @@ use Rattle.live_lines.specs.Answers.{answer_text}
 use Rattle.live_sessions.specs.declared.live.LiveState.{LiveState}
 use Rattle.live_sessions.specs.declared.fault.LiveFault.{LiveFault}
 use Rattle.live_sessions.specs.declared.fault.LiveFault.TheVariants as fault
-use Rattle.live_sessions.specs.Saved.{Saved, Adds}
-use Rattle.live_sessions.specs.Steps.{RequestIs, StopsIn, events_of, frames_of, saves_of, preamble_of, is_end}
+use Rattle.live_sessions.specs.declared.saving.SessionFiles.{SessionFiles}
+use Rattle.live_sessions.specs.Steps.{RequestIs, StopsIn, FilesAfterRequest, events_of, frames_of, preamble_of, is_end}
+pub use Rattle.live_sessions.specs.Streams.{Streams}
+use Rattle.live_sessions.specs.Streams.{SavesNothing}
 
 -- ---- one line
 
@@ -65,9 +67,6 @@ frames_in t = answered (request_in t) t.answer (frames_of t.old)
 abbrev pub bytes_in : Turn → List ℕ
 bytes_in t = flat_map sample_bytes (frames_in t)
 
-abbrev pub saves_in : Turn → List Saved
-saves_in t = answered (request_in t) t.answer (saves_of t.old)
-
 -- the text before the answer, and the answer
 abbrev pub text_in : Counts → Turn → List ℕ
 text_in counts t = answered (request_in t) t.answer (preamble_of counts t.old) ++ option_map_or answer_text t.answer []
@@ -80,42 +79,44 @@ ends asks a = false
 abbrev pub ends_in : Turn → Bool
 ends_in t = ends (request_in t) t.answer
 
--- ---- the input and the outputs of a session
+-- the files after a line with this answer
+abbrev pub FilesAfterAnswer : SessionFiles → RequestResult → LiveState → Option Answer → Streams → Streams → Type 0
+FilesAfterAnswer own (Ok (Some r)) live (Some a) old new = FilesAfterRequest own live r a old new
+FilesAfterAnswer own asks live a old new = SavesNothing old new
 
--- the remaining bytes of its input, the bytes of its writers, and what was saved
-pub record Streams : Type 0 where
-  pub input : Option (List ℕ)
-  pub answers : Option (List ℕ)
-  pub pcm : Option (List ℕ)
-  pub saved : Option (List Saved)
+abbrev pub FilesAfterLine : SessionFiles → Turn → Streams → Streams → Type 0
+FilesAfterLine own t old new = FilesAfterAnswer own (request_in t) t.old t.answer old new
+
+-- ---- a line that is answered, or stops the session
 
 -- a line is answered, and all that it writes is written
-pub record Passes (counts : Counts) (t : Turn) (old new : Streams) : Type 0 where
+pub record Passes (own : SessionFiles) (counts : Counts) (t : Turn) (old new : Streams) : Type 0 where
   pub is : LineIs (request_in t) t.old t.answer t.new
   pub answers : Appends old.answers new.answers (text_in counts t)
   pub pcm : Appends old.pcm new.pcm (bytes_in t)
-  pub saved : Adds old.saved new.saved (saves_in t)
+  pub files : FilesAfterLine own t old new
 
--- a line is answered, but exactly the first `written` bytes of its text were written, which may be all
-pub record StopsInAnswer (counts : Counts) (t : Turn) (old new : Streams) (written : ℕ) : Type 0 where
+-- a line is answered, but exactly the first `count` bytes of its text were written, which may be all
+pub record StopsInAnswer (own : SessionFiles) (counts : Counts) (t : Turn) (old new : Streams)
+    (count : ℕ) : Type 0 where
   pub is : LineIs (request_in t) t.old t.answer t.new
-  pub within : written ≤ length (text_in counts t)
-  pub answers : Appends old.answers new.answers (take written (text_in counts t))
+  pub within : count ≤ length (text_in counts t)
+  pub answers : Appends old.answers new.answers (take count (text_in counts t))
   pub pcm : Appends old.pcm new.pcm (bytes_in t)
-  pub saved : Adds old.saved new.saved (saves_in t)
+  pub files : FilesAfterLine own t old new
 
 -- a request stops before its answer
 pub record StopsBefore (t : Turn) (old new : Streams) (why : LiveFault) : Type 0 where
   pub request : Request
   pub is : request_in t ≡ Ok (Some request)
-  pub stops : StopsIn t.old request old.pcm new.pcm old.saved new.saved why
+  pub stops : StopsIn t.old request old new why
   pub answers : Appends old.answers new.answers []
 
 -- a line at which the session stops
-abbrev pub StopsAt : Counts → Turn → Streams → Streams → LiveFault → Type 0
-StopsAt counts t old new (fault.Answers n) = StopsInAnswer counts t old new n
-StopsAt counts t old new (fault.Pcm n) = StopsBefore t old new (fault.Pcm n)
-StopsAt counts t old new other = ⊥
+abbrev pub StopsAt : SessionFiles → Counts → Turn → Streams → Streams → LiveFault → Type 0
+StopsAt own counts t old new (fault.Answers n) = StopsInAnswer own counts t old new n
+StopsAt own counts t old new (fault.Pcm n) = StopsBefore t old new (fault.Pcm n)
+StopsAt own counts t old new other = ⊥
 
 -- ---- lines in order
 
@@ -130,11 +131,17 @@ Reads None new lines = Unit {0}
 Reads (Some bytes) None lines = ⊥
 Reads (Some bytes) (Some left) lines = lines_of bytes ≡ lines ++ lines_of left
 
+-- the files after these lines, each on those that the line before it left
+abbrev pub FilesAfter : SessionFiles → List Turn → Streams → Streams → Type 0
+FilesAfter own [] old new = SavesNothing old new
+FilesAfter own (t ∷ ts) old new = (between : Streams) × FilesAfterLine own t old between × FilesAfter own ts between new
+
 -- these lines were read and answered, none ends the session, and all that they write is written
-pub record Passed (counts : Counts) (first : LiveState) (ts : List Turn) (last : LiveState) (old new : Streams) : Type 0 where
+pub record Passed (own : SessionFiles) (counts : Counts) (first : LiveState) (ts : List Turn) (last : LiveState)
+    (old new : Streams) : Type 0 where
   pub turns : AreTurns first ts last
   pub going : list_any ends_in ts ≡ false
   pub input : Reads old.input new.input (map (λ (t : Turn). t.line) ts)
   pub answers : Appends old.answers new.answers (flat_map (text_in counts) ts)
   pub pcm : Appends old.pcm new.pcm (flat_map bytes_in ts)
-  pub saved : Adds old.saved new.saved (flat_map saves_in ts)
+  pub files : FilesAfter own ts old new

@@ -16,4 +16,4 @@ pub use fault::LiveFault;
 pub use laws::{frames_follow_events, saved_undo_leads_back};
 pub use line_reader::{InputLines, LineReader};
 pub use run::live_run;
-pub use saving::{SaveFault, Saves, UndoLines};
+pub use saving::{SessionFiles, UndoLines};

@@ -1,17 +1,17 @@
 //! Does the requests of a session.
-ghost use Rattle.std.specs.Prelude.{◌≡◌, ◌+◌, min, IfOk, IfErr};
+ghost use Rattle.std.specs.Prelude.{◌≡◌, ◌+◌, min, IfOk, IfErr, None};
 ghost use Rattle.std.specs.List.{flat_map};
 ghost use Rattle.std.specs.Io.KnownBytes.{Appends};
 ghost use Rattle.wave_file.specs.Wave.{sample_bytes};
-ghost use Rattle.live_sessions.specs.Saved.{Adds};
-ghost use Rattle.live_sessions.specs.Steps.{FramesAre, FramesStop, SaveIs, Does, StopsIn, block_if, saves_if};
+ghost use Rattle.live_sessions.specs.Steps.{FramesAre, FramesStop, Does, StopsIn, block_if};
 ghost use Rattle.live_sessions.specs.AnswerTexts.{kind_of, next_of};
 
 use crate::fault::LiveFault;
 use crate::frames::write_frames;
 use crate::live::LiveState;
-use crate::saving::{SaveFault, Saves};
-use live_lines::{Answer, MOST_FRAMES, Paths, Request};
+use crate::saving::{SessionFiles, save};
+use file_host::Host;
+use live_lines::{Answer, MOST_FRAMES, Request};
 use std::alloc::Global;
 use std::io::Write;
 
@@ -57,15 +57,20 @@ pub(crate) fn next_of(kind: RequestKind) -> Next
 }
 
 /// Does a request, and returns its answer. After a fault of the writer of frames the session's state is unspecified.
-pub(crate) fn do_request<'t, 'a, P: Write, S: Saves>(
+pub(crate) fn do_request<'t, 'a, P: Write, H: Host>(
     alloc: Global,
     live: &mut LiveState<'a>,
+    files: SessionFiles<'_>,
     request: Request<'t, 'a>,
     pcm: &mut P,
-    host: &mut S,
+    host: &mut H,
 ) -> Result<Answer<'t>, LiveFault>
-    ensures done { IfOk result (λ a. Does live.old live.new request.entry a (P.contents pcm.old) (P.contents pcm.new) (S.saved host.old) (S.saved host.new)) }
-    ensures stopped { IfErr result (λ fault. StopsIn live.old request.entry (P.contents pcm.old) (P.contents pcm.new) (S.saved host.old) (S.saved host.new) fault) }
+    ensures done { IfOk result (λ a. Does files.entry live.old live.new request.entry a
+        (record { input = None; answers = None; pcm = P.contents pcm.old; files = H.world host.old; written = H.written host.old })
+        (record { input = None; answers = None; pcm = P.contents pcm.new; files = H.world host.new; written = H.written host.new })) }
+    ensures stopped { IfErr result (λ fault. StopsIn live.old request.entry
+        (record { input = None; answers = None; pcm = P.contents pcm.old; files = H.world host.old; written = H.written host.old })
+        (record { input = None; answers = None; pcm = P.contents pcm.new; files = H.world host.new; written = H.written host.new }) fault) }
 {
     match request {
         Request::Edit(edit) => Ok(live.edit(alloc, edit)),
@@ -74,7 +79,7 @@ pub(crate) fn do_request<'t, 'a, P: Write, S: Saves>(
         Request::Redo => Ok(live.redo(alloc)),
         Request::Note(note) => Ok(live.note(alloc, &note)),
         Request::Frames(count) => give_frames(live, count, pcm),
-        Request::Save(paths) => Ok(save(live, paths, host)),
+        Request::Save(paths) => Ok(save(live, files, paths, host)),
         Request::Show => Ok(Answer::Done),
         Request::Help => Ok(Answer::Done),
         Request::Quit => Ok(Answer::Done),
@@ -104,26 +109,6 @@ fn give_frames<P: Write>(
             let before = 4 * u64::from(live.given);
             Err(LiveFault::Pcm(sum(before, fault.written)))
         }
-    }
-}
-
-// Saves the current bank and its undo script.
-fn save<'t, S: Saves>(live: &LiveState<'_>, paths: Paths<'t>, host: &mut S) -> Answer<'t>
-    ensures answer { SaveIs live.now paths.entry result live.now }
-    ensures saved { Adds (S.saved host.old) (S.saved host.new) (saves_if live.now result) }
-{
-    let saved = host.save(&paths, live.session.bank(), live.session.undo_list());
-    let Paths { out, undo } = paths;
-    match saved {
-        Ok(()) => Answer::Done,
-        Err(SaveFault::Memory) => Answer::OutOfMemory,
-        Err(SaveFault::Out(written)) => Answer::WriteFault { path: out, written },
-        Err(SaveFault::Undo(written)) => Answer::WriteFault {
-            path: undo,
-            written,
-        },
-        Err(SaveFault::OutRejected(fault)) => Answer::Rejected { path: out, fault },
-        Err(SaveFault::UndoRejected(fault)) => Answer::Rejected { path: undo, fault },
     }
 }
 

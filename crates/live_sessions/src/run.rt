@@ -11,8 +11,9 @@ use crate::line_reader::LineReader;
 use crate::live::LiveState;
 use crate::request_reading::read_request;
 use crate::requests::{Next, RequestKind, do_request, kind_of};
-use crate::saving::Saves;
+use crate::saving::SessionFiles;
 use bank_format::Counts;
+use file_host::Host;
 use live_lines::{Answer, RequestFault};
 use script_tokens::Lines;
 use sf_base::Failure;
@@ -23,24 +24,26 @@ use std::io::{ErrorKind, Write};
 /// Reads the file, then answers the lines of `input` up to `quit` or the end. Each line that is not empty or a comment
 /// is answered by a text, which is written to `answers` and flushed before the next line is read. Frames are written to
 /// `pcm` as 16-bit little-endian samples, left and right in turn, 44,100 frames per second, and flushed before the line
-/// is answered. `host` saves.
+/// is answered. `host` saves. A save is rejected if it would replace the frames, or its undo script a bank, as
+/// [`SessionFiles`] says.
 ///
 /// The bytes of the literals of all lines are leaked, since edits borrow them.
 ///
 /// If the file has a fault, nothing is read of `input` and nothing is written. A failed allocation in a line is its
 /// answer, and the session continues; if the line itself can't be held, the session ends. It also ends by a fault of a
 /// writer, by a failed read, and after 2^64 - 1 lines by [`LiveFault::Input`].
-pub fn live_run<R: LineReader, A: Write, P: Write, S: Saves>(
+pub fn live_run<R: LineReader, A: Write, P: Write, H: Host>(
     alloc: Global,
     file: &[u8],
+    files: SessionFiles<'_>,
     input: &mut R,
     answers: &mut A,
     pcm: &mut P,
-    host: &mut S,
+    host: &mut H,
 ) -> Result<(), LiveFault>
-    ensures { Runs file.now
-        (record { input = R.remaining input.old; answers = A.contents answers.old; pcm = P.contents pcm.old; saved = S.saved host.old })
-        (record { input = R.remaining input.new; answers = A.contents answers.new; pcm = P.contents pcm.new; saved = S.saved host.new }) (R.failure input.new) result }
+    ensures { Runs files.entry file.now
+        (record { input = R.remaining input.old; answers = A.contents answers.old; pcm = P.contents pcm.old; files = H.world host.old; written = H.written host.old })
+        (record { input = R.remaining input.new; answers = A.contents answers.new; pcm = P.contents pcm.new; files = H.world host.new; written = H.written host.new }) (R.failure input.new) result }
 {
     let (bank, counts) = match read(alloc, file) {
         Ok(read) => read,
@@ -48,26 +51,29 @@ pub fn live_run<R: LineReader, A: Write, P: Write, S: Saves>(
         Err(Failure::OutOfMemory) => return Err(LiveFault::Memory),
     };
     let mut live = LiveState::new(alloc, bank);
-    play(alloc, &mut live, &counts, input, answers, pcm, host)
+    play(alloc, &mut live, &counts, files, input, answers, pcm, host)
 }
 
 // Answers lines up to the end.
-fn play<R: LineReader, A: Write, P: Write, S: Saves>(
+fn play<R: LineReader, A: Write, P: Write, H: Host>(
     alloc: Global,
     live: &mut LiveState<'_>,
     counts: &Counts,
+    files: SessionFiles<'_>,
     input: &mut R,
     answers: &mut A,
     pcm: &mut P,
-    host: &mut S,
+    host: &mut H,
 ) -> Result<(), LiveFault>
-    ensures { Plays counts.now live.old
-        (record { input = R.remaining input.old; answers = A.contents answers.old; pcm = P.contents pcm.old; saved = S.saved host.old })
-        (record { input = R.remaining input.new; answers = A.contents answers.new; pcm = P.contents pcm.new; saved = S.saved host.new }) (R.failure input.new) result }
+    ensures { Plays files.entry counts.now live.old
+        (record { input = R.remaining input.old; answers = A.contents answers.old; pcm = P.contents pcm.old; files = H.world host.old; written = H.written host.old })
+        (record { input = R.remaining input.new; answers = A.contents answers.new; pcm = P.contents pcm.new; files = H.world host.new; written = H.written host.new }) (R.failure input.new) result }
 {
     let mut line = Vec::new(alloc);
     for _turn in 0..u64::MAX {
-        match take_line(alloc, live, counts, &mut line, input, answers, pcm, host)? {
+        match take_line(
+            alloc, live, counts, files, &mut line, input, answers, pcm, host,
+        )? {
             Next::Line => {}
             Next::End => return Ok(()),
         }
@@ -76,25 +82,26 @@ fn play<R: LineReader, A: Write, P: Write, S: Saves>(
 }
 
 // Reads and answers the next line, if there is one. All lines share one buffer.
-fn take_line<R: LineReader, A: Write, P: Write, S: Saves>(
+fn take_line<R: LineReader, A: Write, P: Write, H: Host>(
     alloc: Global,
     live: &mut LiveState<'_>,
     counts: &Counts,
+    files: SessionFiles<'_>,
     line: &mut Vec<u8>,
     input: &mut R,
     answers: &mut A,
     pcm: &mut P,
-    host: &mut S,
+    host: &mut H,
 ) -> Result<Next, LiveFault>
-    ensures { IsNextLineResult counts.now live.old live.new
-        (record { input = R.remaining input.old; answers = A.contents answers.old; pcm = P.contents pcm.old; saved = S.saved host.old })
-        (record { input = R.remaining input.new; answers = A.contents answers.new; pcm = P.contents pcm.new; saved = S.saved host.new }) (R.failure input.new) result }
+    ensures { IsNextLineResult files.entry counts.now live.old live.new
+        (record { input = R.remaining input.old; answers = A.contents answers.old; pcm = P.contents pcm.old; files = H.world host.old; written = H.written host.old })
+        (record { input = R.remaining input.new; answers = A.contents answers.new; pcm = P.contents pcm.new; files = H.world host.new; written = H.written host.new }) (R.failure input.new) result }
 {
     match input.read_line(line) {
         Ok(is_line) => {
             if is_line {
                 let line = first_line(line.as_slice());
-                answer_line(alloc, live, counts, line, answers, pcm, host)
+                answer_line(alloc, live, counts, files, line, answers, pcm, host)
             } else {
                 Ok(Next::End)
             }
@@ -126,24 +133,25 @@ fn first_line(text: &[u8]) -> &[u8]
 }
 
 // Answers a line.
-fn answer_line<'a, A: Write, P: Write, S: Saves>(
+fn answer_line<'a, A: Write, P: Write, H: Host>(
     alloc: Global,
     live: &mut LiveState<'a>,
     counts: &Counts,
+    files: SessionFiles<'_>,
     line: &[u8],
     answers: &mut A,
     pcm: &mut P,
-    host: &mut S,
+    host: &mut H,
 ) -> Result<Next, LiveFault>
     requires { HasNoFeed line.now }
-    ensures { IsLineResult counts.now line.now live.old live.new
-        (record { input = None; answers = A.contents answers.old; pcm = P.contents pcm.old; saved = S.saved host.old })
-        (record { input = None; answers = A.contents answers.new; pcm = P.contents pcm.new; saved = S.saved host.new }) result }
+    ensures { IsLineResult files.entry counts.now line.now live.old live.new
+        (record { input = None; answers = A.contents answers.old; pcm = P.contents pcm.old; files = H.world host.old; written = H.written host.old })
+        (record { input = None; answers = A.contents answers.new; pcm = P.contents pcm.new; files = H.world host.new; written = H.written host.new }) result }
 {
     match read_request(alloc, line) {
         Ok(Some(request)) => {
             let kind = kind_of(&request);
-            match do_request(alloc, live, request, pcm, host) {
+            match do_request(alloc, live, files, request, pcm, host) {
                 Ok(answer) => write_answer(live, counts, kind, &answer, answers),
                 Err(fault) => Err(fault),
             }

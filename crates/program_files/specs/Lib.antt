@@ -1,4 +1,3 @@
-pub mod Ending
 pub mod FaultLines
 pub mod Inputs
 pub mod RunFaults

@@ -1,6 +1,4 @@
 //! Why a command fails.
-ghost use Rattle.std.specs.Prelude.{◌≡◌};
-ghost use Rattle.program_files.specs.Ending.{pipe_closed_if};
 
 use crate::run_fault::RunFault;
 use base_outputs::OutputFault;
@@ -27,18 +25,6 @@ pub enum Fault<'a> {
     Run(RunFault, &'a str),
     /// The reader of an output closed its pipe early, which is not reported.
     PipeClosed,
-}
-
-impl<'a> Fault<'a> {
-    /// Returns `PipeClosed` for a write fault if the reader of the output closed its pipe, else this fault.
-    pub fn pipe_closed_if(self, is_pipe_closed: bool) -> Fault<'a>
-        ensures { result ≡ pipe_closed_if is_pipe_closed self.entry }
-    {
-        match self {
-            Fault::Run(RunFault::Write(_, _), _path) if is_pipe_closed => Fault::PipeClosed,
-            fault => fault,
-        }
-    }
 }
 
 impl From<AllocError> for Fault<'_> {

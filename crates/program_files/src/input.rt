@@ -5,8 +5,6 @@ ghost use Rattle.program_files.specs.Inputs.{most_bytes, ReadsPiece, ReadsAll, R
 ghost use Rattle.sf_base.specs.declared.memory.Failure.TheVariants.{Fault as FaultOf};
 ghost use Rattle.file_host.specs.declared.input_fault.InputFault.TheVariants.{TooLong};
 
-use crate::fault::Fault;
-use crate::run_fault::RunFault;
 use file_host::InputFault;
 use sf_base::Failure;
 use sf_base::limits::FILE_LENGTH;
@@ -89,18 +87,18 @@ fn read_at<R: Read>(input: &mut R, buffer: &mut [u8], at: usize) -> Result<usize
 }
 
 /// Reads a whole file.
-pub fn read_file<'a, R: Files + AllocGlobal>(rt: &R, path: &'a str) -> Result<Vec<u8>, Fault<'a>> {
+pub(crate) fn read_file<R: Files>(
+    rt: &R,
+    alloc: Global,
+    path: &str,
+) -> Result<Vec<u8>, Failure<InputFault>> {
     let mut file = match File::open(rt, path) {
         Ok(file) => file,
-        Err(error) => return Err(Fault::File(path, InputFault::of(error.kind()))),
+        Err(error) => return Err(Failure::Fault(InputFault::of(error.kind()))),
     };
     let expected = match file.metadata() {
         Ok(metadata) => metadata.len(),
         Err(_) => 0,
     };
-    match read_whole(rt.alloc(), &mut file, expected) {
-        Ok(bytes) => Ok(bytes),
-        Err(Failure::OutOfMemory) => Err(Fault::Run(RunFault::Memory, path)),
-        Err(Failure::Fault(fault)) => Err(Fault::File(path, fault)),
-    }
+    read_whole(alloc, &mut file, expected)
 }

@@ -1,6 +1,6 @@
 //! An output file, which is created at its first write or flush, or replaces a file once all of the new text is
 //! written.
-ghost use Rattle.std.specs.Prelude.{◌≡◌, IfOk, IfErr, OnOk, IsSome, None};
+ghost use Rattle.std.specs.Prelude.{◌≡◌, IfOk, IfErr, OnOk, IsSome, None, string_bytes};
 ghost use Rattle.std.specs.Io.{WritesAtMost};
 ghost use Rattle.std.specs.Io.KnownBytes.{WriteAppends, Keeps};
 ghost use Rattle.program_files.specs.declared.run_fault.RunFault.TheVariants as run;
@@ -24,7 +24,7 @@ use std::{fs, io};
 #[derive(Drop)]
 pub struct OutputFile<'a, R: Files> {
     rt: &'a R,
-    path: &'a str,
+    path: String,
     destination: Destination,
     file: Option<R::File>,
     /// The bytes that the file accepted.
@@ -50,9 +50,9 @@ enum Destination {
 
 impl<'a, R: Files + AllocGlobal> OutputFile<'a, R> {
     /// The output at a path. Nothing is created yet; a failed allocation is the only error.
-    pub fn new(rt: &'a R, path: &'a str) -> Result<OutputFile<'a, R>, AllocError>
+    pub fn new(rt: &'a R, path: &str) -> Result<OutputFile<'a, R>, AllocError>
         ensures closed { IfOk result (λ output. output.file ≡ None) }
-        ensures path { IfOk result (λ output. output.path ≡ path.entry) }
+        ensures path { IfOk result (λ output. string_bytes output.path ≡ path.now) }
         ensures count { IfOk result (λ output. output.written ≡ 0) }
     {
         let destination = match target_of(rt, path)? {
@@ -61,28 +61,30 @@ impl<'a, R: Files + AllocGlobal> OutputFile<'a, R> {
             Target::Descriptor(number) => Destination::Descriptor(Descriptor::new(rt, number)?),
             Target::Other => Destination::Existing,
         };
+        let path = String::from_str(rt.alloc(), path)?;
         Ok(OutputFile::closed(rt, path, destination))
     }
 
     /// The output at a path that is written directly, such as a pipe: a regular file is truncated first. Nothing is
     /// created yet.
-    pub fn in_place(rt: &'a R, path: &'a str) -> Result<OutputFile<'a, R>, AllocError>
+    pub fn in_place(rt: &'a R, path: &str) -> Result<OutputFile<'a, R>, AllocError>
         ensures closed { IfOk result (λ output. output.file ≡ None) }
-        ensures path { IfOk result (λ output. output.path ≡ path.entry) }
+        ensures path { IfOk result (λ output. string_bytes output.path ≡ path.now) }
         ensures count { IfOk result (λ output. output.written ≡ 0) }
     {
         let destination = match target_of(rt, path)? {
             Target::Descriptor(number) => Destination::Descriptor(Descriptor::new(rt, number)?),
             _ => Destination::Emptied,
         };
+        let path = String::from_str(rt.alloc(), path)?;
         Ok(OutputFile::closed(rt, path, destination))
     }
 }
 
 impl<'a, R: Files> OutputFile<'a, R> {
-    fn closed(rt: &'a R, path: &'a str, destination: Destination) -> OutputFile<'a, R>
+    fn closed(rt: &'a R, path: String, destination: Destination) -> OutputFile<'a, R>
         ensures closed { result.file ≡ None }
-        ensures path { result.path ≡ path.entry }
+        ensures path { string_bytes result.path ≡ string_bytes path }
         ensures count { result.written ≡ 0 }
     {
         OutputFile {
@@ -234,9 +236,9 @@ impl<R: Files> OutputFile<'_, R> {
         match &mut self.destination {
             Destination::Replacement(replacement) => replacement.open(self.rt),
             Destination::New(path) => File::create_new(self.rt, path.as_str()),
-            Destination::Descriptor(descriptor) => descriptor.open(self.rt, self.path),
-            Destination::Existing => open_existing(self.rt, self.path),
-            Destination::Emptied => File::create(self.rt, self.path),
+            Destination::Descriptor(descriptor) => descriptor.open(self.rt, self.path.as_str()),
+            Destination::Existing => open_existing(self.rt, self.path.as_str()),
+            Destination::Emptied => File::create(self.rt, self.path.as_str()),
         }
     }
 }

@@ -1,11 +1,7 @@
-//! Rejects outputs that would destroy a file, before anything is read.
-ghost use Rattle.std.specs.Prelude.{◌≡◌};
-ghost use Rattle.program_files.specs.Ending.{fault_of_check};
+//! Which files are one, and which begin as a bank.
 
-use crate::fault::Fault;
-use crate::run_fault::RunFault;
 use crate::target::{Target, folder_of, name_of, target_of};
-use base_outputs::OutputFault;
+use file_host::begins_as_bank;
 use std::alloc::AllocError;
 use std::fs;
 use std::fs::File;
@@ -22,58 +18,21 @@ const CHARACTER_DEVICE: u32 = 0o020000;
 /// The length of the header of a bank: `RIFF`, a length of four bytes, `sfbk`.
 const HEAD: usize = 12;
 
-/// Why an output is rejected or can't be checked.
-#[derive(Clone, Copy, Debug, PartialEq, Eq)]
-pub enum OutputCheck {
-    Rejected(OutputFault),
-    Memory,
-}
-
-impl From<AllocError> for OutputCheck {
-    fn from(_error: AllocError) -> OutputCheck {
-        OutputCheck::Memory
-    }
-}
-
-impl OutputCheck {
-    /// The fault of a command with this output.
-    pub fn at(self, path: &str) -> Fault<'_>
-        ensures { result ≡ fault_of_check self path.entry }
-    {
-        match self {
-            OutputCheck::Rejected(fault) => Fault::Output(fault, path),
-            OutputCheck::Memory => Fault::Run(RunFault::Memory, path),
-        }
-    }
-}
-
-/// Rejects an output that is the same file as one of the others: by links, by hard links, or as a new file in the same
-/// folder. Character devices such as /dev/null are never rejected.
-pub fn check_apart<R: Files + AllocGlobal>(
-    rt: &R,
-    output: &str,
-    others: &[&str],
-) -> Result<(), OutputCheck> {
-    for other in others {
-        if is_one_file(rt, output, other)? {
-            return Err(OutputCheck::Rejected(OutputFault::SameFile));
-        }
-    }
-    Ok(())
-}
-
-/// Rejects an output at a regular file that begins like a bank.
-pub fn check_no_bank<R: Files + AllocGlobal>(rt: &R, output: &str) -> Result<(), OutputCheck> {
-    let Target::Regular(path) = target_of(rt, output)? else {
-        return Ok(());
+/// Whether there is a regular file at a path that begins as a bank does.
+pub(crate) fn has_bank<R: Files + AllocGlobal>(rt: &R, path: &str) -> Result<bool, AllocError> {
+    let Target::Regular(path) = target_of(rt, path)? else {
+        return Ok(false);
     };
-    if begins_as_bank(rt, path.as_str()) {
-        return Err(OutputCheck::Rejected(OutputFault::HoldsBank));
-    }
-    Ok(())
+    Ok(starts_as_bank(rt, path.as_str()))
 }
 
-fn is_one_file<R: Files + AllocGlobal>(rt: &R, one: &str, other: &str) -> Result<bool, AllocError> {
+/// Whether two paths lead to one file: by links, by hard links, or as a new file in the same folder. Never for a
+/// character device, such as /dev/null.
+pub(crate) fn is_one_file<R: Files + AllocGlobal>(
+    rt: &R,
+    one: &str,
+    other: &str,
+) -> Result<bool, AllocError> {
     match (identity_of(rt, one), identity_of(rt, other)) {
         (Some(one), Some(other)) => Ok(one == other && !one.is_character_device),
         (None, None) => is_one_new_file(rt, one, other),
@@ -125,10 +84,10 @@ fn identity_of<R: Files>(rt: &R, path: &str) -> Option<FileIdentity> {
     }
 }
 
-fn begins_as_bank<R: Files>(rt: &R, path: &str) -> bool {
+fn starts_as_bank<R: Files>(rt: &R, path: &str) -> bool {
     let Ok(mut file) = File::open(rt, path) else {
         return false;
     };
     let mut head = [0; HEAD];
-    file.read_exact(&mut head).is_ok() && head.starts_with(b"RIFF") && head.ends_with(b"sfbk")
+    file.read_exact(&mut head).is_ok() && begins_as_bank(&head)
 }

@@ -10,7 +10,7 @@ use std::rt::Files;
 /// Ends both outputs after their run. Where the bank replaces a file, the undo script is complete and on disk first:
 /// the replaced file may be the bank that was read, which is never without its undo script. If either file can't be
 /// put in place, both are restored.
-pub fn end_both<R: Files>(
+pub(crate) fn end_both<R: Files>(
     out: OutputFile<'_, R>,
     undo: OutputFile<'_, R>,
     run: Result<(), RunFault>,

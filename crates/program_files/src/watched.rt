@@ -1,10 +1,15 @@
 //! The standard output, whose reader may close it early.
-ghost use Rattle.std.specs.Prelude.{◌≡◌, None};
+ghost use Rattle.std.specs.Prelude.{None};
 ghost use Rattle.std.specs.Io.{WritesAtMost};
 ghost use Rattle.std.specs.Io.KnownBytes.{WriteAppends, Keeps};
 
 use std::io;
 use std::io::{ErrorKind, Write};
+
+/// A writer that knows whether its last write or flush failed because nothing reads the other end of its pipe.
+pub trait ClosedPipe {
+    fn is_pipe_closed(&self) -> bool;
+}
 
 /// A writer that notices that nothing reads the other end of its pipe.
 #[derive(Drop)]
@@ -21,11 +26,10 @@ impl<'a, O: Write> Watched<'a, O> {
             is_pipe_closed: false,
         }
     }
+}
 
-    /// Whether the last write or flush failed for that reason.
-    pub fn is_pipe_closed(&self) -> bool
-        ensures { result ≡ self.now.is_pipe_closed }
-    {
+impl<O: Write> ClosedPipe for Watched<'_, O> {
+    fn is_pipe_closed(&self) -> bool {
         self.is_pipe_closed
     }
 }

@@ -28,7 +28,7 @@ use Rattle.program_files.specs.declared.run_fault.RunFault.TheVariants as run
 use Rattle.file_host.specs.declared.faults.Which.TheVariants.{Out}
 use Rattle.program_files.specs.RunFaults.{in_run}
 use Rattle.sfbank.specs.Outcome.{Done, edits_of, RefusedLine, first_refused, both_texts, unless_refused}
-use Rattle.sfbank.specs.Outcome.{after_script, after_reading, bank_in, outcome, canon_outcome, play_outcome}
+use Rattle.sfbank.specs.Outcome.{after_script, after_reading, bank_in, outcome, play_outcome}
 use Rattle.sfbank.specs.Written.{IsWritten, RunsOneText}
 use Rattle.sfbank.specs.BankScripts.{script_outcome, start_of, IsRemade, ScriptsDistinguish, RemadeRendersSame}
 use Rattle.sfbank.proofs.OneText.{not_read, runs_one_text, canon_text}
@@ -45,7 +45,7 @@ unfolding script_outcome
 script_not_read U points failure known file h =
     not_read U failure known (fault_of file) (Ok (bank_script points (bank_in file))) h
 
-script_text : (points : SamplePoints) (file : List ℕ) (b : Parts) (counts : Counts) → ReadsAs file b counts
+pub script_text : (points : SamplePoints) (file : List ℕ) (b : Parts) (counts : Counts) → ReadsAs file b counts
     → script_outcome points file ≡ Ok (bank_script points b)
 unfolding script_outcome
 script_text points file b counts r =

@@ -4,7 +4,8 @@ use Rattle.std.proofs.Common.{sym, ap, subst, ◌∙◌, ◌≢◌}
 use Rattle.std.proofs.lemmas.Bool.{eq-eqb, eqb-true, ne_eqb}
 use Rattle.std.proofs.KnownBytes.{Keeps-refl}
 use Rattle.std.specs.Io.KnownBytes.{Appends}
-use Rattle.std.specs.Result.{IsErrAnd}
+use Rattle.std.specs.Prelude.{IfSome, IsSomeAnd}
+use Rattle.std.specs.Option.{option_map}
 use Rattle.sf_base.specs.declared.memory.Failure.{Failure}
 use Rattle.sf_base.specs.declared.memory.Failure.TheVariants as failures
 use Rattle.bank_parts.specs.declared.parts.Parts.{Parts}
@@ -29,7 +30,8 @@ use Rattle.program_files.specs.RunFaults.{in_run}
 use Rattle.sfbank.specs.Outcome.{Done, edits_of, after_script, after_reading, bank_in, outcome}
 use Rattle.sfbank.specs.Written.{IsWritten}
 use Rattle.sfbank.specs.Differences.{TwoBanks, after_file, if_same, of_one_version, banks_in, two_banks_of, IsDifference}
-use Rattle.sfbank.specs.Differences.{WritesDifference, RunsDifference, WritesNothing, ReadsTwoBanks}
+use Rattle.sfbank.specs.Differences.{WritesDifference, RunsDifference, WritesNothing, ReadsTwoBanks, FindsDifference}
+use Rattle.sfbank.specs.Prepared.{edits_or_all}
 use Rattle.sfbank.proofs.Restores.{all_fit, edits_numbered, restores}
 use Rattle.sfbank.proofs.BankScripts.{sound_in, script_leads}
 
@@ -143,55 +145,86 @@ replacement_is a b p in_a in_b h =
     let whole = replaces (bank_in a) (bank_in b) (sound_in a in_a r.first) (sound_in b in_b r.second) r.minors in
     subst (λ (q : TwoBanks). IsScript q.first (texts_of (edits_between q.first q.second)) q.second) r.banks whole
 
--- ---- how the run ends
-
-writes_difference : {U : Type 0} (old new : Option (List ℕ)) (a b : List ℕ) (p : TwoBanks) (text : List ℕ) (r : Result U RunFault)
-    → AreBytes a → two_banks_of a b ≡ Ok p
-    → IsScript p.first text p.second → IsWritten Out old new text r → WritesDifference old new a b r
-writes_difference old new a b p text r bytes h s g =
-    let d = both_read a b p h in
-    let script = subst (λ (q : TwoBanks). IsScript q.first text q.second) (sym d.banks) s in
-    record {
-      is_pair =
-          h ∙ ap Ok (sym d.banks);
-      text = text;
-      differs = is_difference a b text bytes d.first script;
-      writes = g;
-    }
-
-pub runs_difference : {U : Type 0} (old new : Option (List ℕ)) (a b : List ℕ) (p : TwoBanks) (text : List ℕ)
-    (r : Result U RunFault)
-    → AreBytes a → two_banks_of a b ≡ Ok p
-    → IsScript p.first text p.second → IsWritten Out old new text r → RunsDifference old new a b r
-runs_difference old new a b p text (Ok u) bytes h s g = writes_difference old new a b p text (Ok u) bytes h s g
-runs_difference old new a b p text (Err (run.Write which n)) bytes h s g =
-    writes_difference {U = Unit {0}} old new a b p text (Err (run.Write which n)) bytes h s g
-runs_difference old new a b p text (Err run.Memory) bytes h s g = absurd g
-runs_difference old new a b p text (Err run.OtherVersion) bytes h s g = absurd g
-runs_difference old new a b p text (Err (run.Recording fault)) bytes h s g = absurd g
-runs_difference old new a b p text (Err (run.NoMember cause)) bytes h s g = absurd g
-runs_difference old new a b p text (Err (run.Read fault)) bytes h s g = absurd g
-runs_difference old new a b p text (Err (run.ReadFirst fault)) bytes h s g = absurd g
-runs_difference old new a b p text (Err (run.ReadSecond fault)) bytes h s g = absurd g
-runs_difference old new a b p text (Err (run.Script fault)) bytes h s g = absurd g
-runs_difference old new a b p text (Err (run.Refused number why)) bytes h s g = absurd g
-runs_difference old new a b p text (Err (run.NotNeutral number)) bytes h s g = absurd g
-runs_difference old new a b p text (Err (run.Notes fault)) bytes h s g = absurd g
+-- edits that were found, or else those that replace the bank
+any_script : {X : Type 0} (a b : List ℕ) (p : TwoBanks) (found : Option X) (view : X → List Edit)
+    → AreBytes a → AreBytes b → two_banks_of a b ≡ Ok p
+    → IfSome found (λ x. Leads p.first (view x) p.second)
+    → IsScript p.first (texts_of (edits_or_all p.first p.second (option_map view found))) p.second
+any_script a b p (Some x) view in_a in_b h leads = printed_leads p (view x) leads
+any_script a b p None view in_a in_b h leads = replacement_is a b p in_a in_b h
 
 -- there are no edits between equal banks
-pub writes_nothing : {U : Type 0} (old new : Option (List ℕ)) (a b : List ℕ) (p : TwoBanks) (es : List Edit)
-    (r : Result U RunFault)
-    → two_banks_of a b ≡ Ok p
-    → (p.first ≡ p.second → es ≡ []) → IsWritten Out old new (texts_of es) r → WritesNothing old new a b r
-writes_nothing old new a b p es (Ok u) h none g = λ e.
-    let banks = (both_read a b p h).banks in
-    let same : p.first ≡ p.second = sym (ap (λ (q : TwoBanks). q.first) banks) ∙ e ∙ ap (λ (q : TwoBanks). q.second) banks in
-    subst (λ (xs : List Edit). Appends old new (texts_of xs)) (none same) g
-writes_nothing old new a b p es (Err fault) h none g = tt
+no_edits : {X : Type 0} (p : TwoBanks) (found : Option X) (view : X → List Edit)
+    → (p.first ≡ p.second → IsSomeAnd found (λ x. view x ≡ [])) → p.first ≡ p.second
+    → edits_or_all p.first p.second (option_map view found) ≡ []
+no_edits p (Some x) view none e = none e
+no_edits p None view none e = absurd (none e)
 
--- out of memory, before the first byte
-pub ends_in_memory : {U : Type 0} (known : Option (List ℕ)) (a b : List ℕ) (r : Result U RunFault)
-    → IsErrAnd r (λ fault. fault ≡ run.Memory) → RunsDifference known known a b r
-ends_in_memory known a b (Ok u) h = absurd h
-ends_in_memory {U} known a b (Err fault) h =
-    subst (λ fault. RunsDifference {U = U} known known a b (Err fault)) (sym h) (Keeps-refl known)
+pub difference_found : {X : Type 0} (a b : List ℕ) (p : TwoBanks) (found : Option X) (view : X → List Edit)
+    → AreBytes a → AreBytes b → two_banks_of a b ≡ Ok p
+    → IfSome found (λ x. Leads p.first (view x) p.second)
+    → (p.first ≡ p.second → IsSomeAnd found (λ x. view x ≡ []))
+    → (two_banks_of a b ≡ Ok (banks_in a b))
+    × IsDifference a b (texts_of (edits_or_all p.first p.second (option_map view found)))
+    × (bank_in a ≡ bank_in b → texts_of (edits_or_all p.first p.second (option_map view found)) ≡ [])
+difference_found a b p found view in_a in_b h leads none =
+    let d = both_read a b p h in
+    let es = edits_or_all p.first p.second (option_map view found) in
+    let script =
+    subst (λ (q : TwoBanks). IsScript q.first (texts_of es) q.second) (sym d.banks)
+    (any_script a b p found view in_a in_b h leads)
+    in (
+      h ∙ ap Ok (sym d.banks),
+      is_difference a b (texts_of es) in_a d.first script,
+      λ e. ap texts_of
+          (no_edits p found view none
+          (sym (ap (λ (q : TwoBanks). q.first) d.banks) ∙ e ∙ ap (λ (q : TwoBanks). q.second) d.banks)),
+    )
+
+-- ---- how the run ends
+
+writes_difference : {U : Type 0} (old new : Option (List ℕ)) (a b text : List ℕ) (r : Result U RunFault)
+    → two_banks_of a b ≡ Ok (banks_in a b) → IsDifference a b text → IsWritten Out old new text r
+    → WritesDifference old new a b r
+writes_difference old new a b text r pair d g =
+    record { is_pair = pair; text = text; differs = d; writes = g }
+
+pub runs_difference : {U : Type 0} (old new : Option (List ℕ)) (a b text : List ℕ) (r : Result U RunFault)
+    → two_banks_of a b ≡ Ok (banks_in a b) → IsDifference a b text → IsWritten Out old new text r
+    → RunsDifference old new a b r
+runs_difference old new a b text (Ok u) pair d g = writes_difference old new a b text (Ok u) pair d g
+runs_difference old new a b text (Err (run.Write which n)) pair d g =
+    writes_difference {U = Unit {0}} old new a b text (Err (run.Write which n)) pair d g
+runs_difference old new a b text (Err run.Memory) pair d g = absurd g
+runs_difference old new a b text (Err run.OtherVersion) pair d g = absurd g
+runs_difference old new a b text (Err (run.Recording fault)) pair d g = absurd g
+runs_difference old new a b text (Err (run.NoMember cause)) pair d g = absurd g
+runs_difference old new a b text (Err (run.Read fault)) pair d g = absurd g
+runs_difference old new a b text (Err (run.ReadFirst fault)) pair d g = absurd g
+runs_difference old new a b text (Err (run.ReadSecond fault)) pair d g = absurd g
+runs_difference old new a b text (Err (run.Script fault)) pair d g = absurd g
+runs_difference old new a b text (Err (run.Refused number why)) pair d g = absurd g
+runs_difference old new a b text (Err (run.NotNeutral number)) pair d g = absurd g
+runs_difference old new a b text (Err (run.Notes fault)) pair d g = absurd g
+
+-- for two files of one bank nothing is written
+pub writes_nothing : {U : Type 0} (old new : Option (List ℕ)) (a b text : List ℕ) (r : Result U RunFault)
+    → (bank_in a ≡ bank_in b → text ≡ []) → IsWritten Out old new text r → WritesNothing old new a b r
+writes_nothing old new a b text (Ok u) none g = λ e. subst (Appends old new) (none e) g
+writes_nothing old new a b text (Err fault) none g = tt
+
+-- a fault before the first byte
+pub no_difference_runs : {X : Type 0} (view : X → List ℕ) (known : Option (List ℕ)) (a b : List ℕ) (why : RunFault)
+    → FindsDifference view a b (Err why) → RunsDifference {U = Unit {0}} known known a b (Err why)
+no_difference_runs view known a b run.Memory h = Keeps-refl known
+no_difference_runs view known a b run.OtherVersion h = (h, Keeps-refl known)
+no_difference_runs view known a b (run.Recording fault) h = (h, Keeps-refl known)
+no_difference_runs view known a b (run.NoMember cause) h = (h, Keeps-refl known)
+no_difference_runs view known a b (run.Read fault) h = (h, Keeps-refl known)
+no_difference_runs view known a b (run.ReadFirst fault) h = (h, Keeps-refl known)
+no_difference_runs view known a b (run.ReadSecond fault) h = (h, Keeps-refl known)
+no_difference_runs view known a b (run.Script fault) h = (h, Keeps-refl known)
+no_difference_runs view known a b (run.Refused number why) h = (h, Keeps-refl known)
+no_difference_runs view known a b (run.NotNeutral number) h = (h, Keeps-refl known)
+no_difference_runs view known a b (run.Notes fault) h = (h, Keeps-refl known)
+no_difference_runs view known a b (run.Write which n) h = absurd h

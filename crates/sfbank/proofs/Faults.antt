@@ -1,5 +1,5 @@
 -- Why a run fails: the faults of its parts.
-use Rattle.std.proofs.Common.{◌≡◌, ℕ, List, Option, None, Result, Ok, Err, refl, sym, ap, ◌∙◌}
+use Rattle.std.proofs.Common.{◌≡◌, ℕ, List, Option, None, Ok, Err, refl, sym, ap, ◌∙◌}
 use Rattle.sf_base.specs.declared.memory.Failure.{Failure}
 use Rattle.sf_base.specs.declared.memory.Failure.TheVariants as failures
 use Rattle.bank_parts.specs.declared.parts.Parts.{Parts}
@@ -7,8 +7,7 @@ use Rattle.bank_format.specs.declared.fault.Counts.{Counts}
 use Rattle.bank_format.specs.declared.fault.ReadFault.{ReadFault}
 use Rattle.bank_format.specs.Canon.{canon}
 use Rattle.bank_format.specs.Reading.{Content}
-use Rattle.bank_format.specs.FaultChecks as reading
-use Rattle.bank_format.specs.ReadChecks.{fault_of, ReadsAs}
+use Rattle.bank_format.specs.ReadChecks.{ReadsAs}
 use Rattle.edit_forms.specs.declared.edit.Edit.{Edit}
 use Rattle.script_tokens.specs.declared.fault.ScriptFault.{ScriptFault}
 use Rattle.script_tokens.specs.Pool.{pool_bytes}
@@ -20,26 +19,12 @@ use Rattle.program_files.specs.declared.run_fault.RunFault.{RunFault}
 use Rattle.program_files.specs.declared.run_fault.RunFault.TheVariants as run
 use Rattle.sfbank.specs.Outcome.{Done, edits_of, RefusedLine, first_refused, both_texts, unless_refused}
 use Rattle.sfbank.specs.Outcome.{first_not_neutral, if_neutral, after_script, after_neutral_script, after_reading}
-use Rattle.sfbank.specs.Outcome.{bank_in, outcome}
+use Rattle.sfbank.specs.Outcome.{bank_in}
 use Rattle.sfbank.specs.Written.{FailsBefore}
 use Rattle.sfbank.specs.EditRuns.{AllApplied, AllOf, StopsAtLine, first_other, after_lines, outcome_of}
 use Rattle.program_commands.specs.declared.words.Forms.{Forms}
 use Rattle.program_commands.specs.declared.words.Forms.TheVariants.{Every, Neutral}
 use Rattle.program_files.specs.RunFaults.{in_run}
-
--- ---- the file's fault
-
--- whatever the outcome for the bank is
-at_file : {X : Type 0} (failure : Failure ReadFault) (broken : Option ReadFault) (r : Result X RunFault)
-    → reading.Fails failure broken → FailsBefore (in_run run.Read failure) (after_reading broken r)
-at_file (failures.Fault fault) broken r h = ap (λ o. after_reading o r) h
-at_file failures.OutOfMemory broken r h = tt
-
-pub at_read : (forms : Forms) (file script : List ℕ) (failure : Failure ReadFault)
-    → reading.Fails failure (fault_of file)
-    → FailsBefore (in_run run.Read failure) (outcome_of forms file script)
-at_read forms file script failure h =
-    at_file failure (fault_of file) (after_lines forms (bank_in file) (script_of script)) h
 
 -- ---- a file that reads as a bank
 

@@ -11,3 +11,8 @@ pub mod Differences
 pub mod RenderLaws
 pub mod Recordings
 pub mod Maps
+mod PlanLaws
+mod OutcomeLaws
+mod CommandLaws
+mod LiveLaws
+pub mod UndoneFiles

@@ -25,7 +25,7 @@ use Rattle.program_files.specs.declared.run_fault.RunFault.TheVariants as run
 use Rattle.file_host.specs.declared.faults.Which.TheVariants.{Out}
 use Rattle.sfbank.specs.Outcome.{after_script, after_reading, bank_in, counts_in, outcome, canon_outcome}
 use Rattle.sfbank.specs.Outcome.{show_outcome, show_details_outcome, without_undo, IsEmptyEdit, IsFixed}
-use Rattle.sfbank.specs.Written.{IsWritten, RunsOneText}
+use Rattle.sfbank.specs.Written.{IsWritten, RunsOneText, FailsBefore}
 use Rattle.program_files.specs.RunFaults.{in_run}
 use Rattle.sfbank.proofs.Restores.{reading_done}
 
@@ -79,6 +79,22 @@ runs_one_text old new outcome text (Err (run.Recording fault)) e h = absurd h
 runs_one_text old new outcome text (Err (run.NoMember cause)) e h = absurd h
 runs_one_text old new outcome text (Err (run.Notes fault)) e h = absurd h
 
+-- nothing was written
+pub one_text_fails : (U : Type 0) (known : Option (List ℕ)) (outcome : Result (List ℕ) RunFault) (fault : RunFault)
+    → FailsBefore fault outcome → RunsOneText {U = U} known known outcome (Err fault)
+one_text_fails U known outcome (run.Read fault) h = (h, Keeps-refl known)
+one_text_fails U known outcome (run.ReadFirst fault) h = (h, Keeps-refl known)
+one_text_fails U known outcome (run.ReadSecond fault) h = (h, Keeps-refl known)
+one_text_fails U known outcome (run.Script fault) h = (h, Keeps-refl known)
+one_text_fails U known outcome (run.Refused number why) h = (h, Keeps-refl known)
+one_text_fails U known outcome (run.NotNeutral number) h = (h, Keeps-refl known)
+one_text_fails U known outcome run.OtherVersion h = (h, Keeps-refl known)
+one_text_fails U known outcome (run.Recording fault) h = (h, Keeps-refl known)
+one_text_fails U known outcome (run.NoMember cause) h = (h, Keeps-refl known)
+one_text_fails U known outcome (run.Notes fault) h = (h, Keeps-refl known)
+one_text_fails U known outcome run.Memory h = Keeps-refl known
+one_text_fails U known outcome (run.Write which n) h = absurd h
+
 pub canon_text : (file : List ℕ) (b : Parts) (counts : Counts) → ReadsAs file b counts
     → canon_outcome file ≡ Ok (canon b)
 unfolding canon_outcome
@@ -86,14 +102,14 @@ canon_text file b counts r =
     ap (λ (o : Option ReadFault). after_reading o (Ok (canon (bank_in file)))) r.0
     ∙ ap (λ (c : Content). Ok (canon c.bank)) r.1
 
-show_text : (file : List ℕ) (b : Parts) (counts : Counts) → ReadsAs file b counts
+pub show_text : (file : List ℕ) (b : Parts) (counts : Counts) → ReadsAs file b counts
     → show_outcome file ≡ Ok (listing b counts)
 unfolding show_outcome
 show_text file b counts r =
     ap (λ (o : Option ReadFault). after_reading o (Ok (listing (bank_in file) (counts_in file)))) r.0
     ∙ ap (λ (c : Content). Ok (listing c.bank c.counts)) r.1
 
-details_text : (details : Details) (file : List ℕ) (b : Parts) (counts : Counts) → ReadsAs file b counts
+pub details_text : (details : Details) (file : List ℕ) (b : Parts) (counts : Counts) → ReadsAs file b counts
     → show_details_outcome details file ≡ Ok (detailed_listing details b counts)
 unfolding show_details_outcome
 details_text details file b counts r =

@@ -1,11 +1,10 @@
 -- Runs that export a sample as a WAVE file, and runs that import a WAVE file.
-use Rattle.std.proofs.Common.{◌≡◌, ◌≤◌, ◌<◌, ℕ, suc, List, [], ◌∷◌, length, Option, Some, None, Result, Ok, Err}
+use Rattle.std.proofs.Common.{◌≡◌, ◌≤◌, ℕ, List, length, Option, Some, None, Result, Ok, Err}
 use Rattle.std.proofs.Common.{refl, sym, ap, ◌∙◌, arith}
 use Rattle.std.specs.Prelude.{slice_get}
 use Rattle.std.proofs.KnownBytes.{Keeps-refl}
-use Rattle.sf_base.specs.declared.limits.TheConstants.{SAMPLES, POINTS}
+use Rattle.sf_base.specs.declared.limits.TheConstants.{POINTS}
 use Rattle.sf_base.specs.declared.memory.Failure.{Failure}
-use Rattle.sf_base.specs.declared.memory.Failure.TheVariants as failures
 use Rattle.bank_parts.specs.declared.parts.Parts.{Parts}
 use Rattle.bank_parts.specs.declared.parts.Sample.{Sample}
 use Rattle.bank_parts.specs.Valid.{IsValid}
@@ -20,11 +19,9 @@ use Rattle.bank_format.specs.ReadChecks.{fault_of, ReadsAs}
 use Rattle.bank_format.proofs.ReadValid.{read_valid}
 use Rattle.edit_forms.specs.declared.edit.Edit.{Edit}
 use Rattle.edit_forms.specs.declared.cause.Cause.TheVariants.{NoSuchSample}
-use Rattle.edit_script.specs.declared.parsing.Line.{Line}
 use Rattle.edit_script.specs.Script.{script_of}
 use Rattle.edit_script.specs.Printing.{texts_of, numbered, AllFit}
 use Rattle.edit_script.proofs.LineLaws.{printed_is_read}
-use Rattle.script_tokens.specs.declared.fault.ScriptFault.{ScriptFault}
 use Rattle.wave_file.specs.SampleWave.{sample_wave}
 use Rattle.wave_file.specs.declared.fault.WaveFault.{WaveFault}
 use Rattle.wave_file.specs.declared.recording.Recording.{Recording}
@@ -35,7 +32,7 @@ use Rattle.program_files.specs.declared.run_fault.RunFault.{RunFault}
 use Rattle.program_files.specs.declared.run_fault.RunFault.TheVariants as run
 use Rattle.file_host.specs.declared.faults.Which.TheVariants.{Out}
 use Rattle.program_files.specs.RunFaults.{in_run}
-use Rattle.sfbank.specs.Outcome.{Done, edits_of, after_script, after_reading, bank_in, outcome}
+use Rattle.sfbank.specs.Outcome.{Done, after_script, after_reading, bank_in, outcome}
 use Rattle.sfbank.specs.Recordings.{wave_of, wave_outcome, edits_into, after_recording, import_outcome, IsScripted}
 use Rattle.sfbank.specs.Recordings.{IsImportUndone}
 use Rattle.sfbank.specs.Written.{IsWritten, RunsOneText, FailsBefore}
@@ -52,7 +49,7 @@ wave_not_read U failure known file number h =
     not_read U failure known (fault_of file) (wave_of (slice_get (bank_in file).samples number)) h
 
 -- the outcome for the bytes is the outcome for their bank
-wave_on : (file : List ℕ) (number : ℕ) (b : Parts) (counts : Counts) → ReadsAs file b counts
+pub wave_on : (file : List ℕ) (number : ℕ) (b : Parts) (counts : Counts) → ReadsAs file b counts
     → wave_outcome file number ≡ wave_of (slice_get b.samples number)
 unfolding wave_outcome
 wave_on file number b counts r =
@@ -80,14 +77,7 @@ few_points b number s v h =
 
 -- ---- an import
 
-pub import_not_read : (failure : Failure ReadFault) (file wave name : List ℕ) → Fails failure (fault_of file)
-    → FailsBefore (in_run run.Read failure) (import_outcome file wave name)
-unfolding import_outcome
-import_not_read (failures.Fault fault) file wave name h =
-    ap (λ (o : Option ReadFault). after_reading o (after_recording (bank_in file) name (recording_in wave))) h
-import_not_read failures.OutOfMemory file wave name h = tt
-
-import_on : (file wave name : List ℕ) (b : Parts) (counts : Counts) → ReadsAs file b counts
+pub import_on : (file wave name : List ℕ) (b : Parts) (counts : Counts) → ReadsAs file b counts
     → import_outcome file wave name ≡ after_recording b name (recording_in wave)
 unfolding import_outcome
 import_on file wave name b counts r =

@@ -1,7 +1,6 @@
 -- Runs that render notes, and banks that render identically.
-use Rattle.std.proofs.Common.{◌≡◌, ◌≤◌, ◌+◌, ◌*◌, ◌%◌, ℕ, ℤ, List, Option, None, Result, Ok, Err, refl, sym, ap, ◌∙◌}
+use Rattle.std.proofs.Common.{◌≡◌, ℕ, ℤ, List, Option, None, Result, Ok, Err, refl, sym, ap, ◌∙◌}
 use Rattle.std.proofs.Common.{arith}
-use Rattle.std.proofs.KnownBytes.{Keeps-refl}
 use Rattle.sf_base.specs.declared.memory.Failure.{Failure}
 use Rattle.sf_base.specs.declared.memory.Failure.TheVariants as failures
 use Rattle.bank_parts.specs.declared.parts.Parts.{Parts}
@@ -10,7 +9,6 @@ use Rattle.bank_format.specs.declared.fault.Counts.{Counts}
 use Rattle.bank_format.specs.declared.fault.ReadFault.{ReadFault}
 use Rattle.bank_format.specs.Canon.{canon}
 use Rattle.bank_format.specs.Reading.{Content}
-use Rattle.bank_format.specs.FaultChecks.{Fails}
 use Rattle.bank_format.specs.ReadChecks.{fault_of, ReadsAs}
 use Rattle.bank_format.proofs.RoundTrip.{reads-again}
 use Rattle.bank_format.proofs.ReadValid.{read_valid, read_fits}
@@ -24,22 +22,13 @@ use Rattle.mixer.specs.Render.{render, IsRendered}
 use Rattle.wave_file.specs.Wave.{wave, FitsWave}
 use Rattle.program_files.specs.declared.run_fault.RunFault.{RunFault}
 use Rattle.program_files.specs.declared.run_fault.RunFault.TheVariants as run
-use Rattle.file_host.specs.declared.faults.Which.TheVariants.{Out}
 use Rattle.sfbank.specs.Outcome.{Done, after_script, after_reading, bank_in, outcome, canon_outcome, after_notes}
 use Rattle.sfbank.specs.Outcome.{play_outcome, RestoredRendersSame, CanonRendersSame}
-use Rattle.sfbank.specs.Written.{IsWritten, RunsOneText}
+use Rattle.sfbank.specs.Written.{FailsBefore}
 use Rattle.program_files.specs.RunFaults.{in_run}
-use Rattle.sfbank.proofs.OneText.{not_read, runs_one_text}
 use Rattle.sfbank.proofs.Restores.{reading_done, restores}
 
 -- ---- a run
-
-pub play_not_read : (U : Type 0) (failure : Failure ReadFault) (known : Option (List ℕ)) (file notes : List ℕ)
-    → Fails failure (fault_of file)
-    → RunsOneText {U = U} known known (play_outcome file notes) (Err (in_run run.Read failure))
-unfolding play_outcome
-play_not_read U failure known file notes h =
-    not_read U failure known (fault_of file) (after_notes (bank_in file) (notes_of notes)) h
 
 -- the outcome for the bytes is the outcome for their bank
 pub played_on : (file notes : List ℕ) (b : Parts) (counts : Counts) → ReadsAs file b counts
@@ -49,27 +38,22 @@ played_on file notes b counts r =
     ap (λ (o : Option ReadFault). after_reading o (after_notes (bank_in file) (notes_of notes))) r.0
     ∙ ap (λ (c : Content). after_notes c.bank (notes_of notes)) r.1
 
-pub not_noted : (U : Type 0) (failure : Failure NoteFault) (known : Option (List ℕ)) (file notes : List ℕ)
-    (b : Parts) (counts : Counts)
-    → ReadsAs file b counts
-    → texts.Fails failure (notes_of notes)
-    → RunsOneText {U = U} known known (play_outcome file notes) (Err (in_run run.Notes failure))
-not_noted U (failures.Fault fault) known file notes b counts r h =
-    (played_on file notes b counts r ∙ ap (after_notes b) h, Keeps-refl known)
-not_noted U failures.OutOfMemory known file notes b counts r h = Keeps-refl known
+-- the notes have a fault, or an allocation failed
+pub notes_fail : (failure : Failure NoteFault) (file notes : List ℕ) (b : Parts) (counts : Counts) → ReadsAs file b counts
+    → texts.Fails failure (notes_of notes) → FailsBefore (in_run run.Notes failure) (play_outcome file notes)
+notes_fail (failures.Fault fault) file notes b counts r h = played_on file notes b counts r ∙ ap (after_notes b) h
+notes_fail failures.OutOfMemory file notes b counts r h = tt
 
 pub fits_wave : (sides : List ℤ) → IsRendered sides → FitsWave sides
 fits_wave sides h = let most = h.bound in record { whole = h.whole; size = omega (arith, most) }
 
-pub play_runs : {U : Type 0} (old new : Option (List ℕ)) (file notes : List ℕ) (b : Parts) (counts : Counts)
-    (ns : List Numbers) (sides : List ℤ) (r : Result U RunFault)
-    → ReadsAs file b counts → notes_of notes ≡ Ok ns → sides ≡ render b ns → IsWritten Out old new (wave sides) r
-    → RunsOneText old new (play_outcome file notes) r
-play_runs old new file notes b counts ns sides r reads spelled played h =
-    runs_one_text old new (play_outcome file notes) (wave sides) r
-    (played_on file notes b counts reads ∙ ap (after_notes b) spelled
-    ∙ ap (λ (xs : List ℤ). Ok (wave xs)) (sym played))
-    h
+-- what is rendered of the notes
+pub played : (file notes : List ℕ) (b : Parts) (counts : Counts) (ns : List Numbers) (sides : List ℤ)
+    → ReadsAs file b counts → notes_of notes ≡ Ok ns → sides ≡ render b ns
+    → play_outcome file notes ≡ Ok (wave sides)
+played file notes b counts ns sides reads spelled e =
+    played_on file notes b counts reads ∙ ap (after_notes b) spelled
+    ∙ ap (λ (xs : List ℤ). Ok (wave xs)) (sym e)
 
 -- ---- banks that render identically
 

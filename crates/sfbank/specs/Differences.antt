@@ -79,3 +79,13 @@ ReadsTwoBanks view pair (Ok x) = pair ≡ Ok (view x)
 ReadsTwoBanks view pair (Err run.Memory) = Unit {0}
 ReadsTwoBanks view pair (Err (run.Write which n)) = ⊥
 ReadsTwoBanks view pair (Err fault) = pair ≡ Err fault
+
+-- a difference of two readable files was found, or the reason why there is none
+abbrev pub FindsDifference : {X : Type 0} → (X → List ℕ) → List ℕ → List ℕ → Result X RunFault → Type 0
+FindsDifference view a b (Ok x) =
+    (two_banks_of a b ≡ Ok (banks_in a b))
+    × IsDifference a b (view x)
+    × (bank_in a ≡ bank_in b → view x ≡ [])
+FindsDifference view a b (Err run.Memory) = Unit {0}
+FindsDifference view a b (Err (run.Write which n)) = ⊥
+FindsDifference view a b (Err fault) = two_banks_of a b ≡ Err fault

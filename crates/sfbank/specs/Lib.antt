@@ -20,3 +20,10 @@ pub mod SavedBanks
 pub mod Differences
 pub mod Recordings
 pub mod Maps
+pub mod Plans
+pub mod Ends
+pub mod LiveRuns
+pub mod Meanings
+pub mod Steps
+pub mod Outputs
+pub mod UndoneFiles

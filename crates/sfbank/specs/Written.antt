@@ -72,6 +72,6 @@ FailsBefore (run.Write which n) outcome = ⊥
 FailsBefore fault outcome = outcome ≡ Err fault
 
 -- Before the first byte: what the run will write, or its fault.
-abbrev pub Prepared : {X : Type 0} → (X → Done) → Result Done RunFault → Result X RunFault → Type 0
+abbrev pub Prepared : {X Y : Type 0} → (X → Y) → Result Y RunFault → Result X RunFault → Type 0
 Prepared view outcome (Ok x) = outcome ≡ Ok (view x)
 Prepared view outcome (Err fault) = FailsBefore fault outcome

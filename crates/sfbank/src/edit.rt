@@ -4,14 +4,11 @@ ghost use Rattle.sfbank.specs.Outcome.{outcome, neutral_outcome, IsNeutrallyUndo
 ghost use Rattle.sfbank.specs.EditRuns.{outcome_of};
 ghost use Rattle.sfbank.specs.Written.{Runs};
 
-use crate::edited_bank::apply_script;
-use crate::writing::write_both;
+use crate::edited_bank::{apply_script, read_script};
+use crate::writing::write_edited;
 use base_progress::{NoReports, Progress};
-use edit_script::{EditLines, pool_of};
 use program_commands::Forms;
 use program_files::RunFault;
-use sf_reader::read;
-use sf_writer::BankFile;
 use std::alloc::Global;
 use std::io::Write;
 
@@ -95,13 +92,13 @@ pub(crate) fn run_script<W: Write, V: Write, P: Progress>(
     ensures runs { Runs (record { out = W.contents out.old; out_new = W.contents out.new; undo = V.contents undo.old; undo_new = V.contents undo.new })
         (outcome_of forms file.now script.now) result }
 {
-    let (bank, _counts) = read(alloc, file)?;
-    let pool = pool_of(alloc, script)?;
-    let edited_bank = apply_script(alloc, bank, script, pool.as_slice(), forms, progress)?;
-    write_both(
-        &BankFile(&edited_bank.bank),
-        &EditLines(edited_bank.undo.as_slice()),
-        out,
-        undo,
-    )
+    match read_script(alloc, file, script) {
+        Ok((bank, pool)) => {
+            match apply_script(alloc, bank, script, pool.as_slice(), forms, progress) {
+                Ok(edited_bank) => write_edited(&edited_bank, out, undo),
+                Err(fault) => Err(fault),
+            }
+        }
+        Err(fault) => Err(fault),
+    }
 }

@@ -8,13 +8,15 @@ ghost use Rattle.sfbank.specs.Outcome.{first_not_neutral, first_refused};
 ghost use Rattle.sfbank.specs.Written.{Prepared};
 ghost use Rattle.sfbank.specs.EditRuns.{AllApplied, AllOf, StopsAtLine, after_lines, first_other};
 ghost use Rattle.sfbank.specs.Prepared.{texts_of_bank};
+ghost use Rattle.sfbank.specs.Steps.{ReadsScript};
 
+use crate::reading::read_bank;
 use bank_core::Bank;
 use bank_edits::apply;
 use base_progress::{Progress, Work};
 use edit_forms::Edit;
 use edit_refusals::Refusal;
-use edit_script::{Line, parse};
+use edit_script::{Line, parse, pool_of};
 use program_commands::Forms;
 use program_files::RunFault;
 use sound_neutral_edits::is_neutral;
@@ -31,6 +33,23 @@ pub(crate) struct EditedBank<'a> {
 impl Drop for EditedBank<'_> {
     fn drop(self) {
         let EditedBank { bank: _, undo: _ } = self;
+    }
+}
+
+/// Reads a file as a bank, and the literals of a script.
+pub(crate) fn read_script<'a>(
+    alloc: Global,
+    file: &'a [u8],
+    script: &[u8],
+) -> Result<(Bank<'a>, Vec<u8>), RunFault>
+    ensures { ReadsScript (λ both. (both.0, both.1.items)) file.now script.now result }
+{
+    match read_bank(alloc, file) {
+        Ok((bank, _counts)) => {
+            let pool = pool_of(alloc, script)?;
+            Ok((bank, pool))
+        }
+        Err(fault) => Err(fault),
     }
 }
 

@@ -5,18 +5,18 @@ ghost use Rattle.wave_file.specs.Imports.{import_edits, sides_of};
 ghost use Rattle.sfbank.specs.Outcome.{after_script};
 ghost use Rattle.sfbank.specs.Prepared.{texts_of_bank};
 ghost use Rattle.sfbank.specs.Recordings.{import_outcome, IsScripted, IsImportUndone};
+ghost use Rattle.sfbank.specs.Steps.{ReadsImport};
 ghost use Rattle.sfbank.specs.Written.{Prepared, Runs};
 
 use crate::edited_bank::{EditedBank, apply_all};
-use crate::writing::write_both;
+use crate::reading::read_bank;
+use crate::writing::write_edited;
 use bank_core::Bank;
 use base_progress::NoReports;
 use edit_forms::Edit;
-use edit_script::{EditLines, Line};
+use edit_script::Line;
 use program_files::RunFault;
 use sf_base::OutOfMemory;
-use sf_reader::read;
-use sf_writer::BankFile;
 use std::alloc::Global;
 use std::io::Write;
 use wave_file::{Recording, Sides, import_edits, read_recording};
@@ -50,10 +50,10 @@ pub fn import_run<W: Write, V: Write>(
 }
 
 // Appends the recording to the bank's samples, and writes both texts.
-fn import<'a, W: Write, V: Write>(
+fn import<W: Write, V: Write>(
     alloc: Global,
-    file: &'a [u8],
-    wave: &'a [u8],
+    file: &[u8],
+    wave: &[u8],
     name: &[u8],
     out: &mut W,
     undo: &mut V,
@@ -61,20 +61,35 @@ fn import<'a, W: Write, V: Write>(
     ensures { Runs (record { out = W.contents out.old; out_new = W.contents out.new; undo = V.contents undo.old; undo_new = V.contents undo.new })
         (import_outcome file.now wave.now name.now) result }
 {
-    let (bank, _counts) = read(alloc, file)?;
-    let recording = read_recording(alloc, wave)?;
-    let sides = Sides::of(alloc, &recording.channels)?;
-    let edited_bank = apply_import(alloc, bank, recording, &sides, name)?;
-    write_both(
-        &BankFile(&edited_bank.bank),
-        &EditLines(edited_bank.undo.as_slice()),
-        out,
-        undo,
-    )
+    match read_import(alloc, file, wave) {
+        Ok((bank, recording, sides)) => match apply_import(alloc, bank, recording, &sides, name) {
+            Ok(edited_bank) => write_edited(&edited_bank, out, undo),
+            Err(fault) => Err(fault),
+        },
+        Err(fault) => Err(fault),
+    }
 }
 
-// Applies the edits that append a recording, whose points are split by side, to the bank's samples.
-fn apply_import<'a>(
+/// Reads a file as a bank, and a WAVE file as a recording with its sides.
+pub(crate) fn read_import<'a>(
+    alloc: Global,
+    file: &'a [u8],
+    wave: &'a [u8],
+) -> Result<(Bank<'a>, Recording<'a>, Sides), RunFault>
+    ensures { ReadsImport (λ all. all) file.now wave.now result }
+{
+    match read_bank(alloc, file) {
+        Ok((bank, _counts)) => {
+            let recording = read_recording(alloc, wave)?;
+            let sides = Sides::of(alloc, &recording.channels)?;
+            Ok((bank, recording, sides))
+        }
+        Err(fault) => Err(fault),
+    }
+}
+
+/// Applies the edits that append a recording, whose points are split by side, to the bank's samples.
+pub(crate) fn apply_import<'a>(
     alloc: Global,
     bank: Bank<'a>,
     recording: Recording<'a>,

@@ -15,6 +15,7 @@ mod map;
 mod new;
 mod play;
 mod program;
+mod reading;
 mod script;
 mod short;
 mod show;
@@ -27,7 +28,9 @@ pub use diff::diff_run;
 pub use edit::{edit_run, edit_run_with_progress, neutral_run};
 pub use file_host::Which;
 pub use import::import_run;
-pub use laws::{remade_banks_render_same, saved_undo_restores, scripts_distinguish_banks};
+pub use laws::{
+    remade_banks_render_same, saved_undo_restores, scripts_distinguish_banks, undo_restores_files,
+};
 pub use map::map_run;
 pub use new::new_run;
 pub use play::{play_run, play_run_with_progress};

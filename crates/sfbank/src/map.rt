@@ -1,14 +1,15 @@
 //! The map of a preset or an instrument: where notes select its zones.
 ghost use Rattle.std.specs.Prelude.{◌≡◌};
 ghost use Rattle.sfbank.specs.Maps.{has_owner, cause_of_missing, map_outcome};
-ghost use Rattle.sfbank.specs.Written.{RunsOneText};
+ghost use Rattle.show_zone_map.specs.Picture.{picture};
+ghost use Rattle.sfbank.specs.Written.{Prepared, RunsOneText};
 
+use crate::reading::read_bank;
 use crate::writing::write_one;
 use bank_core::{Bank, Owner};
 use edit_refusals::Cause;
 use file_host::Which;
 use program_files::RunFault;
-use sf_reader::read;
 use show_zone_map::ZoneMap;
 use std::alloc::Global;
 use std::io::Write;
@@ -27,12 +28,28 @@ pub fn map_run<W: Write>(
     // The outcome is the fault of the file, else `NoSuchPreset` or `NoSuchInstrument`, else the map.
     ensures runs { RunsOneText (W.contents out.old) (W.contents out.new) (map_outcome file.now owner) result }
 {
-    let (bank, _counts) = read(alloc, file)?;
-    if has_owner(&bank, owner) {
-        let map = ZoneMap { bank: &bank, owner };
-        write_one(Which::Out, &map, out)
-    } else {
-        Err(RunFault::NoMember(cause_of_missing(owner)))
+    match read_owner(alloc, file, owner) {
+        Ok(bank) => {
+            let map = ZoneMap { bank: &bank, owner };
+            write_one(Which::Out, &map, out)
+        }
+        Err(fault) => Err(fault),
+    }
+}
+
+/// Reads a file as a bank that has this preset or instrument.
+pub(crate) fn read_owner(alloc: Global, file: &[u8], owner: Owner) -> Result<Bank<'_>, RunFault>
+    ensures { Prepared (λ bank. picture bank owner) (map_outcome file.now owner) result }
+{
+    match read_bank(alloc, file) {
+        Ok((bank, _counts)) => {
+            if has_owner(&bank, owner) {
+                Ok(bank)
+            } else {
+                Err(RunFault::NoMember(cause_of_missing(owner)))
+            }
+        }
+        Err(fault) => Err(fault),
     }
 }
 

@@ -27,7 +27,8 @@ pub fn new_run<W: Write>(alloc: Global, minor: u16, out: &mut W) -> Result<(), R
     write_one(Which::Out, &BankFile(&bank), out)
 }
 
-fn empty_bank(alloc: Global, minor: u16) -> Result<Bank<'static>, OutOfMemory>
+/// An empty bank.
+pub(crate) fn empty_bank(alloc: Global, minor: u16) -> Result<Bank<'static>, OutOfMemory>
     ensures { IfOk result (λ bank. bank ≡ empty minor) }
 {
     let parts = Parts {

@@ -1,37 +1,39 @@
 //! The program, from its arguments to its exit status.
+ghost use Rattle.std.specs.Prelude.{map};
 ghost use Rattle.program_files.specs.Reporting.{Ends};
+ghost use Rattle.sfbank.specs.Meanings.{Answers, IsReported, Means};
 
 mod apply;
 mod canon;
 mod checks;
 mod diff;
-mod endings;
 mod explain;
 mod import;
+mod inputs;
 mod live;
 mod map;
 mod new;
+mod outputs;
 mod play;
 mod script;
 mod show;
 mod wave;
 
-use crate::writing::write_one;
 use apply::apply;
 use base_progress::Progress;
 use canon::canon;
 use clap::error::ErrorKind;
 use diff::diff;
-use endings::at;
 use explain::explain;
-use file_host::Which;
+use file_host::Host;
 use import::import;
 use live::live;
 use map::map;
 use new::new;
+use outputs::print;
 use play::play;
 use program_commands::{Request, request_of};
-use program_files::{Fault, STANDARD_OUTPUT, Watched, report};
+use program_files::{ClosedPipe, Fault, SystemHost, Watched, report};
 use script::script;
 use show::show;
 use std::alloc::{AllocError, Global};
@@ -42,7 +44,7 @@ use std::rt::Files;
 use std::{env, io};
 use wave::wave;
 
-/// Runs the program on its arguments, and returns its exit status.
+/// Runs the program on its arguments and on the files of a runtime, and returns its exit status.
 pub fn run_with_arguments<R: Env + Files + AllocGlobal, I: Read, O: Write, E: Write, P: Progress>(
     rt: &R,
     input: &mut I,
@@ -55,10 +57,11 @@ pub fn run_with_arguments<R: Env + Files + AllocGlobal, I: Read, O: Write, E: Wr
 {
     match arguments(rt) {
         Ok(words) => run(
-            rt,
+            &mut SystemHost::new(rt),
+            rt.alloc(),
             words.as_slice(),
             input,
-            output,
+            &mut Watched::new(output),
             errors,
             is_terminal,
             progress,
@@ -67,7 +70,7 @@ pub fn run_with_arguments<R: Env + Files + AllocGlobal, I: Read, O: Write, E: Wr
     }
 }
 
-/// Collects the arguments of the program.
+// Collects the arguments of the program.
 fn arguments<R: Env + AllocGlobal>(rt: &R) -> Result<Vec<String>, Fault<'static>> {
     let words = match env::args(rt) {
         Ok(words) => words.collect(rt.alloc()),
@@ -95,8 +98,9 @@ fn arguments<R: Env + AllocGlobal>(rt: &R) -> Result<Vec<String>, Fault<'static>
 /// If the status is not 0, one line (for arguments that clap rejects, its whole text) is written to `errors`, except
 /// where the reader of an output closed it early. If `is_terminal`, which means that `errors` is a terminal, a second
 /// line has the reason why an input can't be read. A failed write to `errors` does not change the status.
-pub fn run<R: Files + AllocGlobal, S: AsStr, I: Read, O: Write, E: Write, P: Progress>(
-    rt: &R,
+pub fn run<H: Host, S: AsStr, I: Read, O: Write + ClosedPipe, E: Write, P: Progress>(
+    host: &mut H,
+    alloc: Global,
     words: &[S],
     input: &mut I,
     output: &mut O,
@@ -104,46 +108,62 @@ pub fn run<R: Files + AllocGlobal, S: AsStr, I: Read, O: Write, E: Write, P: Pro
     is_terminal: bool,
     progress: &mut P,
 ) -> u8
-    ensures { Ends is_terminal (E.contents errors.old) (E.contents errors.new) result }
+    // The words ask for a request, which does what it plans for the world of files, or for none.
+    ensures answers { Answers (map S.text words.entry.now) is_terminal
+        (record { files = H.world host.old; printed = O.contents output.old })
+        (record { files = H.world host.new; printed = O.contents output.new }) (H.written host.new)
+        (E.contents errors.old) (E.contents errors.new) result }
+    ensures ends { Ends is_terminal (E.contents errors.old) (E.contents errors.new) result }
 {
-    let mut watched = Watched::new(output);
-    match serve(rt, words, input, &mut watched, progress) {
-        Ok(()) => 0,
-        Err(fault) => report(
-            &fault.pipe_closed_if(watched.is_pipe_closed()),
-            is_terminal,
-            errors,
-        ),
+    match request_of(alloc, words) {
+        Ok(request) => {
+            let end = serve(host, alloc, request, input, output, progress);
+            status_of(&end, is_terminal, errors)
+        }
+        Err(error) => status_of(&answer(alloc, error, output), is_terminal, errors),
     }
 }
 
-/// Runs the command that the arguments name.
-fn serve<'a, R: Files + AllocGlobal, S: AsStr, I: Read, O: Write, P: Progress>(
-    rt: &'a R,
-    words: &'a [S],
+// Reports a fault, and returns the exit status.
+fn status_of<E: Write>(end: &Result<(), Fault<'_>>, is_terminal: bool, errors: &mut E) -> u8
+    ensures { IsReported is_terminal (E.contents errors.old) (E.contents errors.new) result end.now }
+{
+    match end {
+        Ok(()) => 0,
+        Err(fault) => report(fault, is_terminal, errors),
+    }
+}
+
+// Does what a request asks for.
+fn serve<'a, H: Host, I: Read, O: Write + ClosedPipe, P: Progress>(
+    host: &mut H,
+    alloc: Global,
+    request: Request<'a>,
     input: &mut I,
     output: &mut O,
     progress: &mut P,
-) -> Result<(), Fault<'a>> {
-    match request_of(rt.alloc(), words) {
-        Ok(Request::Apply(paths)) => apply(rt, paths, progress),
-        Ok(Request::Canon(paths)) => canon(rt, paths, output),
-        Ok(Request::Diff(paths)) => diff(rt, paths, output),
-        Ok(Request::Explain(number)) => explain(number, output),
-        Ok(Request::Import(paths)) => import(rt, paths),
-        Ok(Request::Live(paths)) => live(rt, paths, input, output),
-        Ok(Request::Map(paths)) => map(rt, paths, output),
-        Ok(Request::New(bank)) => new(rt, bank, output),
-        Ok(Request::Play(paths)) => play(rt, paths, output, progress),
-        Ok(Request::Script(paths)) => script(rt, paths, output),
-        Ok(Request::Show(paths)) => show(rt, paths, output),
-        Ok(Request::Wave(paths)) => wave(rt, paths, output),
-        Err(error) => answer(rt.alloc(), error, output),
+) -> Result<(), Fault<'a>>
+    ensures { Means request.entry (record { files = H.world host.old; printed = O.contents output.old })
+        (record { files = H.world host.new; printed = O.contents output.new }) (H.written host.new) result }
+{
+    match request {
+        Request::Apply(paths) => apply(host, alloc, paths, progress),
+        Request::Canon(paths) => canon(host, alloc, paths, output),
+        Request::Diff(paths) => diff(host, alloc, paths, output),
+        Request::Explain(number) => explain(number, output),
+        Request::Import(paths) => import(host, alloc, paths),
+        Request::Live(paths) => live(host, alloc, paths, input, output),
+        Request::Map(paths) => map(host, alloc, paths, output),
+        Request::New(bank) => new(host, alloc, bank, output),
+        Request::Play(paths) => play(host, alloc, paths, output, progress),
+        Request::Script(paths) => script(host, alloc, paths, output),
+        Request::Show(paths) => show(host, alloc, paths, output),
+        Request::Wave(paths) => wave(host, alloc, paths, output),
     }
 }
 
-/// Writes help or the version to the standard output; other errors of clap mean that it rejects the arguments.
-fn answer<'a, O: Write>(
+// Writes help or the version to the standard output; other errors of clap mean that it rejects the arguments.
+fn answer<'a, O: Write + ClosedPipe>(
     alloc: Global,
     error: clap::Error,
     output: &mut O,
@@ -155,8 +175,5 @@ fn answer<'a, O: Write>(
         return Err(Fault::Words(error));
     }
     let text = format!(in alloc; "{error}")?;
-    at(
-        STANDARD_OUTPUT,
-        write_one(Which::Out, &text.as_str(), output),
-    )
+    print(&text.as_str(), output)
 }

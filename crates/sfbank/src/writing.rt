@@ -1,9 +1,13 @@
 //! Writes the texts of a run.
+ghost use Rattle.sfbank.specs.Prepared.{texts_of_bank};
 ghost use Rattle.sfbank.specs.Written.{Delivers, IsWritten};
 
+use crate::edited_bank::EditedBank;
 use base_texts::{Text, write_text};
+use edit_script::EditLines;
 use file_host::Which;
 use program_files::RunFault;
+use sf_writer::BankFile;
 use std::io::Write;
 
 /// Writes a text of a run whole, and flushes. Allocates nothing.
@@ -20,16 +24,15 @@ pub(crate) fn write_one<T: Text, W: Write>(
     }
 }
 
-/// Writes the bank's file to `out`, then the undo script to `undo`. Allocates nothing.
-pub(crate) fn write_both<T: Text, U: Text, W: Write, V: Write>(
-    bank: &T,
-    edits: &U,
+/// Writes an edited bank's file to `out`, then its undo script to `undo`. Allocates nothing.
+pub(crate) fn write_edited<W: Write, V: Write>(
+    edited_bank: &EditedBank<'_>,
     out: &mut W,
     undo: &mut V,
 ) -> Result<(), RunFault>
     ensures { Delivers (record { out = W.contents out.old; out_new = W.contents out.new; undo = V.contents undo.old; undo_new = V.contents undo.new })
-        (record { out = T.bytes bank.now; undo = U.bytes edits.now }) result }
+        (texts_of_bank edited_bank.now) result }
 {
-    write_one(Which::Out, bank, out)?;
-    write_one(Which::Undo, edits, undo)
+    write_one(Which::Out, &BankFile(&edited_bank.bank), out)?;
+    write_one(Which::Undo, &EditLines(edited_bank.undo.as_slice()), undo)
 }

@@ -2,7 +2,7 @@
 //! bytes.
 
 use file_host::InputFault;
-use program_files::read_whole;
+use program_files::{SystemHost, Watched, read_whole};
 use sf_base::Failure;
 use sfbank::{NoReports, run};
 use std::alloc::AllocError;
@@ -20,10 +20,11 @@ fn run_on<O: Write, E: Write>(
     let words: Result<Vec<&str>, AllocError> = words.split_ascii_whitespace().collect(rt.alloc());
     match words {
         Ok(words) => run(
-            rt,
+            &mut SystemHost::new(rt),
+            rt.alloc(),
             words.as_slice(),
             &mut b"".as_slice(),
-            output,
+            &mut Watched::new(output),
             errors,
             is_terminal,
             &mut NoReports,

@@ -1,12 +1,7 @@
-//! A test of a whole live session that reads from and writes to memory.
-ghost use Rattle.std.specs.Prelude.{None};
+//! Tests of whole live sessions that read from and write to memory.
 
-use bank_core::Bank;
-use base_texts::write_text;
-use edit_forms::Edit;
-use live_lines::Paths;
-use live_sessions::{InputLines, SaveFault, Saves, UndoLines, live_run};
-use sf_writer::BankFile;
+use file_host::MemoryHost;
+use live_sessions::{InputLines, SessionFiles, live_run};
 
 /// The file of the empty bank of minor version 4.
 static EMPTY: &[u8] = b"\
@@ -77,31 +72,14 @@ static UNDO_SCRIPT: &[u8] = b"\
     remove-inst 0\n\
     remove-sample 0\n";
 
-/// Keeps saved files in memory.
-#[derive(Drop)]
-struct Kept {
-    out: Vec<u8>,
-    undo: Vec<u8>,
-}
+/// More bytes than a session saves.
+const ROOM: usize = 10_000;
 
-impl Saves for Kept {
-    ghost saved = { λ _. None };
-
-    fn save(
-        &mut self,
-        _paths: &Paths<'_>,
-        bank: &Bank<'_>,
-        back: &[Edit<'_>],
-    ) -> Result<(), SaveFault> {
-        if let Err(fault) = write_text(&BankFile(bank), &mut self.out) {
-            return Err(SaveFault::Out(fault.written));
-        }
-        match write_text(&UndoLines(back), &mut self.undo) {
-            Ok(()) => Ok(()),
-            Err(fault) => Err(SaveFault::Undo(fault.written)),
-        }
-    }
-}
+static FILES: SessionFiles<'static> = SessionFiles {
+    bank: "in.sf2",
+    pcm: "frames.pcm",
+    force: false,
+};
 
 #[test]
 fn a_session_is_answered(rt: HostRuntime) {
@@ -109,14 +87,69 @@ fn a_session_is_answered(rt: HostRuntime) {
     let mut input = InputLines::new(LINES);
     let mut answers = Vec::new(alloc);
     let mut pcm = Vec::new(alloc);
-    let mut kept = Kept {
-        out: Vec::new(alloc),
-        undo: Vec::new(alloc),
-    };
-    let run = live_run(alloc, EMPTY, &mut input, &mut answers, &mut pcm, &mut kept);
+    let mut host = MemoryHost::new(alloc, ROOM);
+    let run = live_run(
+        alloc,
+        EMPTY,
+        FILES,
+        &mut input,
+        &mut answers,
+        &mut pcm,
+        &mut host,
+    );
     assert!(rt; run.is_ok());
     assert!(rt; answers.as_slice() == ANSWERS);
     assert!(rt; pcm.as_slice() == FRAMES);
-    assert!(rt; kept.out.as_slice().starts_with(b"RIFF"));
-    assert!(rt; kept.undo.as_slice() == UNDO_SCRIPT);
+    assert!(rt; begins_as_riff(host.file("out.sf2")));
+    assert!(rt; host.file("undo.txt") == Some(UNDO_SCRIPT));
+}
+
+fn begins_as_riff(file: Option<&[u8]>) -> bool {
+    match file {
+        Some(bytes) => bytes.starts_with(b"RIFF"),
+        None => false,
+    }
+}
+
+static SAVES: &[u8] = b"\
+    save out.sf2 undo.txt\n\
+    save frames.pcm undo.txt\n\
+    save other.sf2 in.sf2\n\
+    save other.sf2 frames.pcm\n\
+    save other.sf2 other.sf2\n\
+    save other.sf2 out.sf2\n\
+    save in.sf2 undo.txt\n";
+
+// The bank has 308 bytes, so that the last save has room for 84.
+static SAVED: &[u8] = b"\
+    ok\n\
+    refused 64 SameFile frames.pcm\n\
+    refused 64 SameFile in.sf2\n\
+    refused 64 SameFile frames.pcm\n\
+    refused 64 SameFile other.sf2\n\
+    refused 65 HoldsBank out.sf2\n\
+    write fault in.sf2 after 84 bytes\n";
+
+#[test]
+fn saves_are_rejected_and_fail(rt: HostRuntime) {
+    let alloc = rt.alloc();
+    let mut input = InputLines::new(SAVES);
+    let mut answers = Vec::new(alloc);
+    let mut pcm = Vec::new(alloc);
+    let mut host = MemoryHost::new(alloc, 392);
+    let run = live_run(
+        alloc,
+        EMPTY,
+        FILES,
+        &mut input,
+        &mut answers,
+        &mut pcm,
+        &mut host,
+    );
+    assert!(rt; run.is_ok());
+    assert!(rt; answers.as_slice() == SAVED);
+    assert!(rt; host.file("out.sf2") == Some(EMPTY));
+    assert!(rt; host.file("undo.txt") == Some(b"".as_slice()));
+    assert!(rt; host.file("other.sf2").is_none());
+    assert!(rt; host.file("in.sf2").is_none());
 }

@@ -1,33 +1,74 @@
 //! The command `apply`.
-use super::checks::{reject_bank, reject_same_file};
-use super::endings::end_both_at;
-use crate::edit::run_script;
+ghost use Rattle.std.specs.Prelude.{Option, List, ℕ};
+ghost use Rattle.program_commands.specs.declared.words.Request.TheVariants.{Apply};
+ghost use Rattle.sfbank.specs.EditRuns.{outcome_of};
+ghost use Rattle.sfbank.specs.Plans.{with_both};
+ghost use Rattle.sfbank.specs.Ends.{EndsFor};
+ghost use Rattle.sfbank.specs.Meanings.{Means};
+
+use super::checks::{EditPaths, reject_outputs};
+use super::inputs::read_two;
+use super::outputs::save_both;
+use crate::edited_bank::{apply_script, read_script};
 use base_progress::Progress;
+use file_host::Host;
 use program_commands::ApplyPaths;
-use program_files::{Fault, OutputFile, read_file};
-use std::rt::Files;
+use program_files::Fault;
+use std::alloc::Global;
 
 /// Runs the script on the bank. Both files are read whole first, so OUT may be the bank's own file.
-pub(crate) fn apply<'a, R: Files + AllocGlobal, P: Progress>(
-    rt: &'a R,
+pub(crate) fn apply<'a, H: Host, P: Progress>(
+    host: &mut H,
+    alloc: Global,
     paths: ApplyPaths<'a>,
     progress: &mut P,
-) -> Result<(), Fault<'a>> {
-    reject_same_file(rt, paths.out, &[paths.script])?;
-    reject_same_file(rt, paths.undo, &[paths.input, paths.script, paths.out])?;
-    reject_bank(rt, paths.undo, paths.force)?;
-    let file = read_file(rt, paths.input)?;
-    let script = read_file(rt, paths.script)?;
-    let mut out = OutputFile::new(rt, paths.out)?;
-    let mut undo = OutputFile::new(rt, paths.undo)?;
-    let run = run_script(
-        rt.alloc(),
-        file.as_slice(),
-        script.as_slice(),
-        paths.forms,
-        &mut out,
-        &mut undo,
-        progress,
-    );
-    end_both_at(paths.out, paths.undo, out, undo, run)
+) -> Result<(), Fault<'a>>
+    ensures { (printed : Option (List ℕ)) → Means (Apply paths.entry)
+        (record { files = H.world host.old; printed = printed })
+        (record { files = H.world host.new; printed = printed }) (H.written host.new) result }
+{
+    let outputs = EditPaths {
+        input: paths.input,
+        other: paths.script,
+        out: paths.out,
+        undo: paths.undo,
+        force: paths.force,
+    };
+    match reject_outputs(host, outputs) {
+        Ok(()) => match read_two(host, alloc, paths.input, paths.script) {
+            Ok((file, script)) => save_edited(
+                host,
+                alloc,
+                paths,
+                file.as_slice(),
+                script.as_slice(),
+                progress,
+            ),
+            Err(fault) => Err(fault),
+        },
+        Err(fault) => Err(fault),
+    }
+}
+
+fn save_edited<'a, H: Host, P: Progress>(
+    host: &mut H,
+    alloc: Global,
+    paths: ApplyPaths<'a>,
+    file: &[u8],
+    script: &[u8],
+    progress: &mut P,
+) -> Result<(), Fault<'a>>
+    ensures { (printed : Option (List ℕ)) → EndsFor (λ w. with_both paths.entry.out.now paths.entry.undo.now (outcome_of paths.entry.forms file.now script.now))
+        (record { files = H.world host.old; printed = printed })
+        (record { files = H.world host.new; printed = printed }) (H.written host.new) result }
+{
+    match read_script(alloc, file, script) {
+        Ok((bank, pool)) => {
+            match apply_script(alloc, bank, script, pool.as_slice(), paths.forms, progress) {
+                Ok(edited_bank) => save_both(host, paths.out, paths.undo, &edited_bank),
+                Err(fault) => Err(Fault::Run(fault, paths.out)),
+            }
+        }
+        Err(fault) => Err(Fault::Run(fault, paths.out)),
+    }
 }

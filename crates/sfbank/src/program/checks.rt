@@ -1,31 +1,103 @@
 //! Checks of output paths, before anything is read.
+ghost use Rattle.std.specs.Prelude.{◌≡◌, ◌||◌, map};
+ghost use Rattle.file_host.specs.Checks.{is_one_file};
+ghost use Rattle.sfbank.specs.Plans.{apart, no_bank};
+ghost use Rattle.sfbank.specs.Steps.{Passes, edit_part, undo_part, fault_of_check};
 
-use program_files::{Fault, check_apart, check_no_bank};
-use std::rt::Files;
+use base_outputs::OutputFault;
+use file_host::{Host, check_apart, check_no_bank};
+use program_files::{Fault, RunFault};
+use sf_base::Failure;
 
-/// Rejects an output that is the same file as one of the others.
-pub(super) fn reject_same_file<'a, R: Files + AllocGlobal>(
-    rt: &R,
+/// Rejects an output that is one file with one of the others.
+pub(super) fn reject_same_file<'a, H: Host>(
+    host: &mut H,
     output: &'a str,
     others: &[&str],
-) -> Result<(), Fault<'a>> {
-    match check_apart(rt, output, others) {
+) -> Result<(), Fault<'a>>
+    ensures { Passes (λ w rest. apart w output.entry.now (map (λ other. other.now) others.now) rest) (H.world host.old) (H.world host.new) result }
+{
+    match check_apart(host, output, others) {
         Ok(()) => Ok(()),
-        Err(check) => Err(check.at(output)),
+        Err(failure) => Err(rejected(failure, output)),
     }
 }
 
 /// Rejects an output that would replace a bank, except with `force`.
-pub(super) fn reject_bank<'a, R: Files + AllocGlobal>(
-    rt: &R,
+pub(super) fn reject_bank<'a, H: Host>(
+    host: &mut H,
     output: &'a str,
     force: bool,
-) -> Result<(), Fault<'a>> {
-    if force {
-        return Ok(());
-    }
-    match check_no_bank(rt, output) {
+) -> Result<(), Fault<'a>>
+    ensures { Passes (λ w rest. no_bank w output.entry.now force rest) (H.world host.old) (H.world host.new) result }
+{
+    match check_no_bank(host, output, force) {
         Ok(()) => Ok(()),
-        Err(check) => Err(check.at(output)),
+        Err(failure) => Err(rejected(failure, output)),
+    }
+}
+
+/// Rejects an output that would replace a bank, except with `force` or where it is the input.
+pub(super) fn reject_other_bank<'a, H: Host>(
+    host: &mut H,
+    output: &'a str,
+    input: &str,
+    force: bool,
+) -> Result<(), Fault<'a>>
+    ensures { Passes (λ w rest. no_bank w output.entry.now (force || is_one_file w output.entry.now input.now) rest) (H.world host.old) (H.world host.new) result }
+{
+    match host.is_one_file(output, input) {
+        Ok(is_input) => reject_bank(host, output, is_either(force, is_input)),
+        Err(_) => Err(Fault::Run(RunFault::Memory, output)),
+    }
+}
+
+fn is_either(one: bool, other: bool) -> bool
+    ensures { result ≡ (one || other) }
+{
+    one || other
+}
+
+/// Rejects the outputs of an edit of a bank by another input: neither may be that input, and the undo script neither the
+/// bank nor its output.
+pub(super) fn reject_outputs<'a, H: Host>(
+    host: &mut H,
+    paths: EditPaths<'a>,
+) -> Result<(), Fault<'a>>
+    ensures { Passes (edit_part paths.entry) (H.world host.old) (H.world host.new) result }
+{
+    match reject_same_file(host, paths.out, &[paths.other]) {
+        Ok(()) => reject_undo(host, paths),
+        Err(fault) => Err(fault),
+    }
+}
+
+fn reject_undo<'a, H: Host>(host: &mut H, paths: EditPaths<'a>) -> Result<(), Fault<'a>>
+    ensures { Passes (undo_part paths.entry) (H.world host.old) (H.world host.new) result }
+{
+    match reject_same_file(host, paths.undo, &[paths.input, paths.other, paths.out]) {
+        Ok(()) => reject_bank(host, paths.undo, paths.force),
+        Err(fault) => Err(fault),
+    }
+}
+
+/// The paths of an edit of a bank by another input: a script or a WAVE file.
+#[derive(Clone, Copy)]
+pub(super) struct EditPaths<'a> {
+    pub(super) input: &'a str,
+    pub(super) other: &'a str,
+    pub(super) out: &'a str,
+    pub(super) undo: &'a str,
+    /// Whether the undo script may replace a bank.
+    pub(super) force: bool,
+}
+
+/// The fault of a command whose output is rejected or can't be checked.
+fn rejected(failure: Failure<OutputFault>, output: &str) -> Fault<'_>
+    ensures { result ≡ fault_of_check failure output.entry }
+{
+    match failure {
+        Failure::Fault(fault) => Fault::Output(fault, output),
+        Failure::OutOfMemory => Fault::Run(RunFault::Memory, output),
     }
 }

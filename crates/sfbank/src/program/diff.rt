@@ -1,23 +1,64 @@
 //! The command `diff`.
+ghost use Rattle.program_commands.specs.declared.words.Request.TheVariants.{Diff};
+ghost use Rattle.sfbank.specs.Differences.{two_banks_of};
+ghost use Rattle.sfbank.specs.Plans.{with_difference};
+ghost use Rattle.sfbank.specs.Ends.{EndsFor};
+ghost use Rattle.sfbank.specs.Meanings.{Means};
+
 use super::checks::reject_bank;
-use super::endings::end_at;
-use crate::diff::diff_run;
+use super::inputs::read_two;
+use super::outputs::put;
+use crate::diff::difference_of;
+use file_host::Host;
 use program_commands::DiffPaths;
-use program_files::{Fault, Sink, read_file};
+use program_files::{ClosedPipe, Fault};
+use std::alloc::Global;
 use std::io::Write;
-use std::rt::Files;
 
 /// Writes a script that turns the first bank into the second. Both files are read whole first, so with `force` the
 /// output may be one of them.
-pub(crate) fn diff<'a, R: Files + AllocGlobal, O: Write>(
-    rt: &'a R,
+pub(crate) fn diff<'a, H: Host, O: Write + ClosedPipe>(
+    host: &mut H,
+    alloc: Global,
     paths: DiffPaths<'a>,
     output: &mut O,
-) -> Result<(), Fault<'a>> {
-    reject_bank(rt, paths.out, paths.force)?;
-    let first = read_file(rt, paths.first)?;
-    let second = read_file(rt, paths.second)?;
-    let mut out = Sink::new(rt, paths.out, output)?;
-    let run = diff_run(rt.alloc(), first.as_slice(), second.as_slice(), &mut out);
-    end_at(paths.out, out, run)
+) -> Result<(), Fault<'a>>
+    ensures { Means (Diff paths.entry)
+        (record { files = H.world host.old; printed = O.contents output.old })
+        (record { files = H.world host.new; printed = O.contents output.new }) (H.written host.new) result }
+{
+    match reject_bank(host, paths.out, paths.force) {
+        Ok(()) => match read_two(host, alloc, paths.first, paths.second) {
+            Ok((first, second)) => {
+                put_difference(
+                    host,
+                    alloc,
+                    paths.out,
+                    first.as_slice(),
+                    second.as_slice(),
+                    output,
+                )
+            }
+            Err(fault) => Err(fault),
+        },
+        Err(fault) => Err(fault),
+    }
+}
+
+fn put_difference<'a, H: Host, O: Write + ClosedPipe>(
+    host: &mut H,
+    alloc: Global,
+    path: &'a str,
+    first: &[u8],
+    second: &[u8],
+    output: &mut O,
+) -> Result<(), Fault<'a>>
+    ensures { EndsFor (λ w. with_difference w path.entry.now first.now second.now (two_banks_of first.now second.now))
+        (record { files = H.world host.old; printed = O.contents output.old })
+        (record { files = H.world host.new; printed = O.contents output.new }) (H.written host.new) result }
+{
+    match difference_of(alloc, first, second) {
+        Ok(difference) => put(host, path, &difference, output),
+        Err(fault) => Err(Fault::Run(fault, path)),
+    }
 }

@@ -1,15 +1,20 @@
 //! The command `explain`.
-use super::endings::at;
-use crate::writing::write_one;
-use file_host::Which;
-use program_explanations::explain as explained;
-use program_files::{Fault, STANDARD_OUTPUT};
+ghost use Rattle.sfbank.specs.Outputs.{PrintsExplanation};
+
+use super::outputs::print;
+use program_explanations::explain as explanation_of;
+use program_files::{ClosedPipe, Fault};
 use std::io::Write;
 
 /// Writes the meaning of a fault or cause number to the standard output.
-pub(crate) fn explain<'a, O: Write>(number: u32, output: &mut O) -> Result<(), Fault<'a>> {
-    let Some(explanation) = explained(number) else {
-        return Err(Fault::Unexplained(number));
-    };
-    at(STANDARD_OUTPUT, write_one(Which::Out, &explanation, output))
+pub(crate) fn explain<'a, O: Write + ClosedPipe>(
+    number: u32,
+    output: &mut O,
+) -> Result<(), Fault<'a>>
+    ensures { PrintsExplanation number (O.contents output.old) (O.contents output.new) result }
+{
+    match explanation_of(number) {
+        Some(explanation) => print(&explanation, output),
+        None => Err(Fault::Unexplained(number)),
+    }
 }

@@ -1,31 +1,66 @@
 //! The command `import`.
-use super::checks::{reject_bank, reject_same_file};
-use super::endings::end_both_at;
-use crate::import::import_run;
+ghost use Rattle.std.specs.Prelude.{Option, List, ℕ};
+ghost use Rattle.program_commands.specs.declared.words.Request.TheVariants.{Import};
+ghost use Rattle.sfbank.specs.Recordings.{import_outcome};
+ghost use Rattle.sfbank.specs.Plans.{name_in, with_both};
+ghost use Rattle.sfbank.specs.Ends.{EndsFor};
+ghost use Rattle.sfbank.specs.Meanings.{Means};
+
+use super::checks::{EditPaths, reject_outputs};
+use super::inputs::read_two;
+use super::outputs::save_both;
+use crate::import::{apply_import, read_import};
+use file_host::Host;
 use program_commands::{ImportPaths, recording_name};
-use program_files::{Fault, OutputFile, read_file};
-use std::rt::Files;
+use program_files::Fault;
+use std::alloc::Global;
 
 /// Imports a WAVE file into the bank, named after the file. Both files are read whole first, so OUT may be the bank's
 /// own file.
-pub(crate) fn import<'a, R: Files + AllocGlobal>(
-    rt: &'a R,
+pub(crate) fn import<'a, H: Host>(
+    host: &mut H,
+    alloc: Global,
     paths: ImportPaths<'a>,
-) -> Result<(), Fault<'a>> {
-    reject_same_file(rt, paths.out, &[paths.wave])?;
-    reject_same_file(rt, paths.undo, &[paths.input, paths.wave, paths.out])?;
-    reject_bank(rt, paths.undo, paths.force)?;
-    let file = read_file(rt, paths.input)?;
-    let wave = read_file(rt, paths.wave)?;
-    let mut out = OutputFile::new(rt, paths.out)?;
-    let mut undo = OutputFile::new(rt, paths.undo)?;
-    let run = import_run(
-        rt.alloc(),
-        file.as_slice(),
-        wave.as_slice(),
-        recording_name(paths.wave).as_bytes(),
-        &mut out,
-        &mut undo,
-    );
-    end_both_at(paths.out, paths.undo, out, undo, run)
+) -> Result<(), Fault<'a>>
+    ensures { (printed : Option (List ℕ)) → Means (Import paths.entry)
+        (record { files = H.world host.old; printed = printed })
+        (record { files = H.world host.new; printed = printed }) (H.written host.new) result }
+{
+    let outputs = EditPaths {
+        input: paths.input,
+        other: paths.wave,
+        out: paths.out,
+        undo: paths.undo,
+        force: paths.force,
+    };
+    match reject_outputs(host, outputs) {
+        Ok(()) => match read_two(host, alloc, paths.input, paths.wave) {
+            Ok((file, wave)) => save_larger(host, alloc, paths, file.as_slice(), wave.as_slice()),
+            Err(fault) => Err(fault),
+        },
+        Err(fault) => Err(fault),
+    }
+}
+
+fn save_larger<'a, H: Host>(
+    host: &mut H,
+    alloc: Global,
+    paths: ImportPaths<'a>,
+    file: &[u8],
+    wave: &[u8],
+) -> Result<(), Fault<'a>>
+    ensures { (printed : Option (List ℕ)) → EndsFor (λ w. with_both paths.entry.out.now paths.entry.undo.now (import_outcome file.now wave.now (name_in paths.entry.wave.now)))
+        (record { files = H.world host.old; printed = printed })
+        (record { files = H.world host.new; printed = printed }) (H.written host.new) result }
+{
+    let name = recording_name(paths.wave).as_bytes();
+    match read_import(alloc, file, wave) {
+        Ok((bank, recording, sides)) => {
+            match apply_import(alloc, bank, recording, &sides, name) {
+                Ok(edited_bank) => save_both(host, paths.out, paths.undo, &edited_bank),
+                Err(fault) => Err(Fault::Run(fault, paths.out)),
+            }
+        }
+        Err(fault) => Err(Fault::Run(fault, paths.out)),
+    }
 }

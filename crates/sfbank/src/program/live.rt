@@ -1,132 +1,118 @@
 //! The command `live`.
-ghost use Rattle.std.specs.Prelude.{None};
+ghost use Rattle.sfbank.specs.Steps.{Passes, live_part};
+ghost use Rattle.sfbank.specs.LiveRuns.{EndsFrames, IsReportOf, MeansLive, PlaysOrNot, RunsSession};
 
 use super::checks::{reject_bank, reject_same_file};
-use super::endings::at;
-use crate::writing::write_both;
-use bank_core::Bank;
-use edit_forms::Edit;
-use file_host::{InputFault, Which};
-use live_lines::Paths;
-use live_sessions::{InputLines, LiveFault, SaveFault, Saves, UndoLines, live_run};
+use super::inputs::read_input;
+use file_host::{Host, InputFault, Which};
+use live_sessions::{InputLines, LineReader, LiveFault, SessionFiles, live_run};
 use program_commands::LivePaths;
-use program_files::{
-    Fault, OutputCheck, OutputFile, RunFault, STANDARD_OUTPUT, check_apart, check_no_bank,
-    end_both, read_file,
-};
-use sf_writer::BankFile;
+use program_files::{ClosedPipe, Fault, RunFault, STANDARD_OUTPUT};
+use std::alloc::Global;
 use std::io::{BufReader, Read, Write};
-use std::rt::Files;
 
 /// The path reported for the standard input in a fault.
 const STANDARD_INPUT: &str = "-";
 
 /// Runs a live session on the bank. The bank is read whole first. Frames are written directly to their file, so it may
 /// be a pipe to a player.
-pub(crate) fn live<'a, R: Files + AllocGlobal, I: Read, O: Write>(
-    rt: &'a R,
+pub(crate) fn live<'a, H: Host, I: Read, O: Write + ClosedPipe>(
+    host: &mut H,
+    alloc: Global,
     paths: LivePaths<'a>,
     input: &mut I,
-    answers: &mut O,
-) -> Result<(), Fault<'a>> {
-    reject_same_file(rt, paths.pcm, &[paths.input])?;
-    reject_bank(rt, paths.pcm, paths.force)?;
-    let file = read_file(rt, paths.input)?;
-    let Ok(reader) = BufReader::new(rt.alloc(), input) else {
-        return at(STANDARD_OUTPUT, Err(RunFault::Memory));
-    };
-    let mut lines = InputLines::new(reader);
-    let mut pcm = OutputFile::in_place(rt, paths.pcm)?;
-    let mut host = Host { rt, paths };
-    let run = live_run(
-        rt.alloc(),
-        file.as_slice(),
-        &mut lines,
-        answers,
-        &mut pcm,
-        &mut host,
-    );
-    match run {
-        // Creates the file of frames even if no frame was written.
-        Ok(()) => match pcm.flush() {
-            Ok(()) => Ok(()),
-            Err(_) => at(paths.pcm, Err(RunFault::Write(Which::Out, 0))),
+    output: &mut O,
+) -> Result<(), Fault<'a>>
+    ensures { MeansLive paths.entry (record { files = H.world host.old; printed = O.contents output.old })
+        (record { files = H.world host.new; printed = O.contents output.new }) (H.written host.new) result }
+{
+    match reject_frames(host, paths) {
+        Ok(()) => match read_input(host, alloc, paths.input) {
+            Ok(file) => play_session(host, alloc, paths, file.as_slice(), input, output),
+            Err(fault) => Err(fault),
         },
-        Err(fault) => Err(ended(fault, paths.pcm)),
+        Err(fault) => Err(fault),
     }
 }
 
-/// The program's fault for a session's fault.
-fn ended(fault: LiveFault, pcm: &str) -> Fault<'_> {
+// Rejects frames that would replace the bank or, except with `force`, another one.
+fn reject_frames<'a, H: Host>(host: &mut H, paths: LivePaths<'a>) -> Result<(), Fault<'a>>
+    ensures { Passes (live_part paths.entry) (H.world host.old) (H.world host.new) result }
+{
+    match reject_same_file(host, paths.pcm, &[paths.input]) {
+        Ok(()) => reject_bank(host, paths.pcm, paths.force),
+        Err(fault) => Err(fault),
+    }
+}
+
+// Plays a session on the file of a bank.
+fn play_session<'a, H: Host, I: Read, O: Write + ClosedPipe>(
+    host: &mut H,
+    alloc: Global,
+    paths: LivePaths<'a>,
+    file: &[u8],
+    input: &mut I,
+    output: &mut O,
+) -> Result<(), Fault<'a>>
+    ensures { PlaysOrNot paths.entry file.now (record { files = H.world host.old; printed = O.contents output.old })
+        (record { files = H.world host.new; printed = O.contents output.new }) (H.written host.new) result }
+{
+    let Ok(reader) = BufReader::new(alloc, input) else {
+        return Err(Fault::Run(RunFault::Memory, paths.pcm));
+    };
+    let Ok(mut pcm) = host.open_stream(paths.pcm) else {
+        return Err(Fault::Run(RunFault::Memory, paths.pcm));
+    };
+    let mut lines = InputLines::new(reader);
+    play_lines(host, alloc, paths, file, &mut lines, output, &mut pcm)
+}
+
+// Answers the lines of a session.
+fn play_lines<'a, H: Host, R: LineReader, O: Write + ClosedPipe, W: Write>(
+    host: &mut H,
+    alloc: Global,
+    paths: LivePaths<'a>,
+    file: &[u8],
+    lines: &mut R,
+    output: &mut O,
+    pcm: &mut W,
+) -> Result<(), Fault<'a>>
+    ensures { RunsSession paths.entry file.now (record { files = H.world host.old; printed = O.contents output.old })
+        (record { files = H.world host.new; printed = O.contents output.new }) (H.written host.new) result }
+{
+    let files = SessionFiles {
+        bank: paths.input,
+        pcm: paths.pcm,
+        force: paths.force,
+    };
+    match live_run(alloc, file, files, lines, output, pcm, host) {
+        Ok(()) => end_frames(paths.pcm, pcm),
+        Err(fault) => Err(reported(fault, paths, output.is_pipe_closed())),
+    }
+}
+
+// Creates the file of frames even if no frame was written.
+fn end_frames<'a, W: Write>(path: &'a str, pcm: &mut W) -> Result<(), Fault<'a>>
+    ensures { EndsFrames path.entry.now result }
+{
+    match pcm.flush() {
+        Ok(()) => Ok(()),
+        Err(_) => Err(Fault::Run(RunFault::Write(Which::Out, 0), path)),
+    }
+}
+
+// The program's fault for a session's fault.
+fn reported(fault: LiveFault, paths: LivePaths<'_>, is_pipe_closed: bool) -> Fault<'_>
+    ensures { IsReportOf paths.entry fault result }
+{
     match fault {
         LiveFault::File(fault) => Fault::Run(RunFault::Read(fault), STANDARD_OUTPUT),
         LiveFault::Memory => Fault::Run(RunFault::Memory, STANDARD_OUTPUT),
         LiveFault::Input => Fault::File(STANDARD_INPUT, InputFault::Unreadable),
+        LiveFault::Answers(_) if is_pipe_closed => Fault::PipeClosed,
         LiveFault::Answers(written) => {
             Fault::Run(RunFault::Write(Which::Out, written), STANDARD_OUTPUT)
         }
-        LiveFault::Pcm(written) => Fault::Run(RunFault::Write(Which::Out, written), pcm),
-    }
-}
-
-/// Saves a session's bank to files as `apply` does: where it replaces a file, the undo script is written first.
-/// `paths` are those of the session's bank and frames.
-#[derive(Drop)]
-struct Host<'a, R: Files> {
-    rt: &'a R,
-    paths: LivePaths<'a>,
-}
-
-impl<R: Files + AllocGlobal> Host<'_, R> {
-    /// Rejects a save that would overwrite the session's bank or frames, or replace a bank by an undo script.
-    fn check(&self, out: &str, undo: &str) -> Result<(), SaveFault> {
-        check_apart(self.rt, out, &[self.paths.pcm]).map_err(out_rejected)?;
-        check_apart(self.rt, undo, &[self.paths.input, self.paths.pcm, out]).map_err(
-            undo_rejected,
-        )?;
-        if self.paths.force {
-            return Ok(());
-        }
-        check_no_bank(self.rt, undo).map_err(undo_rejected)
-    }
-}
-
-fn out_rejected(check: OutputCheck) -> SaveFault {
-    match check {
-        OutputCheck::Rejected(fault) => SaveFault::OutRejected(fault),
-        OutputCheck::Memory => SaveFault::Memory,
-    }
-}
-
-fn undo_rejected(check: OutputCheck) -> SaveFault {
-    match check {
-        OutputCheck::Rejected(fault) => SaveFault::UndoRejected(fault),
-        OutputCheck::Memory => SaveFault::Memory,
-    }
-}
-
-impl<R: Files + AllocGlobal> Saves for Host<'_, R> {
-    ghost saved = { λ _. None };
-
-    fn save(
-        &mut self,
-        paths: &Paths<'_>,
-        bank: &Bank<'_>,
-        back: &[Edit<'_>],
-    ) -> Result<(), SaveFault> {
-        self.check(paths.out.text(), paths.undo.text())?;
-        let Ok(mut out) = OutputFile::new(self.rt, paths.out.text()) else {
-            return Err(SaveFault::Memory);
-        };
-        let Ok(mut undo) = OutputFile::new(self.rt, paths.undo.text()) else {
-            return Err(SaveFault::Memory);
-        };
-        let run = write_both(&BankFile(bank), &UndoLines(back), &mut out, &mut undo);
-        match end_both(out, undo, run) {
-            Ok(()) => Ok(()),
-            Err(RunFault::Write(Which::Out, written)) => Err(SaveFault::Out(written)),
-            Err(RunFault::Write(Which::Undo, written)) => Err(SaveFault::Undo(written)),
-            Err(_) => Err(SaveFault::Memory),
-        }
+        LiveFault::Pcm(written) => Fault::Run(RunFault::Write(Which::Out, written), paths.pcm),
     }
 }

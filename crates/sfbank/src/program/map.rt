@@ -1,22 +1,61 @@
 //! The command `map`.
+ghost use Rattle.program_commands.specs.declared.words.Request.TheVariants.{Map};
+ghost use Rattle.sfbank.specs.Maps.{map_outcome};
+ghost use Rattle.sfbank.specs.Plans.{with_text};
+ghost use Rattle.sfbank.specs.Ends.{EndsFor};
+ghost use Rattle.sfbank.specs.Meanings.{Means};
+
 use super::checks::reject_bank;
-use super::endings::end_at;
-use crate::map::map_run;
+use super::inputs::read_input;
+use super::outputs::put;
+use crate::map::read_owner;
+use file_host::Host;
 use program_commands::MapPaths;
-use program_files::{Fault, Sink, read_file};
+use program_files::{ClosedPipe, Fault};
+use show_zone_map::ZoneMap;
+use std::alloc::Global;
 use std::io::Write;
-use std::rt::Files;
 
 /// Writes the map of a preset or an instrument. The bank is read whole first, so with `force` the output may be its
 /// file.
-pub(crate) fn map<'a, R: Files + AllocGlobal, O: Write>(
-    rt: &'a R,
+pub(crate) fn map<'a, H: Host, O: Write + ClosedPipe>(
+    host: &mut H,
+    alloc: Global,
     paths: MapPaths<'a>,
     output: &mut O,
-) -> Result<(), Fault<'a>> {
-    reject_bank(rt, paths.out, paths.force)?;
-    let file = read_file(rt, paths.input)?;
-    let mut out = Sink::new(rt, paths.out, output)?;
-    let run = map_run(rt.alloc(), file.as_slice(), paths.owner, &mut out);
-    end_at(paths.out, out, run)
+) -> Result<(), Fault<'a>>
+    ensures { Means (Map paths.entry)
+        (record { files = H.world host.old; printed = O.contents output.old })
+        (record { files = H.world host.new; printed = O.contents output.new }) (H.written host.new) result }
+{
+    match reject_bank(host, paths.out, paths.force) {
+        Ok(()) => match read_input(host, alloc, paths.input) {
+            Ok(file) => put_map(host, alloc, paths, file.as_slice(), output),
+            Err(fault) => Err(fault),
+        },
+        Err(fault) => Err(fault),
+    }
+}
+
+fn put_map<'a, H: Host, O: Write + ClosedPipe>(
+    host: &mut H,
+    alloc: Global,
+    paths: MapPaths<'a>,
+    file: &[u8],
+    output: &mut O,
+) -> Result<(), Fault<'a>>
+    ensures { EndsFor (λ w. with_text w paths.entry.out.now (map_outcome file.now paths.entry.owner))
+        (record { files = H.world host.old; printed = O.contents output.old })
+        (record { files = H.world host.new; printed = O.contents output.new }) (H.written host.new) result }
+{
+    match read_owner(alloc, file, paths.owner) {
+        Ok(bank) => {
+            let map = ZoneMap {
+                bank: &bank,
+                owner: paths.owner,
+            };
+            put(host, paths.out, &map, output)
+        }
+        Err(fault) => Err(Fault::Run(fault, paths.out)),
+    }
 }

@@ -1,32 +1,76 @@
 //! The command `play`.
-use super::checks::{reject_bank, reject_same_file};
-use super::endings::end_at;
-use crate::play::play_run_with_progress;
+ghost use Rattle.program_commands.specs.declared.words.Request.TheVariants.{Play};
+ghost use Rattle.sfbank.specs.Outcome.{play_outcome};
+ghost use Rattle.sfbank.specs.Plans.{with_text};
+ghost use Rattle.sfbank.specs.Ends.{EndsFor};
+ghost use Rattle.sfbank.specs.Meanings.{Means};
+ghost use Rattle.sfbank.specs.Steps.{Passes, play_part};
+
+use super::checks::{reject_other_bank, reject_same_file};
+use super::inputs::read_two;
+use super::outputs::put;
+use crate::play::render_notes;
 use base_progress::Progress;
+use file_host::Host;
 use program_commands::PlayPaths;
-use program_files::{Fault, Sink, read_file};
+use program_files::{ClosedPipe, Fault};
+use std::alloc::Global;
 use std::io::Write;
-use std::rt::Files;
+use wave_file::WaveFile;
 
 /// Renders the notes on the bank as a WAVE file. Both files are read whole first, so the output may be the bank's file.
-pub(crate) fn play<'a, R: Files + AllocGlobal, O: Write, P: Progress>(
-    rt: &'a R,
+pub(crate) fn play<'a, H: Host, O: Write + ClosedPipe, P: Progress>(
+    host: &mut H,
+    alloc: Global,
     paths: PlayPaths<'a>,
     output: &mut O,
     progress: &mut P,
-) -> Result<(), Fault<'a>> {
-    reject_same_file(rt, paths.out, &[paths.notes])?;
-    let is_input = reject_same_file(rt, paths.out, &[paths.input]).is_err();
-    reject_bank(rt, paths.out, paths.force || is_input)?;
-    let file = read_file(rt, paths.input)?;
-    let notes = read_file(rt, paths.notes)?;
-    let mut out = Sink::new(rt, paths.out, output)?;
-    let run = play_run_with_progress(
-        rt.alloc(),
-        file.as_slice(),
-        notes.as_slice(),
-        &mut out,
-        progress,
-    );
-    end_at(paths.out, out, run)
+) -> Result<(), Fault<'a>>
+    ensures { Means (Play paths.entry)
+        (record { files = H.world host.old; printed = O.contents output.old })
+        (record { files = H.world host.new; printed = O.contents output.new }) (H.written host.new) result }
+{
+    match reject_output(host, paths) {
+        Ok(()) => match read_two(host, alloc, paths.input, paths.notes) {
+            Ok((file, notes)) => put_sound(
+                host,
+                alloc,
+                paths.out,
+                file.as_slice(),
+                notes.as_slice(),
+                output,
+                progress,
+            ),
+            Err(fault) => Err(fault),
+        },
+        Err(fault) => Err(fault),
+    }
+}
+
+fn reject_output<'a, H: Host>(host: &mut H, paths: PlayPaths<'a>) -> Result<(), Fault<'a>>
+    ensures { Passes (play_part paths.entry) (H.world host.old) (H.world host.new) result }
+{
+    match reject_same_file(host, paths.out, &[paths.notes]) {
+        Ok(()) => reject_other_bank(host, paths.out, paths.input, paths.force),
+        Err(fault) => Err(fault),
+    }
+}
+
+fn put_sound<'a, H: Host, O: Write + ClosedPipe, P: Progress>(
+    host: &mut H,
+    alloc: Global,
+    path: &'a str,
+    file: &[u8],
+    notes: &[u8],
+    output: &mut O,
+    progress: &mut P,
+) -> Result<(), Fault<'a>>
+    ensures { EndsFor (λ w. with_text w path.entry.now (play_outcome file.now notes.now))
+        (record { files = H.world host.old; printed = O.contents output.old })
+        (record { files = H.world host.new; printed = O.contents output.new }) (H.written host.new) result }
+{
+    match render_notes(alloc, file, notes, progress) {
+        Ok(frames) => put(host, path, &WaveFile::new(frames.as_slice()), output),
+        Err(fault) => Err(Fault::Run(fault, path)),
+    }
 }

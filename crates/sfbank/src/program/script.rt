@@ -1,36 +1,67 @@
 //! The command `script`.
-ghost use Rattle.std.specs.Prelude.{◌≡◌, if◌then◌else◌};
-ghost use Rattle.script_of_bank.specs.declared.samples.SamplePoints.TheVariants.{Kept, LeftOut};
+ghost use Rattle.program_commands.specs.declared.words.Request.TheVariants.{Script};
+ghost use Rattle.std.specs.Prelude.{◌≡◌};
+ghost use Rattle.sfbank.specs.BankScripts.{script_outcome};
+ghost use Rattle.sfbank.specs.Plans.{points_of, with_text};
+ghost use Rattle.sfbank.specs.Ends.{EndsFor};
+ghost use Rattle.sfbank.specs.Meanings.{Means};
 
 use super::checks::reject_bank;
-use super::endings::end_at;
-use crate::script::script_run;
+use super::inputs::read_input;
+use super::outputs::put;
+use crate::reading::read_bank;
+use file_host::Host;
 use program_commands::ScriptPaths;
-use program_files::{Fault, Sink, read_file};
-use script_of_bank::SamplePoints;
+use program_files::{ClosedPipe, Fault};
+use script_of_bank::{BankScript, SamplePoints};
+use std::alloc::Global;
 use std::io::Write;
-use std::rt::Files;
 
 /// Writes the script of a bank. The bank is read whole first, so with `force` the output may be its own file.
-pub(crate) fn script<'a, R: Files + AllocGlobal, O: Write>(
-    rt: &'a R,
+pub(crate) fn script<'a, H: Host, O: Write + ClosedPipe>(
+    host: &mut H,
+    alloc: Global,
     paths: ScriptPaths<'a>,
     output: &mut O,
-) -> Result<(), Fault<'a>> {
-    reject_bank(rt, paths.out, paths.force)?;
-    let file = read_file(rt, paths.input)?;
-    let mut out = Sink::new(rt, paths.out, output)?;
-    let run = script_run(
-        rt.alloc(),
-        file.as_slice(),
-        points_of(paths.no_points),
-        &mut out,
-    );
-    end_at(paths.out, out, run)
+) -> Result<(), Fault<'a>>
+    ensures { Means (Script paths.entry)
+        (record { files = H.world host.old; printed = O.contents output.old })
+        (record { files = H.world host.new; printed = O.contents output.new }) (H.written host.new) result }
+{
+    match reject_bank(host, paths.out, paths.force) {
+        Ok(()) => match read_input(host, alloc, paths.input) {
+            Ok(file) => put_script(host, alloc, paths, file.as_slice(), output),
+            Err(fault) => Err(fault),
+        },
+        Err(fault) => Err(fault),
+    }
+}
+
+fn put_script<'a, H: Host, O: Write + ClosedPipe>(
+    host: &mut H,
+    alloc: Global,
+    paths: ScriptPaths<'a>,
+    file: &[u8],
+    output: &mut O,
+) -> Result<(), Fault<'a>>
+    ensures { EndsFor (λ w. with_text w paths.entry.out.now (script_outcome (points_of paths.entry.no_points) file.now))
+        (record { files = H.world host.old; printed = O.contents output.old })
+        (record { files = H.world host.new; printed = O.contents output.new }) (H.written host.new) result }
+{
+    match read_bank(alloc, file) {
+        Ok((bank, _counts)) => {
+            let script = BankScript {
+                bank: &bank,
+                points: points_of(paths.no_points),
+            };
+            put(host, paths.out, &script, output)
+        }
+        Err(fault) => Err(Fault::Run(fault, paths.out)),
+    }
 }
 
 fn points_of(left_out: bool) -> SamplePoints
-    ensures { result ≡ if left_out then LeftOut else Kept }
+    ensures { result ≡ points_of left_out }
 {
     if left_out {
         SamplePoints::LeftOut

@@ -1,22 +1,62 @@
 //! The command `wave`.
+ghost use Rattle.program_commands.specs.declared.words.Request.TheVariants.{Wave};
+ghost use Rattle.sfbank.specs.Recordings.{wave_outcome};
+ghost use Rattle.sfbank.specs.Plans.{with_text};
+ghost use Rattle.sfbank.specs.Ends.{EndsFor};
+ghost use Rattle.sfbank.specs.Meanings.{Means};
+
 use super::checks::reject_bank;
-use super::endings::end_at;
-use crate::wave::wave_run;
+use super::inputs::read_input;
+use super::outputs::put;
+use crate::reading::read_bank;
+use edit_refusals::Cause;
+use file_host::Host;
 use program_commands::WavePaths;
-use program_files::{Fault, Sink, read_file};
+use program_files::{ClosedPipe, Fault, RunFault};
+use std::alloc::Global;
 use std::io::Write;
-use std::rt::Files;
+use wave_file::SampleWave;
 
 /// Writes a sample of the bank as a WAVE file. The bank is read whole first, so with `force` the output may be its
 /// file.
-pub(crate) fn wave<'a, R: Files + AllocGlobal, O: Write>(
-    rt: &'a R,
+pub(crate) fn wave<'a, H: Host, O: Write + ClosedPipe>(
+    host: &mut H,
+    alloc: Global,
     paths: WavePaths<'a>,
     output: &mut O,
-) -> Result<(), Fault<'a>> {
-    reject_bank(rt, paths.out, paths.force)?;
-    let file = read_file(rt, paths.input)?;
-    let mut out = Sink::new(rt, paths.out, output)?;
-    let run = wave_run(rt.alloc(), file.as_slice(), paths.sample, &mut out);
-    end_at(paths.out, out, run)
+) -> Result<(), Fault<'a>>
+    ensures { Means (Wave paths.entry)
+        (record { files = H.world host.old; printed = O.contents output.old })
+        (record { files = H.world host.new; printed = O.contents output.new }) (H.written host.new) result }
+{
+    match reject_bank(host, paths.out, paths.force) {
+        Ok(()) => match read_input(host, alloc, paths.input) {
+            Ok(file) => put_wave(host, alloc, paths, file.as_slice(), output),
+            Err(fault) => Err(fault),
+        },
+        Err(fault) => Err(fault),
+    }
+}
+
+fn put_wave<'a, H: Host, O: Write + ClosedPipe>(
+    host: &mut H,
+    alloc: Global,
+    paths: WavePaths<'a>,
+    file: &[u8],
+    output: &mut O,
+) -> Result<(), Fault<'a>>
+    ensures { EndsFor (λ w. with_text w paths.entry.out.now (wave_outcome file.now paths.entry.sample))
+        (record { files = H.world host.old; printed = O.contents output.old })
+        (record { files = H.world host.new; printed = O.contents output.new }) (H.written host.new) result }
+{
+    match read_bank(alloc, file) {
+        Ok((bank, _counts)) => {
+            bank.soundness();
+            match bank.sample(paths.sample) {
+                Some(found) => put(host, paths.out, &SampleWave::new(found), output),
+                None => Err(Fault::Run(RunFault::NoMember(Cause::NoSuchSample), paths.out)),
+            }
+        }
+        Err(fault) => Err(Fault::Run(fault, paths.out)),
+    }
 }

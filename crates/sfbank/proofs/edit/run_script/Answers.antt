@@ -1,55 +1,38 @@
 use Rattle.std.proofs.Common.{◌∙◌}
-use Rattle.std.proofs.lemmas.Result.{err_from_is_err_and}
 use Rattle.sfbank.specs.EditRuns.{outcome_of}
 use Rattle.sfbank.specs.Prepared.{texts_of_bank}
 use Rattle.sfbank.proofs.Endings.{ends_early, ends_with}
-use Rattle.sfbank.proofs.Faults.{at_read, at_bank, at_script, pool_fails}
+use Rattle.sfbank.proofs.Faults.{at_bank}
 use Rattle.sfbank.proofs.edit.run_script.Goals as goal
 
-pub returns-in_err-bank : goal.returns-in_err-bank
-returns-in_err-bank g c =
-    let p = err_from_is_err_and c.from_residual.result c.from_residual.ensures.1 in
+pub apply_script-requires : goal.apply_script-requires
+apply_script-requires g c = record { pool = rw c.as_slice.ensures.value c.in-Ok.ensures.1 }
+
+pub returns-in-Ok-apply_script : goal.returns-in-Ok-apply_script
+returns-in-Ok-apply_script g c =
     let file = c.args.file.now in
     let script = c.args.script.now in
+    let same = at_bank c.args.forms file script c.in-Ok.bank c.in-Ok.ensures.0.0 c.in-Ok.ensures.0.1 in
     record {
-      runs = rw (p.1, p.2) (ends_early (Unit {0}) (g.W.Write.contents c.args.out.now)
-          (g.V.Write.contents c.args.undo.now) (outcome_of c.args.forms file script) _
-          (at_read c.args.forms file script c.in_err-bank.field-0.0 c.in_err-bank.ensures.err));
+      runs =
+          ends_with _ (outcome_of c.args.forms file script) (texts_of_bank c.in-Ok-apply_script.edited_bank)
+          c.write_edited.result (same ∙ c.in-Ok-apply_script.ensures.prepared) c.write_edited.ensures;
     }
 
-pub returns-in_err-pool : goal.returns-in_err-pool
-returns-in_err-pool g c =
-    let p = err_from_is_err_and c.from_residual-in_err-pool.result c.from_residual-in_err-pool.ensures.1 in
+pub returns-in-Ok : goal.returns-in-Ok
+returns-in-Ok g c =
     let file = c.args.file.now in
     let script = c.args.script.now in
-    let failure = c.in_err-pool.field-0.0 in
-    let same = at_bank c.args.forms file script c.in_ok-bank.bank c.in_ok-bank._counts c.in_ok-bank.ensures.ok in
+    let same = at_bank c.args.forms file script c.in-Ok.bank c.in-Ok.ensures.0.0 c.in-Ok.ensures.0.1 in
     record {
-      runs = rw (p.1, p.2) (ends_early (Unit {0}) (g.W.Write.contents c.args.out.now)
-          (g.V.Write.contents c.args.undo.now) (outcome_of c.args.forms file script) _
-          (rw same (at_script c.args.forms c.in_ok-bank.bank script failure
-          (pool_fails script failure c.in_err-pool.ensures))));
-    }
-
-pub returns-in_err-edited_bank : goal.returns-in_err-edited_bank
-returns-in_err-edited_bank g c =
-    let p = err_from_is_err_and c.from_residual-in_err-edited_bank.result c.from_residual-in_err-edited_bank.ensures.1 in
-    let file = c.args.file.now in
-    let script = c.args.script.now in
-    let same = at_bank c.args.forms file script c.in_ok-bank.bank c.in_ok-bank._counts c.in_ok-bank.ensures.ok in
-    record {
-      runs = rw (p.1, p.2) (ends_early (Unit {0}) (g.W.Write.contents c.args.out.now)
-          (g.V.Write.contents c.args.undo.now) (outcome_of c.args.forms file script) _
-          (rw same c.in_err-edited_bank.ensures.prepared));
+      runs = ends_early (Unit {0}) (g.W.Write.contents c.args.out.now) (g.V.Write.contents c.args.undo.now)
+          (outcome_of c.args.forms file script) c.in-Err-apply_script.fault
+          (rw same c.in-Err-apply_script.ensures.prepared);
     }
 
 pub returns : goal.returns
 returns g c =
-    let file = c.args.file.now in
-    let script = c.args.script.now in
-    let same = at_bank c.args.forms file script c.in_ok-bank.bank c.in_ok-bank._counts c.in_ok-bank.ensures.ok in
     record {
-      runs =
-          ends_with _ (outcome_of c.args.forms file script) (texts_of_bank c.in_ok-edited_bank.edited_bank) c.write_both.result
-          (same ∙ c.in_ok-edited_bank.ensures.prepared) (rw c.as_slice-2.ensures.value at c.write_both.ensures);
+      runs = ends_early (Unit {0}) (g.W.Write.contents c.args.out.now) (g.V.Write.contents c.args.undo.now)
+          (outcome_of c.args.forms c.args.file.now c.args.script.now) c.in-Err.fault (c.in-Err.ensures c.args.forms);
     }

@@ -1,4 +1,4 @@
-use Rattle.std.proofs.Common.{◌≡◌, List, ap, ◌∙◌, sym, Ok}
+use Rattle.std.proofs.Common.{List, ap, ◌∙◌, sym, Ok}
 use Rattle.std.proofs.lemmas.Result.{err_from_is_err_and}
 use Rattle.edit_script.specs.declared.parsing.Line.{Line}
 use Rattle.sfbank.specs.Outcome.{after_script}

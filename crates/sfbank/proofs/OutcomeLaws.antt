@@ -1,0 +1,307 @@
+-- How the outcome of a run makes the end of a request.
+use Rattle.std.proofs.Common.{◌≡◌, ℕ, List, Option, Some, None, Result, Ok, Err, refl, sym, ap, subst, ◌∙◌, inl, inr}
+use Rattle.std.proofs.KnownBytes.{Keeps-refl}
+use Rattle.std.specs.Borrow.{Bor}
+use Rattle.bank_parts.specs.declared.parts.Parts.{Parts}
+use Rattle.bank_format.specs.declared.fault.Counts.{Counts}
+use Rattle.bank_format.specs.declared.fault.ReadFault.{ReadFault}
+use Rattle.bank_format.specs.ReadChecks.{fault_of}
+use Rattle.file_host.specs.World.{World}
+use Rattle.file_host.specs.Saving.{SpoilsPair}
+use Rattle.file_host.specs.declared.faults.Which.{Which}
+use Rattle.file_host.specs.declared.faults.Which.TheVariants.{Out, Undo}
+use Rattle.program_commands.specs.declared.words.Request.TheVariants.{Explain}
+use Rattle.program_files.specs.declared.fault.Fault.{Fault}
+use Rattle.program_files.specs.declared.fault.Fault.TheVariants.{Words, NotText, Unexplained, File, Output, Run, PipeClosed}
+use Rattle.program_files.specs.declared.run_fault.RunFault.{RunFault}
+use Rattle.program_files.specs.declared.run_fault.RunFault.TheVariants as run
+use Rattle.sfbank.specs.Outcome.{Done, after_reading}
+use Rattle.sfbank.specs.Written.{FailsBefore}
+use Rattle.sfbank.specs.Plans.{Action, Content, Why, Fails, SavesBoth, Prints, Text, Explanation, standard_output, put_at}
+use Rattle.sfbank.specs.Plans.{Difference, with_text, with_print, with_both, with_difference}
+use Rattle.sfbank.specs.Differences.{TwoBanks, FindsDifference, banks_in, two_banks_of}
+use Rattle.sfbank.specs.Ends.{Outside, IsContent, IsUnexplained, IsEarly, IsStopped, EndsAs, EndsFor}
+use Rattle.sfbank.specs.Meanings.{MeansPlan}
+use Rattle.sfbank.specs.Outputs.{FailsFirst, PrintsAt, PrintsOutcome, PrintsExplanation, SavesPairAt, path_of}
+use Rattle.sfbank.specs.Steps.{ReadsBank}
+use Rattle.sfbank.proofs.PlanLaws.{at, untouched, nothing, ends_early}
+
+-- ---- a file that is no bank
+
+pub bank_fails : {X Y : Type 0} (view : X → Parts × Counts) (fault : RunFault) (file : List ℕ) (r : Result Y RunFault)
+    → ReadsBank view file (Err fault) → FailsBefore fault (after_reading (fault_of file) r)
+bank_fails view (run.Read fault) file r h = ap (λ (o : Option ReadFault). after_reading o r) h
+bank_fails view run.Memory file r h = tt
+bank_fails view (run.ReadFirst f) file r h = absurd h
+bank_fails view (run.ReadSecond f) file r h = absurd h
+bank_fails view (run.Script f) file r h = absurd h
+bank_fails view (run.Refused n f) file r h = absurd h
+bank_fails view (run.NotNeutral n) file r h = absurd h
+bank_fails view run.OtherVersion file r h = absurd h
+bank_fails view (run.Notes f) file r h = absurd h
+bank_fails view (run.Recording f) file r h = absurd h
+bank_fails view (run.NoMember f) file r h = absurd h
+bank_fails view (run.Write f n) file r h = absurd h
+
+-- ---- a run that fails before it writes
+
+-- the plan of a run's fault
+abbrev pub PlansFaults : {X : Type 0} → List ℕ → (Result X RunFault → Result Action Why) → Type 0
+PlansFaults path planned = (fault : RunFault) → planned (Err fault) ≡ Err (Fails path fault)
+
+run_fails : {X : Type 0} (w : World) (path : Bor (List ℕ)) (planned : Result X RunFault → Result Action Why)
+    (why : RunFault) (outcome : Result X RunFault)
+    → PlansFaults path.now planned → FailsBefore why outcome → IsEarly w (planned outcome) (Run why path)
+run_fails w path planned (run.Read f) outcome law h = ap planned h ∙ law (run.Read f)
+run_fails w path planned (run.ReadFirst f) outcome law h = ap planned h ∙ law (run.ReadFirst f)
+run_fails w path planned (run.ReadSecond f) outcome law h = ap planned h ∙ law (run.ReadSecond f)
+run_fails w path planned (run.Script f) outcome law h = ap planned h ∙ law (run.Script f)
+run_fails w path planned (run.Refused n f) outcome law h = ap planned h ∙ law (run.Refused n f)
+run_fails w path planned (run.NotNeutral n) outcome law h = ap planned h ∙ law (run.NotNeutral n)
+run_fails w path planned run.OtherVersion outcome law h = ap planned h ∙ law run.OtherVersion
+run_fails w path planned (run.Notes f) outcome law h = ap planned h ∙ law (run.Notes f)
+run_fails w path planned (run.Recording f) outcome law h = ap planned h ∙ law (run.Recording f)
+run_fails w path planned (run.NoMember f) outcome law h = ap planned h ∙ law (run.NoMember f)
+run_fails w path planned run.Memory outcome law h = tt
+run_fails w path planned (run.Write f n) outcome law h = absurd h
+
+pub outcome_fails : {X : Type 0} (files : Option World) (printed : Option (List ℕ)) (written : ℕ) (path : Bor (List ℕ))
+    (planned : World → Result X RunFault → Result Action Why) (why : RunFault) (outcome : Result X RunFault)
+    → ((w : World) → PlansFaults path.now (planned w)) → FailsBefore why outcome
+    → EndsFor {U = Unit {0}} (λ w. planned w outcome) (at files printed) (at files printed) written (Err (Run why path))
+outcome_fails None printed written path planned why outcome law h = tt
+outcome_fails (Some w) printed written path planned why outcome law h =
+    ends_early w (planned w outcome) (at (Some w) printed) (at (Some w) printed) written (Run why path)
+    (run_fails w path (planned w) why outcome (law w) h) (untouched (Some w) (Some w) printed refl)
+
+-- the same for a run with one text
+pub text_fails : (files : Option World) (printed : Option (List ℕ)) (written : ℕ) (path : Bor (List ℕ))
+    (why : RunFault) (outcome : Result (List ℕ) RunFault) → FailsBefore why outcome
+    → EndsFor {U = Unit {0}} (λ w. with_text w path.now outcome) (at files printed) (at files printed) written (Err (Run why path))
+text_fails files printed written path why outcome h =
+    outcome_fails files printed written path (λ w r. with_text w path.now r) why outcome (λ w fault. refl) h
+
+-- ---- a run with one text
+
+pub text_put : (path text : List ℕ) (outcome : Result (List ℕ) RunFault) (old new : Outside) (written : ℕ)
+    (end : Result (Unit {0}) Fault) → outcome ≡ Ok text → EndsFor (λ w. Ok (put_at w path (Text text))) old new written end
+    → EndsFor (λ w. with_text w path outcome) old new written end
+text_put path text outcome old new written end e h =
+    subst (λ (o : Result (List ℕ) RunFault). EndsFor (λ w. with_text w path o) old new written end) (sym e) h
+
+-- ---- a text that is printed
+
+pub prints_end : (w : World) (path text : List ℕ) (content : Content) (planned : Result Action Why)
+    (old new : Option (List ℕ)) (written : ℕ) (end : Result (Unit {0}) Fault)
+    → planned ≡ Ok (Prints path content) → IsContent content text → PrintsAt path text old new end
+    → EndsAs w planned (at (Some w) old) (at (Some w) new) written end
+prints_end w path text content planned old new written (Ok u) e is h = record {
+  action = Prints path content;
+  is_planned = e;
+  does = record { text = text; is = is; printed = h; files = refl };
+}
+prints_end w path text content planned old new written (Err (Run (run.Write Out n) at)) e is h = record {
+  action = Prints path content;
+  is_planned = e;
+  path = h.0;
+  stops = record { text = text; is = is; within = h.1.0; printed = h.1.1; files = refl };
+}
+prints_end w path text content planned old new written (Err PipeClosed) e is h = record {
+  action = Prints path content;
+  is_planned = e;
+  some = Out;
+  n = h.0;
+  stops = record { text = text; is = is; within = h.1.0; printed = h.1.1; files = refl };
+}
+prints_end w path text content planned old new written (Err (Run (run.Write Undo n) at)) e is h = absurd h
+prints_end w path text content planned old new written (Err (Words x)) e is h = absurd h
+prints_end w path text content planned old new written (Err NotText) e is h = absurd h
+prints_end w path text content planned old new written (Err (Unexplained n)) e is h = absurd h
+prints_end w path text content planned old new written (Err (File p f)) e is h = absurd h
+prints_end w path text content planned old new written (Err (Output f p)) e is h = absurd h
+prints_end w path text content planned old new written (Err (Run (run.Read f) p)) e is h = absurd h
+prints_end w path text content planned old new written (Err (Run (run.ReadFirst f) p)) e is h = absurd h
+prints_end w path text content planned old new written (Err (Run (run.ReadSecond f) p)) e is h = absurd h
+prints_end w path text content planned old new written (Err (Run (run.Script f) p)) e is h = absurd h
+prints_end w path text content planned old new written (Err (Run (run.Refused n f) p)) e is h = absurd h
+prints_end w path text content planned old new written (Err (Run (run.NotNeutral n) p)) e is h = absurd h
+prints_end w path text content planned old new written (Err (Run run.OtherVersion p)) e is h = absurd h
+prints_end w path text content planned old new written (Err (Run (run.Notes f) p)) e is h = absurd h
+prints_end w path text content planned old new written (Err (Run (run.Recording f) p)) e is h = absurd h
+prints_end w path text content planned old new written (Err (Run (run.NoMember f) p)) e is h = absurd h
+prints_end w path text content planned old new written (Err (Run run.Memory p)) e is h = absurd h
+
+-- a run that fails before it prints
+print_fails : (w : World) (outcome : Result (List ℕ) RunFault) (old new : Option (List ℕ)) (written : ℕ)
+    (end : Result (Unit {0}) Fault) → FailsFirst outcome old new end
+    → EndsAs w (with_print outcome) (at (Some w) old) (at (Some w) new) written end
+print_fails w outcome old new written (Ok u) h = absurd h
+print_fails w outcome old new written (Err fault) h =
+    subst (λ (f : Fault). EndsAs {U = Unit {0}} w (with_print outcome) (at (Some w) old) (at (Some w) new) written (Err f))
+    (sym h.2)
+    (ends_early w (with_print outcome) (at (Some w) old) (at (Some w) new) written (Run h.0 h.1)
+    (run_fails w h.1 with_print h.0 outcome (λ fault. ap (λ (x : List ℕ). Err (Fails x fault)) (sym h.3)) h.4)
+    (record { files = refl; printed = h.5 }))
+
+pub outcome_prints : (files : Option World) (outcome : Result (List ℕ) RunFault) (old new : Option (List ℕ)) (written : ℕ)
+    (end : Result (Unit {0}) Fault) → PrintsOutcome outcome old new end
+    → EndsFor (λ w. with_print outcome) (at files old) (at files new) written end
+outcome_prints None outcome old new written end h = tt
+outcome_prints (Some w) outcome old new written end h =
+    elim h [
+      | inl f ↦ print_fails w outcome old new written end f
+      | inr p ↦ prints_end w standard_output p.0 (Text p.0) (with_print outcome) old new written end (ap with_print p.1) refl p.2
+    ]
+
+-- ---- an explanation
+
+pub explains : (number : ℕ) (text : List ℕ) (old new : Option (List ℕ)) (end : Result (Unit {0}) Fault)
+    → IsContent (Explanation number) text → PrintsAt standard_output text old new end
+    → PrintsExplanation number old new end
+explains number text old new (Ok u) is h = (text, is, h)
+explains number text old new (Err (Unexplained n)) is h = absurd h
+explains number text old new (Err (Words x)) is h = absurd h
+explains number text old new (Err NotText) is h = absurd h
+explains number text old new (Err (File p f)) is h = absurd h
+explains number text old new (Err (Output f p)) is h = absurd h
+explains number text old new (Err (Run f p)) is h = (text, is, h)
+explains number text old new (Err PipeClosed) is h = (text, is, h)
+
+explain_ends : (w : World) (number : ℕ) (old new : Option (List ℕ)) (written : ℕ) (end : Result (Unit {0}) Fault)
+    → PrintsExplanation number old new end
+    → EndsAs w (Ok (Prints standard_output (Explanation number))) (at (Some w) old) (at (Some w) new) written end
+explain_ends w number old new written (Ok u) h =
+    prints_end w standard_output h.0 (Explanation number) _ old new written (Ok u) refl h.1 h.2
+explain_ends w number old new written (Err (Unexplained n)) h = (
+  (ap (λ (x : ℕ). Ok (Prints standard_output (Explanation x))) (sym h.0), subst IsUnexplained (sym h.0) h.1),
+  record { files = refl; printed = h.2 },
+)
+explain_ends w number old new written (Err (Words x)) h = absurd h.2
+explain_ends w number old new written (Err NotText) h = absurd h.2
+explain_ends w number old new written (Err (File p f)) h = absurd h.2
+explain_ends w number old new written (Err (Output f p)) h = absurd h.2
+explain_ends w number old new written (Err (Run f p)) h =
+    prints_end w standard_output h.0 (Explanation number) _ old new written (Err (Run f p)) refl h.1 h.2
+explain_ends w number old new written (Err PipeClosed) h =
+    prints_end w standard_output h.0 (Explanation number) _ old new written (Err PipeClosed) refl h.1 h.2
+
+pub explain_means : (number : ℕ) (files : Option World) (old new : Option (List ℕ)) (written : ℕ)
+    (end : Result (Unit {0}) Fault) → PrintsExplanation number old new end
+    → MeansPlan (Explain number) (at files old) (at files new) written end
+explain_means number None old new written end h = record { inputs = nothing; given = tt; ends = tt }
+explain_means number (Some w) old new written end h =
+    record { inputs = nothing; given = (tt, tt); ends = explain_ends w number old new written end h }
+
+-- ---- two texts that are saved
+
+both_stop : (w : World) (out undo : List ℕ) (done : Done) (planned : Result Action Why) (new : Option World)
+    (printed : Option (List ℕ)) (written n : ℕ) (some : Which) (at_path : List ℕ)
+    → planned ≡ Ok (SavesBoth out undo done) → at_path ≡ path_of some out undo → n ≡ written
+    → SpoilsPair (Some w) new undo done.undo out done.out
+    → IsStopped planned some n at_path (at (Some w) printed) (at new printed) written
+both_stop w out undo done planned new printed written n Out at_path e p c h = record {
+  action = SavesBoth out undo done;
+  is_planned = e;
+  path = p;
+  stops = (c, record { files = h; printed = Keeps-refl printed });
+}
+both_stop w out undo done planned new printed written n Undo at_path e p c h = record {
+  action = SavesBoth out undo done;
+  is_planned = e;
+  path = p;
+  stops = (c, record { files = h; printed = Keeps-refl printed });
+}
+
+both_end : (w : World) (out undo : List ℕ) (done : Done) (planned : Result Action Why) (new : Option World)
+    (printed : Option (List ℕ)) (written : ℕ) (end : Result (Unit {0}) Fault)
+    → planned ≡ Ok (SavesBoth out undo done) → SavesPairAt out undo done (Some w) new written end
+    → EndsAs w planned (at (Some w) printed) (at new printed) written end
+both_end w out undo done planned new printed written (Ok u) e h = record {
+  action = SavesBoth out undo done;
+  is_planned = e;
+  does = (h, Keeps-refl printed);
+}
+both_end w out undo done planned new printed written (Err (Run (run.Write some n) p)) e h =
+    both_stop w out undo done planned new printed written n some p.now e h.0 h.1 h.2
+both_end w out undo done planned new printed written (Err (Run run.Memory p)) e h = (tt, untouched (Some w) new printed h)
+both_end w out undo done planned new printed written (Err PipeClosed) e h = record {
+  action = SavesBoth out undo done;
+  is_planned = e;
+  some = Out;
+  n = written;
+  stops = (refl, record { files = h; printed = Keeps-refl printed });
+}
+both_end w out undo done planned new printed written (Err (Words x)) e h = absurd h
+both_end w out undo done planned new printed written (Err NotText) e h = absurd h
+both_end w out undo done planned new printed written (Err (Unexplained n)) e h = absurd h
+both_end w out undo done planned new printed written (Err (File p f)) e h = absurd h
+both_end w out undo done planned new printed written (Err (Output f p)) e h = absurd h
+both_end w out undo done planned new printed written (Err (Run (run.Read f) p)) e h = absurd h
+both_end w out undo done planned new printed written (Err (Run (run.ReadFirst f) p)) e h = absurd h
+both_end w out undo done planned new printed written (Err (Run (run.ReadSecond f) p)) e h = absurd h
+both_end w out undo done planned new printed written (Err (Run (run.Script f) p)) e h = absurd h
+both_end w out undo done planned new printed written (Err (Run (run.Refused n f) p)) e h = absurd h
+both_end w out undo done planned new printed written (Err (Run (run.NotNeutral n) p)) e h = absurd h
+both_end w out undo done planned new printed written (Err (Run run.OtherVersion p)) e h = absurd h
+both_end w out undo done planned new printed written (Err (Run (run.Notes f) p)) e h = absurd h
+both_end w out undo done planned new printed written (Err (Run (run.Recording f) p)) e h = absurd h
+both_end w out undo done planned new printed written (Err (Run (run.NoMember f) p)) e h = absurd h
+
+pub both_saved : (files new : Option World) (out undo : List ℕ) (done : Done) (outcome : Result Done RunFault)
+    (printed : Option (List ℕ)) (written : ℕ) (end : Result (Unit {0}) Fault)
+    → outcome ≡ Ok done → SavesPairAt out undo done files new written end
+    → EndsFor (λ w. with_both out undo outcome) (at files printed) (at new printed) written end
+both_saved None new out undo done outcome printed written end e h = tt
+both_saved (Some w) new out undo done outcome printed written end e h =
+    both_end w out undo done (with_both out undo outcome) new printed written end (ap (with_both out undo) e) h
+
+pub both_fail : (files : Option World) (printed : Option (List ℕ)) (written : ℕ) (out : Bor (List ℕ)) (undo : List ℕ)
+    (why : RunFault) (outcome : Result Done RunFault) → FailsBefore why outcome
+    → EndsFor {U = Unit {0}} (λ w. with_both out.now undo outcome) (at files printed) (at files printed) written (Err (Run why out))
+both_fail files printed written out undo why outcome h =
+    outcome_fails files printed written out (λ w r. with_both out.now undo r) why outcome (λ w fault. refl) h
+
+-- ---- a difference
+
+pub difference_put : (path a b : List ℕ) (old new : Outside) (written : ℕ) (end : Result (Unit {0}) Fault)
+    → two_banks_of a b ≡ Ok (banks_in a b)
+    → EndsFor (λ w. Ok (put_at w path (Difference a b))) old new written end
+    → EndsFor (λ w. with_difference w path a b (two_banks_of a b)) old new written end
+difference_put path a b old new written end e h =
+    subst (λ (r : Result TwoBanks RunFault). EndsFor (λ w. with_difference w path a b r) old new written end) (sym e) h
+
+-- why two banks have no difference, as a run's fault
+no_difference : {X : Type 0} (view : X → List ℕ) (a b : List ℕ) (why : RunFault) → FindsDifference view a b (Err why)
+    → FailsBefore why (two_banks_of a b)
+no_difference view a b (run.Read f) h = h
+no_difference view a b (run.ReadFirst f) h = h
+no_difference view a b (run.ReadSecond f) h = h
+no_difference view a b (run.Script f) h = h
+no_difference view a b (run.Refused n f) h = h
+no_difference view a b (run.NotNeutral n) h = h
+no_difference view a b run.OtherVersion h = h
+no_difference view a b (run.Notes f) h = h
+no_difference view a b (run.Recording f) h = h
+no_difference view a b (run.NoMember f) h = h
+no_difference view a b run.Memory h = tt
+no_difference view a b (run.Write f n) h = absurd h
+
+pub difference_fails : {X : Type 0} (view : X → List ℕ) (files : Option World) (printed : Option (List ℕ)) (written : ℕ)
+    (path : Bor (List ℕ)) (a b : List ℕ) (why : RunFault) → FindsDifference view a b (Err why)
+    → EndsFor {U = Unit {0}} (λ w. with_difference w path.now a b (two_banks_of a b)) (at files printed) (at files printed) written
+    (Err (Run why path))
+difference_fails view files printed written path a b why h =
+    outcome_fails files printed written path (λ w r. with_difference w path.now a b r) why (two_banks_of a b) (λ w fault. refl)
+    (no_difference view a b why h)
+
+-- ---- an outcome that is another one
+
+pub prints_same : (one other : Result (List ℕ) RunFault) (old new : Option (List ℕ)) (end : Result (Unit {0}) Fault)
+    → one ≡ other → PrintsOutcome other old new end → PrintsOutcome one old new end
+prints_same one other old new end e h =
+    subst (λ (r : Result (List ℕ) RunFault). PrintsOutcome r old new end) (sym e) h
+
+pub prints_text : (outcome : Result (List ℕ) RunFault) (text : List ℕ) (old new : Option (List ℕ))
+    (end : Result (Unit {0}) Fault) → outcome ≡ Ok text → PrintsAt standard_output text old new end
+    → PrintsOutcome outcome old new end
+prints_text outcome text old new end e h = inr (text, e, h)

@@ -1,0 +1,11 @@
+use Rattle.std.proofs.Common.{refl}
+use Rattle.sfbank.specs.NewBanks.{new_outcome}
+use Rattle.sfbank.specs.Plans.{Text}
+use Rattle.sfbank.proofs.OutcomeLaws.{text_fails}
+use Rattle.sfbank.proofs.program.new.put_empty.Goals as goal
+
+pub returns-in-Ok : goal.returns-in-Ok
+returns-in-Ok g c = rw c.in-Ok.ensures at (c.put.ensures (Text _) refl)
+
+pub returns-in-Err : goal.returns-in-Err
+returns-in-Err g c = text_fails _ _ _ c.args.bank.out _ (new_outcome c.args.bank.minor) tt

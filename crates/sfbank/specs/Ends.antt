@@ -1,0 +1,161 @@
+-- How a plan ends: what it leaves of the world of files, and what it prints.
+use Rattle.std.specs.Prelude.{◌≡◌, ◌⊎◌, ◌≤◌, ℕ, List, [], length, take, Option, Some, None, Result, Ok, Err, ⊤}
+use Rattle.std.specs.Option.{option_map}
+use Rattle.std.specs.Io.KnownBytes.{Appends, Keeps}
+use Rattle.base_outputs.specs.declared.output_fault.OutputFault.TheVariants.{HoldsBank}
+use Rattle.file_host.specs.World.{World, with_pair, with_stream}
+use Rattle.file_host.specs.World as world
+use Rattle.file_host.specs.Saving.{Spoils, SpoilsPair}
+use Rattle.file_host.specs.Checks.{IsUnreadable}
+use Rattle.file_host.specs.declared.faults.Which.{Which}
+use Rattle.file_host.specs.declared.faults.Which.TheVariants as which
+use Rattle.program_explanations.specs.declared.explanations.FaultCode.{FaultCode}
+use Rattle.program_explanations.specs.declared.explanations.Explanation.{Explanation}
+use Rattle.program_explanations.specs.Explanations as explanations
+use Rattle.program_files.specs.declared.fault.Fault.{Fault}
+use Rattle.program_files.specs.declared.fault.Fault.TheVariants.{Unexplained, File, Output, Run, PipeClosed}
+use Rattle.program_files.specs.declared.run_fault.RunFault.TheVariants as run
+use Rattle.sfbank.specs.Outcome.{Done, bank_in}
+use Rattle.sfbank.specs.Differences.{IsDifference}
+use Rattle.sfbank.specs.Plans.{Action, Content, Saves, SavesBoth, Prints, Plays}
+use Rattle.sfbank.specs.Plans.{Text, Difference, Explanation as Explains, Why, Rejected, Unread, Fails, standard_output}
+
+-- the world of files, and the bytes of the standard output
+pub record Outside : Type 0 where
+  pub files : Option World
+  pub printed : Option (List ℕ)
+
+-- nothing is changed
+pub record IsUntouched (old new : Outside) : Type 0 where
+  pub files : new.files ≡ old.files
+  pub printed : Keeps old.printed new.printed
+
+-- ---- contents
+
+-- these bytes are the content
+abbrev pub IsContent : Content → List ℕ → Type 0
+IsContent (Text text) bytes = bytes ≡ text
+IsContent (Difference a b) bytes = IsDifference a b bytes × (bank_in a ≡ bank_in b → bytes ≡ [])
+IsContent (Explains number) bytes =
+    (e : Explanation) × explanations.IsOfNumber number e.number e.name.now × (bytes ≡ explanations.explanation_text e)
+
+-- no fault and no refusal has this number
+abbrev pub IsUnexplained : ℕ → Type 0
+IsUnexplained number = (code : FaultCode) → explanations.number_of code ≡ number → ⊥
+
+-- ---- an action that is done
+
+-- a file is saved whole, and all else is as it was
+pub record SavesFile (path : List ℕ) (content : Content) (old new : Outside) : Type 0 where
+  pub text : List ℕ
+  pub is : IsContent content text
+  pub files : new.files ≡ option_map (world.with_text path text) old.files
+  pub printed : Keeps old.printed new.printed
+
+-- a text is printed whole, and no file is changed
+pub record PrintsText (content : Content) (old new : Outside) : Type 0 where
+  pub text : List ℕ
+  pub is : IsContent content text
+  pub printed : Appends old.printed new.printed text
+  pub files : new.files ≡ old.files
+
+abbrev pub Does : Action → Outside → Outside → Type 0
+Does (Saves path content) old new = SavesFile path content old new
+Does (SavesBoth out undo done) old new =
+    (new.files ≡ option_map (with_pair undo done.undo out done.out) old.files) × Keeps old.printed new.printed
+Does (Prints path content) old new = PrintsText content old new
+Does (Plays paths file) old new = ⊥
+
+-- ---- an action that stops in a write fault
+
+-- The fault names the path of the text, and counts the bytes of it that were written. Of a file that is what the last
+-- failed save wrote.
+
+-- the file is as it was, or holds the whole text
+pub record StopsFile (path : List ℕ) (content : Content) (old new : Outside) : Type 0 where
+  pub text : List ℕ
+  pub is : IsContent content text
+  pub files : Spoils old.files new.files path text
+  pub printed : Keeps old.printed new.printed
+
+-- both files are as they were, or whole
+pub record StopsPair (out undo : List ℕ) (done : Done) (old new : Outside) : Type 0 where
+  pub files : SpoilsPair old.files new.files undo done.undo out done.out
+  pub printed : Keeps old.printed new.printed
+
+-- exactly the first bytes are printed
+pub record StopsPrint (content : Content) (n : ℕ) (old new : Outside) : Type 0 where
+  pub text : List ℕ
+  pub is : IsContent content text
+  pub within : n ≤ length text
+  pub printed : Appends old.printed new.printed (take n text)
+  pub files : new.files ≡ old.files
+
+-- an action stops after so many bytes of a text, where the last failed save wrote `written` bytes
+abbrev pub StopsIn : Action → Which → ℕ → ℕ → Outside → Outside → Type 0
+StopsIn (Saves path content) which.Out n written old new = (n ≡ written) × StopsFile path content old new
+StopsIn (SavesBoth out undo done) some n written old new = (n ≡ written) × StopsPair out undo done old new
+StopsIn (Prints path content) which.Out n written old new = StopsPrint content n old new
+StopsIn action other n written old new = ⊥
+
+-- the path of the text that an action writes
+abbrev pub path_in : Action → Which → List ℕ
+path_in (Saves path content) some = path
+path_in (SavesBoth out undo done) which.Out = out
+path_in (SavesBoth out undo done) which.Undo = undo
+path_in (Prints path content) some = path
+path_in (Plays paths file) some = paths.pcm.now
+
+-- ---- a request
+
+-- The fault of a request that does nothing is the plan's. It may be out of memory in place of any answer, and an output
+-- that can't be read to its end may be rejected as a bank.
+abbrev pub IsEarly : World → Result Action Why → Fault → Type 0
+IsEarly w planned (Run run.Memory path) = ⊤
+IsEarly w planned (Run (run.Write which n) path) = ⊥
+IsEarly w planned (Run fault path) = planned ≡ Err (Fails path.now fault)
+IsEarly w planned (File path fault) = planned ≡ Err (Unread path.now fault)
+IsEarly w planned (Output HoldsBank path) = (planned ≡ Err (Rejected path.now HoldsBank)) ⊎ IsUnreadable w path.now
+IsEarly w planned (Output fault path) = planned ≡ Err (Rejected path.now fault)
+IsEarly w planned (Unexplained number) =
+    (planned ≡ Ok (Prints standard_output (Explains number))) × IsUnexplained number
+IsEarly w planned other = ⊥
+
+-- a planned action that is done
+pub record IsDone (planned : Result Action Why) (old new : Outside) : Type 0 where
+  pub action : Action
+  pub is_planned : planned ≡ Ok action
+  pub does : Does action old new
+
+-- a planned action that stops in this write fault
+pub record IsStopped (planned : Result Action Why) (some : Which) (n : ℕ) (at : List ℕ) (old new : Outside)
+    (written : ℕ) : Type 0 where
+  pub action : Action
+  pub is_planned : planned ≡ Ok action
+  pub path : at ≡ path_in action some
+  pub stops : StopsIn action some n written old new
+
+-- a planned action that stops since nothing reads the other end of a pipe
+pub record IsCutOff (planned : Result Action Why) (old new : Outside) (written : ℕ) : Type 0 where
+  pub action : Action
+  pub is_planned : planned ≡ Ok action
+  pub some : Which
+  pub n : ℕ
+  pub stops : StopsIn action some n written old new
+
+-- What is planned is done; or it stops in a write fault; or nothing is changed, for the fault of the plan. `written` is
+-- the count of the last failed save.
+abbrev pub EndsAs : {U : Type 0} → World → Result Action Why → Outside → Outside → ℕ → Result U Fault → Type 0
+EndsAs w planned old new written (Ok u) = IsDone planned old new
+EndsAs w planned old new written (Err (Run (run.Write some n) at)) = IsStopped planned some n at.now old new written
+EndsAs w planned old new written (Err PipeClosed) = IsCutOff planned old new written
+EndsAs w planned old new written (Err fault) = IsEarly w planned fault × IsUntouched old new
+
+-- the same, as far as the world is known
+abbrev pub EndsIn : {U : Type 0} → (World → Result Action Why) → Option World → Outside → Outside → ℕ → Result U Fault
+    → Type 0
+EndsIn planned None old new written end = ⊤
+EndsIn planned (Some w) old new written end = EndsAs w (planned w) old new written end
+
+abbrev pub EndsFor : {U : Type 0} → (World → Result Action Why) → Outside → Outside → ℕ → Result U Fault → Type 0
+EndsFor planned old new written end = EndsIn planned old.files old new written end

@@ -1,0 +1,193 @@
+-- What a request does, as a function of the world of files and of what its inputs give.
+use Rattle.std.specs.Prelude.{◌≡◌, ◌&&◌, ◌||◌, ℕ, List, [], ◌∷◌, Option, Some, None, Result, Ok, Err, Bool, true, false}
+use Rattle.std.specs.Prelude.{if◌then◌else◌, codes, not, ⊤}
+use Rattle.std.specs.Path.{path_file_stem}
+use Rattle.std.specs.Option.{unwrap_or}
+use Rattle.base_outputs.specs.declared.output_fault.OutputFault.{OutputFault}
+use Rattle.base_outputs.specs.declared.output_fault.OutputFault.TheVariants.{SameFile, HoldsBank}
+use Rattle.file_host.specs.declared.input_fault.InputFault.{InputFault}
+use Rattle.file_host.specs.World.{World, file_at, stores_at}
+use Rattle.file_host.specs.Checks.{is_one_file, is_one_of, is_bank_at}
+use Rattle.script_of_bank.specs.declared.samples.SamplePoints.{SamplePoints}
+use Rattle.script_of_bank.specs.declared.samples.SamplePoints.TheVariants.{Kept, LeftOut}
+use Rattle.show_listing.specs.declared.listing.Details.{Details}
+use Rattle.program_commands.specs.declared.words.Request.{Request}
+use Rattle.program_commands.specs.declared.words.Request.TheVariants.{Apply, Canon, Diff, Explain, Import, Live, Map}
+use Rattle.program_commands.specs.declared.words.Request.TheVariants.{New, Play, Script, Show, Wave}
+use Rattle.program_commands.specs.declared.words.LivePaths.{LivePaths}
+use Rattle.program_commands.specs.declared.words.ShowPaths.{ShowPaths}
+use Rattle.program_files.specs.declared.run_fault.RunFault.{RunFault}
+use Rattle.sfbank.specs.Outcome.{Done, canon_outcome, show_outcome, show_details_outcome, play_outcome}
+use Rattle.sfbank.specs.EditRuns.{outcome_of}
+use Rattle.sfbank.specs.BankScripts.{script_outcome}
+use Rattle.sfbank.specs.Differences.{TwoBanks, two_banks_of}
+use Rattle.sfbank.specs.NewBanks.{new_outcome}
+use Rattle.sfbank.specs.Maps.{map_outcome}
+use Rattle.sfbank.specs.Recordings.{import_outcome, wave_outcome}
+
+-- the text of a path
+abbrev pub Path : Type 0
+Path = List ℕ
+
+-- the path that is reported for the standard output
+abbrev pub standard_output : Path
+standard_output = codes "-"
+
+-- What is written: these bytes, a script that is found between two files, or the explanation of a number.
+pub data Content : Type 0 where
+  Text : List ℕ → Content
+  Difference : List ℕ → List ℕ → Content
+  Explanation : ℕ → Content
+
+-- What a request does: it saves a file, or a bank with its undo script, it prints, or it begins a session on a file.
+pub data Action : Type 0 where
+  Saves : Path → Content → Action
+  SavesBoth : Path → Path → Done → Action
+  Prints : Path → Content → Action
+  Plays : LivePaths → List ℕ → Action
+
+-- Why a request does nothing: an output is rejected, an input can't be read, or a run fails.
+pub data Why : Type 0 where
+  Rejected : Path → OutputFault → Why
+  Unread : Path → InputFault → Why
+  Fails : Path → RunFault → Why
+
+-- ---- inputs
+
+-- what reads of the inputs of a request give
+pub record Inputs : Type 0 where
+  pub first : Result (List ℕ) InputFault
+  pub second : Result (List ℕ) InputFault
+
+-- the paths of the inputs
+abbrev pub first_input : Request → Option Path
+first_input (Apply paths) = Some paths.input.now
+first_input (Canon paths) = Some paths.input.now
+first_input (Diff paths) = Some paths.first.now
+first_input (Explain number) = None
+first_input (Import paths) = Some paths.input.now
+first_input (Live paths) = Some paths.input.now
+first_input (Map paths) = Some paths.input.now
+first_input (New bank) = None
+first_input (Play paths) = Some paths.input.now
+first_input (Script paths) = Some paths.input.now
+first_input (Show paths) = Some paths.input.now
+first_input (Wave paths) = Some paths.input.now
+
+abbrev pub second_input : Request → Option Path
+second_input (Apply paths) = Some paths.script.now
+second_input (Diff paths) = Some paths.second.now
+second_input (Import paths) = Some paths.wave.now
+second_input (Play paths) = Some paths.notes.now
+second_input other = None
+
+-- an input gives what the world says, if it is a file that stores and no pipe
+abbrev pub GivesInput : World → Option Path → Result (List ℕ) InputFault → Type 0
+GivesInput world None given = ⊤
+GivesInput world (Some path) given = stores_at world path ≡ true → file_at world path ≡ given
+
+abbrev pub AreInputs : World → Request → Inputs → Type 0
+AreInputs world request inputs =
+    GivesInput world (first_input request) inputs.first × GivesInput world (second_input request) inputs.second
+
+-- ---- the parts of a plan
+
+-- the reason, if the test holds, else the rest of the plan
+abbrev pub unless : {X : Type 0} → Bool → Why → Result X Why → Result X Why
+unless true why rest = Err why
+unless false why rest = rest
+
+-- an output that is one file with one of the others is rejected
+abbrev pub apart : {X : Type 0} → World → Path → List (List ℕ) → Result X Why → Result X Why
+apart world path others rest = unless (is_one_of world path others) (Rejected path SameFile) rest
+
+-- an output that would replace a bank is rejected, except with `force`
+abbrev pub no_bank : {X : Type 0} → World → Path → Bool → Result X Why → Result X Why
+no_bank world path force rest = unless (not force && is_bank_at world path) (Rejected path HoldsBank) rest
+
+-- the rest of the plan for the bytes of an input, or its fault
+abbrev pub with_input : {X : Type 0} → Path → Result (List ℕ) InputFault → (List ℕ → Result X Why) → Result X Why
+with_input path (Ok bytes) rest = rest bytes
+with_input path (Err why) rest = Err (Unread path why)
+
+-- a content at a path: it is printed, if the path leads to the standard output, else saved
+abbrev pub put_at : World → Path → Content → Action
+put_at world path content = if world.paths.is_output path then Prints path content else Saves path content
+
+-- the outcome of a run with one text, at a path
+abbrev pub with_text : World → Path → Result (List ℕ) RunFault → Result Action Why
+with_text world path (Ok text) = Ok (put_at world path (Text text))
+with_text world path (Err fault) = Err (Fails path fault)
+
+-- the same on the standard output
+abbrev pub with_print : Result (List ℕ) RunFault → Result Action Why
+with_print (Ok text) = Ok (Prints standard_output (Text text))
+with_print (Err fault) = Err (Fails standard_output fault)
+
+-- the outcome of a run with an undo script, at two paths
+abbrev pub with_both : Path → Path → Result Done RunFault → Result Action Why
+with_both out undo (Ok done) = Ok (SavesBoth out undo done)
+with_both out undo (Err fault) = Err (Fails out fault)
+
+-- a difference of two files whose banks are of one version
+abbrev pub with_difference : World → Path → List ℕ → List ℕ → Result TwoBanks RunFault → Result Action Why
+with_difference world path a b (Ok banks) = Ok (put_at world path (Difference a b))
+with_difference world path a b (Err fault) = Err (Fails path fault)
+
+-- a listing with details, if one is asked for
+abbrev pub details_of : ShowPaths → Details
+details_of paths = record { zones = paths.zones; uses = paths.uses }
+
+abbrev pub listing_outcome : ShowPaths → List ℕ → Result (List ℕ) RunFault
+listing_outcome paths file =
+    if paths.zones || paths.uses then show_details_outcome (details_of paths) file else show_outcome file
+
+abbrev pub points_of : Bool → SamplePoints
+points_of left_out = if left_out then LeftOut else Kept
+
+-- the name of an imported recording: that of its file, without its extension
+abbrev pub name_in : List ℕ → List ℕ
+name_in path = unwrap_or (path_file_stem path) []
+
+-- ---- the plan
+
+-- what a request does, or why it does nothing
+abbrev pub plan : Request → World → Inputs → Result Action Why
+plan (Apply p) world inputs =
+    apart world p.out.now (p.script.now ∷ [])
+    (apart world p.undo.now (p.input.now ∷ p.script.now ∷ p.out.now ∷ [])
+    (no_bank world p.undo.now p.force
+    (with_input p.input.now inputs.first
+    (λ file. with_input p.script.now inputs.second (λ script. with_both p.out.now p.undo.now (outcome_of p.forms file script))))))
+plan (Canon p) world inputs = with_input p.input.now inputs.first (λ file. with_text world p.out.now (canon_outcome file))
+plan (Diff p) world inputs =
+    no_bank world p.out.now p.force
+    (with_input p.first.now inputs.first
+    (λ a. with_input p.second.now inputs.second (λ b. with_difference world p.out.now a b (two_banks_of a b))))
+plan (Explain number) world inputs = Ok (Prints standard_output (Explanation number))
+plan (Import p) world inputs =
+    apart world p.out.now (p.wave.now ∷ [])
+    (apart world p.undo.now (p.input.now ∷ p.wave.now ∷ p.out.now ∷ [])
+    (no_bank world p.undo.now p.force
+    (with_input p.input.now inputs.first
+    (λ file. with_input p.wave.now inputs.second
+    (λ wave. with_both p.out.now p.undo.now (import_outcome file wave (name_in p.wave.now)))))))
+plan (Live p) world inputs =
+    apart world p.pcm.now (p.input.now ∷ [])
+    (no_bank world p.pcm.now p.force (with_input p.input.now inputs.first (λ file. Ok (Plays p file))))
+plan (Map p) world inputs =
+    no_bank world p.out.now p.force
+    (with_input p.input.now inputs.first (λ file. with_text world p.out.now (map_outcome file p.owner)))
+plan (New p) world inputs = no_bank world p.out.now p.force (with_text world p.out.now (new_outcome p.minor))
+plan (Play p) world inputs =
+    apart world p.out.now (p.notes.now ∷ [])
+    (no_bank world p.out.now (p.force || is_one_file world p.out.now p.input.now)
+    (with_input p.input.now inputs.first
+    (λ file. with_input p.notes.now inputs.second (λ notes. with_text world p.out.now (play_outcome file notes)))))
+plan (Script p) world inputs =
+    no_bank world p.out.now p.force
+    (with_input p.input.now inputs.first (λ file. with_text world p.out.now (script_outcome (points_of p.no_points) file)))
+plan (Show p) world inputs = with_input p.input.now inputs.first (λ file. with_print (listing_outcome p file))
+plan (Wave p) world inputs =
+    no_bank world p.out.now p.force
+    (with_input p.input.now inputs.first (λ file. with_text world p.out.now (wave_outcome file p.sample)))

@@ -1,0 +1,113 @@
+//! Outputs: files that are saved whole, and the standard output.
+ghost use Rattle.std.specs.Prelude.{◌≡◌, Ok};
+ghost use Rattle.sfbank.specs.Plans.{Content, put_at, standard_output};
+ghost use Rattle.sfbank.specs.Prepared.{texts_of_bank};
+ghost use Rattle.sfbank.specs.Ends.{EndsFor, IsContent};
+ghost use Rattle.sfbank.specs.Outputs.{PrintsAt, SavesAt, SavesPairAt, path_of, write_fault};
+
+use crate::edited_bank::EditedBank;
+use base_texts::{Text, write_text};
+use edit_script::EditLines;
+use file_host::{Host, PairFault, Which};
+use program_files::{ClosedPipe, Fault, RunFault, STANDARD_OUTPUT};
+use sf_base::Failure;
+use sf_writer::BankFile;
+use std::io::Write;
+
+/// Writes a text at a path: to the standard output, if the path leads to it (so that later writes of others follow in
+/// order), else as a file.
+pub(super) fn put<'a, H: Host, T: Text, O: Write + ClosedPipe>(
+    host: &mut H,
+    path: &'a str,
+    text: &T,
+    output: &mut O,
+) -> Result<(), Fault<'a>>
+    ensures { (content : Content) → IsContent content (T.bytes text.now) → EndsFor (λ w. Ok (put_at w path.entry.now content))
+        (record { files = H.world host.old; printed = O.contents output.old })
+        (record { files = H.world host.new; printed = O.contents output.new }) (H.written host.new) result }
+{
+    match host.is_output(path) {
+        Ok(true) => print_at(path, text, output),
+        Ok(false) => save(host, path, text),
+        Err(_) => Err(Fault::Run(RunFault::Memory, path)),
+    }
+}
+
+/// Writes a text to the standard output.
+pub(super) fn print<'a, T: Text, O: Write + ClosedPipe>(
+    text: &T,
+    output: &mut O,
+) -> Result<(), Fault<'a>>
+    ensures { PrintsAt standard_output (T.bytes text.now) (O.contents output.old) (O.contents output.new) result }
+{
+    print_at(STANDARD_OUTPUT, text, output)
+}
+
+// Writes a text to the standard output, to which a path leads.
+fn print_at<'a, T: Text, O: Write + ClosedPipe>(
+    path: &'a str,
+    text: &T,
+    output: &mut O,
+) -> Result<(), Fault<'a>>
+    ensures { PrintsAt path.entry.now (T.bytes text.now) (O.contents output.old) (O.contents output.new) result }
+{
+    match write_text(text, output) {
+        Ok(()) => Ok(()),
+        Err(fault) => Err(write_fault(Which::Out, fault.written, path, output.is_pipe_closed())),
+    }
+}
+
+// Saves a text as a file.
+fn save<'a, H: Host, T: Text>(host: &mut H, path: &'a str, text: &T) -> Result<(), Fault<'a>>
+    ensures { SavesAt path.entry.now (T.bytes text.now) (H.world host.old) (H.world host.new) (H.written host.new) result }
+{
+    match host.save(path, text) {
+        Ok(()) => Ok(()),
+        Err(Failure::OutOfMemory) => Err(Fault::Run(RunFault::Memory, path)),
+        Err(Failure::Fault(fault)) => {
+            let is_closed = host.is_pipe_closed();
+            Err(write_fault(Which::Out, fault.written, path, is_closed))
+        }
+    }
+}
+
+/// Saves an edited bank and its undo script as files. Where both replace files, the undo script is put in place first:
+/// the bank that was read, which OUT may replace, is never without it.
+pub(super) fn save_both<'a, H: Host>(
+    host: &mut H,
+    out: &'a str,
+    undo: &'a str,
+    edited_bank: &EditedBank<'_>,
+) -> Result<(), Fault<'a>>
+    ensures { SavesPairAt out.entry.now undo.entry.now (texts_of_bank edited_bank.now) (H.world host.old) (H.world host.new) (H.written host.new) result }
+{
+    let lines = EditLines(edited_bank.undo.as_slice());
+    match host.save_pair(undo, &lines, out, &BankFile(&edited_bank.bank)) {
+        Ok(()) => Ok(()),
+        Err(PairFault::OutOfMemory) => Err(Fault::Run(RunFault::Memory, out)),
+        Err(PairFault::Write(which, written)) => {
+            let path = path_of(which, out, undo);
+            Err(write_fault(which, written, path, host.is_pipe_closed()))
+        }
+    }
+}
+
+// The path of a text.
+fn path_of<'a>(which: Which, out: &'a str, undo: &'a str) -> &'a str
+    ensures { result ≡ path_of which out.entry undo.entry }
+{
+    match which {
+        Which::Out => out,
+        Which::Undo => undo,
+    }
+}
+
+// The fault of a write, which is not reported where the reader of the output closed its pipe.
+fn write_fault(which: Which, written: u64, path: &str, is_pipe_closed: bool) -> Fault<'_>
+    ensures { result ≡ write_fault which written path.entry is_pipe_closed }
+{
+    if is_pipe_closed {
+        return Fault::PipeClosed;
+    }
+    Fault::Run(RunFault::Write(which, written), path)
+}
