@@ -132,12 +132,17 @@ done_read : (o : Option ReadFault) (x : Result Done RunFault) (done : Done) → 
 done_read None x done h = refl
 done_read (Some f) x done h = absurd cc
 
+pub import_read : (file wave name : List ℕ) (done : Done) → import_outcome file wave name ≡ Ok done → fault_of file ≡ None
+unfolding import_outcome
+import_read file wave name done h =
+    done_read (fault_of file) (after_recording (bank_in file) name (recording_in wave)) done h
+
 pub import_restores : (file wave name : List ℕ) → AreBytes file → AreBytes wave → AreBytes name
     → IsImportUndone file wave name
 unfolding import_outcome
 import_restores file wave name bytes wave_bytes name_bytes done r h recording_is =
     let es = lines_of file name r in
-    let read = done_read (fault_of file) (after_recording (bank_in file) name (recording_in wave)) done h in
+    let read = import_read file wave name done h in
     let parses = printed_is_read es (edits_fit file wave name r bytes wave_bytes name_bytes read recording_is) in
     let run_it = sym (scripted file wave name bytes wave_bytes name_bytes r recording_is) ∙ h in
     restores file (texts_of es) bytes done (numbered 1 es) run_it parses

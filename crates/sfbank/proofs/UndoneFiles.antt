@@ -1,30 +1,35 @@
 -- On files: what `apply` restores of its own outputs.
-use Rattle.std.proofs.Common.{◌≡◌, ◌≢◌, ℕ, List, [], ◌∷◌, Result, Ok, Err, Bool, true, false, refl, sym, ap, ◌∙◌}
+use Rattle.std.proofs.Common.{◌≡◌, ◌≢◌, ℕ, List, [], ◌∷◌, None, Result, Ok, Err, Bool, true, false, refl, sym, ap, ◌∙◌}
 use Rattle.std.specs.Prelude.{if◌then◌else◌, nat_le, length, not, ◌&&◌}
 use Rattle.base_outputs.specs.declared.output_fault.OutputFault.TheVariants.{SameFile, HoldsBank}
-use Rattle.bank_parts.specs.declared.parts.Parts.{Parts}
 use Rattle.hydra_records.specs.Records.{AreBytes}
 use Rattle.bank_format.specs.Canon.{canon}
 use Rattle.bank_format.specs.ReadChecks.{fault_of}
 use Rattle.edit_script.specs.declared.parsing.Line.{Line}
 use Rattle.edit_script.specs.Script.{script_of}
 use Rattle.edit_script.specs.Printing.{texts_of}
-use Rattle.script_tokens.specs.declared.fault.ScriptFault.{ScriptFault}
 use Rattle.file_host.specs.declared.input_fault.InputFault.TheVariants.{TooLong}
 use Rattle.file_host.specs.World.{World, held_at, file_at, read_of, place_of, stores_at, with_file, with_text, with_pair}
 use Rattle.file_host.specs.World.{most_bytes}
 use Rattle.file_host.specs.Checks.{is_one_of, is_bank_at}
 use Rattle.file_host.proofs.FileLaws.{put_at, put_beside}
 use Rattle.program_commands.specs.declared.words.ApplyPaths.{ApplyPaths}
+use Rattle.program_commands.specs.declared.words.ImportPaths.{ImportPaths}
+use Rattle.live_sessions.specs.Saved.{saved_of}
+use Rattle.inverse_edits.specs.Histories.{undo_edits}
 use Rattle.program_commands.specs.declared.words.Forms.{Forms}
 use Rattle.program_commands.specs.declared.words.Forms.TheVariants.{Every, Neutral}
 use Rattle.program_files.specs.declared.run_fault.RunFault.{RunFault}
-use Rattle.sfbank.specs.Outcome.{Done, bank_in, edits_of, play_outcome}
+use Rattle.sfbank.specs.Outcome.{Done, bank_in, edits_of, outcome, play_outcome}
 use Rattle.sfbank.specs.EditRuns.{after_lines, outcome_of}
-use Rattle.sfbank.specs.Plans.{Why, Rejected, SavesBoth, unless, with_both}
-use Rattle.sfbank.specs.UndoneFiles.{IsApplied, UndoRestoresFiles}
+use Rattle.sfbank.specs.Plans.{Why, Rejected, SavesBoth, name_in, unless, with_both}
+use Rattle.sfbank.specs.UndoneFiles.{IsApplied, IsImported, ArePlaced, RunsOn, IsRestored}
+use Rattle.sfbank.specs.UndoneFiles.{UndoRestoresFiles, UndoRemovesRecordings, UndoEndsSessions}
+use Rattle.sfbank.specs.SavedBanks.{SavedUndoRestores}
+use Rattle.sfbank.specs.Recordings.{import_outcome, edits_into}
 use Rattle.sfbank.proofs.Neutral.{of_every, of_neutral, neutrally_restores}
 use Rattle.sfbank.proofs.Restores.{restores, reading_done}
+use Rattle.sfbank.proofs.Recordings.{import_read, import_restores}
 use Rattle.sfbank.proofs.RenderLaws.{played_on_canon}
 
 -- ---- files that were saved
@@ -100,19 +105,6 @@ applied_outcome p old new file script done h =
     (unless_done undo (Rejected p.undo.now SameFile) no_bank _
     (unless_done out (Rejected p.out.now SameFile) apart _ h.planned)))
 
-lines_parse : (forms : Forms) (b : Parts) (r : Result (List Line) ScriptFault) (done : Done) → after_lines forms b r ≡ Ok done
-    → (lines : List Line) × (r ≡ Ok lines)
-lines_parse forms b (Ok lines) done e = (lines, refl)
-lines_parse Every b (Err f) done e = cc
-lines_parse Neutral b (Err f) done e = cc
-
--- the script was one
-parsed : (forms : Forms) (file script : List ℕ) (done : Done) → outcome_of forms file script ≡ Ok done
-    → (lines : List Line) × (script_of script ≡ Ok lines)
-parsed forms file script done e =
-    lines_parse forms (bank_in file) (script_of script) done
-    (reading_done (fault_of file) (after_lines forms (bank_in file) (script_of script)) done e).1
-
 -- in either mode, the undo script leads back
 leads_back : (forms : Forms) (file script : List ℕ) (done : Done) (lines : List Line) → AreBytes file
     → outcome_of forms file script ≡ Ok done → script_of script ≡ Ok lines
@@ -125,54 +117,108 @@ leads_back Neutral file script done lines bytes e parses =
 ok_same : (x y : Done) (r : Result Done RunFault) → r ≡ Ok x → r ≡ Ok y → x ≡ y
 ok_same x y r e h = cc
 
--- in either mode, notes sound as on the first file
-sounds_same : (file : List ℕ) → AreBytes file → (notes : List ℕ) (forms : Forms) (script : List ℕ) (done : Done)
-    → outcome_of forms file script ≡ Ok done → play_outcome (canon (bank_in file)) notes ≡ play_outcome file notes
-sounds_same file bytes notes forms script done e =
-    played_on_canon file notes bytes
-    (reading_done (fault_of file) (after_lines forms (bank_in file) (script_of script)) done e).0
-
 -- what the second run read
 second_read : (now left : World) (path text other bytes : List ℕ) → other ≡ path → file_at now path ≡ file_at left path
     → held_at left path ≡ Ok text → file_at now other ≡ Ok bytes → text ≡ bytes
 second_read now left path text other bytes e stays held read =
     read_whole text bytes (ap read_of (sym held) ∙ sym stays ∙ ap (file_at now) (sym e) ∙ read)
 
-pub undo_restores_files : UndoRestoresFiles
-undo_restores_files first second old left now new file script other_file other_script done back bytes h =
-    let a = h.first_done in
-    let b = h.second_done in
-    let first_outcome : outcome_of first.forms file script ≡ Ok done = applied_outcome first old left file script done a in
-    let held_out : held_at left first.out.now ≡ Ok done.out =
-    ap (λ (w : World). held_at w first.out.now) a.files
-    ∙ pair_out old first.undo.now done.undo first.out.now done.out h.stores_out in
-    let held_undo : held_at left first.undo.now ≡ Ok done.undo =
-    ap (λ (w : World). held_at w first.undo.now) a.files
-    ∙ pair_undo old first.undo.now done.undo first.out.now done.out h.stores_undo h.apart in
-    let same_file : done.out ≡ other_file =
-    second_read now left first.out.now done.out second.input.now other_file h.out h.stays_out held_out b.read in
-    let same_script : done.undo ≡ other_script =
-    second_read now left first.undo.now done.undo second.script.now other_script h.undo h.stays_undo held_undo b.read_script
-    in
-    let p = parsed first.forms file script done first_outcome in
-    let text : Done = record { out = canon (bank_in file); undo = texts_of (edits_of p.0) } in
-    let leads : outcome_of first.forms done.out done.undo ≡ Ok text =
-    leads_back first.forms file script done p.0 bytes first_outcome p.1 in
-    let again : outcome_of second.forms other_file other_script ≡ Ok back =
-    applied_outcome second now new other_file other_script back b in
-    let was : outcome_of first.forms done.out done.undo ≡ outcome_of second.forms other_file other_script =
-    λ i. outcome_of (sym h.forms i) (same_file i) (same_script i) in
-    let is : back ≡ text = ok_same back text (outcome_of second.forms other_file other_script) again (sym was ∙ leads) in
+-- what a second run gave, on what was left
+second_gives : (second : ApplyPaths) (out undo : List ℕ) (old left now new : World) (file script : List ℕ)
+    (done back : Done) → left ≡ with_pair undo done.undo out done.out old → ArePlaced old out undo
+    → RunsOn second out undo left now new file script back → outcome_of second.forms done.out done.undo ≡ Ok back
+second_gives second out undo old left now new file script done back saved placed h =
+    let held_out : held_at left out ≡ Ok done.out =
+    ap (λ (w : World). held_at w out) saved ∙ pair_out old undo done.undo out done.out placed.stores_out in
+    let held_undo : held_at left undo ≡ Ok done.undo =
+    ap (λ (w : World). held_at w undo) saved ∙ pair_undo old undo done.undo out done.out placed.stores_undo placed.apart in
+    let same_file : done.out ≡ file =
+    second_read now left out done.out second.input.now file h.out_is h.stays_out held_out h.done.read in
+    let same_script : done.undo ≡ script =
+    second_read now left undo done.undo second.script.now script h.undo_is h.stays_undo held_undo h.done.read_script in
+    (λ i. outcome_of second.forms (same_file i) (same_script i))
+    ∙ applied_outcome second now new file script back h.done
+
+-- the canonical file of a bank is what it gave
+restored : (second : ApplyPaths) (now new : World) (file edits other_file other_script : List ℕ) (back : Done)
+    → AreBytes file → fault_of file ≡ None → IsApplied second now new other_file other_script back
+    → back ≡ record { out = canon (bank_in file); undo = edits } → IsRestored second now new file edits back
+restored second now new file edits other_file other_script back bytes read b is =
     let bank : back.out ≡ canon (bank_in file) = ap (λ (d : Done). d.out) is in
-    let edits : back.undo ≡ texts_of (edits_of p.0) = ap (λ (d : Done). d.undo) is in
     record {
-      lines = p.0;
-      parses = p.1;
-      bank = bank;
-      edits = edits;
-      sound = λ notes. ap (λ (x : List ℕ). play_outcome x notes) bank ∙ sounds_same file bytes notes first.forms script done first_outcome;
+      texts = is;
       holds_bank = λ stores. ap (λ (w : World). held_at w second.out.now) b.files
           ∙ pair_out now second.undo.now back.undo second.out.now back.out stores ∙ ap Ok bank;
       holds_edits = λ stores apart. ap (λ (w : World). held_at w second.undo.now) b.files
-          ∙ pair_undo now second.undo.now back.undo second.out.now back.out stores apart ∙ ap Ok edits;
+          ∙ pair_undo now second.undo.now back.undo second.out.now back.out stores apart
+          ∙ ap (λ (d : Done). Ok d.undo) is;
+      sound = λ notes. ap (λ (x : List ℕ). play_outcome x notes) bank ∙ played_on_canon file notes bytes read;
     }
+
+-- a file of which there is an outcome is a bank
+is_read : (forms : Forms) (file script : List ℕ) (done : Done) → outcome_of forms file script ≡ Ok done
+    → fault_of file ≡ None
+is_read forms file script done e =
+    (reading_done (fault_of file) (after_lines forms (bank_in file) (script_of script)) done e).0
+
+pub undo_restores_files : UndoRestoresFiles
+undo_restores_files first second old left now new file script other_file other_script done back lines bytes parses a placed
+    forms h =
+    let was : outcome_of first.forms file script ≡ Ok done = applied_outcome first old left file script done a in
+    let leads = leads_back first.forms file script done lines bytes was parses in
+    let gives : outcome_of first.forms done.out done.undo ≡ Ok back =
+    (λ i. outcome_of (sym forms i) done.out done.undo)
+    ∙ second_gives second first.out.now first.undo.now old left now new other_file other_script done back a.files placed h
+    in
+    restored second now new file (texts_of (edits_of lines)) other_file other_script back bytes
+    (is_read first.forms file script done was) h.done
+    (ok_same back _ (outcome_of first.forms done.out done.undo) gives leads)
+
+-- what `apply` gave with edits of all forms
+every_gives : (second : ApplyPaths) (out undo : List ℕ) (old left now new : World) (file script : List ℕ) (done back : Done)
+    → left ≡ with_pair undo done.undo out done.out old → ArePlaced old out undo → second.forms ≡ Every
+    → RunsOn second out undo left now new file script back → outcome done.out done.undo ≡ Ok back
+every_gives second out undo old left now new file script done back saved placed every h =
+    sym (of_every done.out done.undo) ∙ (λ i. outcome_of (sym every i) done.out done.undo)
+    ∙ second_gives second out undo old left now new file script done back saved placed h
+
+-- the outcome of an import that was done
+imported_outcome : (p : ImportPaths) (old new : World) (file wave : List ℕ) (done : Done)
+    → IsImported p old new file wave done → import_outcome file wave (name_in p.wave.now) ≡ Ok done
+imported_outcome p old new file wave done h =
+    let result = import_outcome file wave (name_in p.wave.now) in
+    let out = is_one_of old p.out.now (p.wave.now ∷ []) in
+    let undo = is_one_of old p.undo.now (p.input.now ∷ p.wave.now ∷ p.out.now ∷ []) in
+    let bank = not p.force && is_bank_at old p.undo.now in
+    let rest = with_both p.out.now p.undo.now result in
+    let no_bank = unless bank (Rejected p.undo.now HoldsBank) rest in
+    let apart = unless undo (Rejected p.undo.now SameFile) no_bank in
+    both_done p.out.now p.undo.now result done
+    (unless_done bank (Rejected p.undo.now HoldsBank) rest _
+    (unless_done undo (Rejected p.undo.now SameFile) no_bank _
+    (unless_done out (Rejected p.out.now SameFile) apart _ h.planned)))
+
+pub undo_removes_recordings : UndoRemovesRecordings
+undo_removes_recordings first second old left now new file wave other_file other_script done back r bytes
+    wave_bytes name_bytes records a placed every h =
+    let name = name_in first.wave.now in
+    let was : import_outcome file wave name ≡ Ok done = imported_outcome first old left file wave done a in
+    let gives =
+    every_gives second first.out.now first.undo.now old left now new other_file other_script done back a.files placed every h
+    in
+    restored second now new file (texts_of (edits_into (bank_in file) name r)) other_file other_script back bytes
+    (import_read file wave name done was) h.done
+    (ok_same back _ (outcome done.out done.undo) gives (import_restores file wave name bytes wave_bytes name_bytes done r was records))
+
+pub undo_ends_sessions : SavedUndoRestores → UndoEndsSessions
+undo_ends_sessions law file ts last c out undo second old left now new other_file other_script back bytes read turns history
+    bank saved placed every h =
+    let texts = saved_of c (undo_edits last.session) in
+    let done : Done = record { out = texts.out; undo = texts.undo } in
+    let leads = law file ts last c bytes read turns history bank in
+    let gives =
+    every_gives second out undo old left now new other_file other_script done back saved placed every h in
+    let is : back ≡ record { out = canon (bank_in file); undo = leads.0 } =
+    ok_same back _ (outcome texts.out texts.undo) gives leads.1 in
+    restored second now new file back.undo other_file other_script back bytes read h.done
+    (is ∙ ap (λ (x : List ℕ). record { out = canon (bank_in file); undo = x }) (sym (ap (λ (d : Done). d.undo) is)))

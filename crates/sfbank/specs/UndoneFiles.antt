@@ -1,15 +1,26 @@
--- On files: what `apply` restores of its own outputs.
-use Rattle.std.specs.Prelude.{◌≡◌, ◌≢◌, ℕ, List, Ok, true}
+-- On files: what `apply` restores of a bank and an undo script that were saved.
+use Rattle.std.specs.Prelude.{◌≡◌, ◌≢◌, ℕ, List, Some, None, Ok, true}
 use Rattle.hydra_records.specs.Records.{AreBytes}
+use Rattle.bank_parts.specs.declared.parts.Parts.{Parts}
 use Rattle.bank_format.specs.Canon.{canon}
+use Rattle.bank_format.specs.ReadChecks.{fault_of}
 use Rattle.edit_script.specs.declared.parsing.Line.{Line}
 use Rattle.edit_script.specs.Script.{script_of}
 use Rattle.edit_script.specs.Printing.{texts_of}
 use Rattle.file_host.specs.World.{World, held_at, file_at, place_of, stores_at, with_pair}
+use Rattle.inverse_edits.specs.Histories.{IsHistory, bank_now, undo_edits}
+use Rattle.live_sessions.specs.Saved.{saved_of}
+use Rattle.live_sessions.specs.Steps.{started_with}
+use Rattle.live_sessions.specs.Turns.{Turn, AreTurns}
+use Rattle.wave_file.specs.declared.recording.Recording.{Recording}
+use Rattle.wave_file.specs.ReadChecks.{recording_in}
 use Rattle.program_commands.specs.declared.words.ApplyPaths.{ApplyPaths}
-use Rattle.program_commands.specs.declared.words.Request.TheVariants.{Apply}
+use Rattle.program_commands.specs.declared.words.Forms.TheVariants.{Every}
+use Rattle.program_commands.specs.declared.words.ImportPaths.{ImportPaths}
+use Rattle.program_commands.specs.declared.words.Request.TheVariants.{Apply, Import}
 use Rattle.sfbank.specs.Outcome.{Done, bank_in, edits_of, play_outcome}
-use Rattle.sfbank.specs.Plans.{SavesBoth, plan}
+use Rattle.sfbank.specs.Recordings.{edits_into}
+use Rattle.sfbank.specs.Plans.{SavesBoth, name_in, plan}
 
 -- `apply` of these paths was done on files: it read two files, planned to save two texts, and saved them.
 pub record IsApplied (paths : ApplyPaths) (old new : World) (file script : List ℕ) (done : Done) : Type 0 where
@@ -19,36 +30,67 @@ pub record IsApplied (paths : ApplyPaths) (old new : World) (file script : List 
       ≡ Ok (SavesBoth paths.out.now paths.undo.now done)
   pub files : new ≡ with_pair paths.undo.now done.undo paths.out.now done.out old
 
--- Two runs of `apply`, in the same mode: the second on the outputs of the first. Other files may have changed between
--- them. The outputs of each are regular files at two places.
-pub record RunsBack (first second : ApplyPaths) (old left now new : World) (file script other_file other_script : List ℕ)
-    (done back : Done) : Type 0 where
-  pub first_done : IsApplied first old left file script done
-  pub out : second.input.now ≡ first.out.now
-  pub undo : second.script.now ≡ first.undo.now
-  pub forms : second.forms ≡ first.forms
-  pub stores_out : stores_at old first.out.now ≡ true
-  pub stores_undo : stores_at old first.undo.now ≡ true
-  pub apart : place_of old first.out.now ≢ place_of old first.undo.now
-  pub stays_out : file_at now first.out.now ≡ file_at left first.out.now
-  pub stays_undo : file_at now first.undo.now ≡ file_at left first.undo.now
-  pub second_done : IsApplied second now new other_file other_script back
+-- the same of `import`
+pub record IsImported (paths : ImportPaths) (old new : World) (file wave : List ℕ) (done : Done) : Type 0 where
+  pub read : file_at old paths.input.now ≡ Ok file
+  pub read_wave : file_at old paths.wave.now ≡ Ok wave
+  pub planned : plan (Import paths) old (record { first = Ok file; second = Ok wave })
+      ≡ Ok (SavesBoth paths.out.now paths.undo.now done)
+  pub files : new ≡ with_pair paths.undo.now done.undo paths.out.now done.out old
 
--- The last bank file holds the canonical file of the first bank, and the last undo script the edits of the first
--- script. All notes sound as on the first file.
-pub record IsRestored (second : ApplyPaths) (new now : World) (file script : List ℕ) (back : Done) : Type 0 where
-  pub lines : List Line
-  pub parses : script_of script ≡ Ok lines
-  pub bank : back.out ≡ canon (bank_in file)
-  pub edits : back.undo ≡ texts_of (edits_of lines)
-  pub sound : (notes : List ℕ) → play_outcome back.out notes ≡ play_outcome file notes
+-- A bank and its undo script are regular files, or will be, at two places.
+pub record ArePlaced (world : World) (out undo : List ℕ) : Type 0 where
+  pub stores_out : stores_at world out ≡ true
+  pub stores_undo : stores_at world undo ≡ true
+  pub apart : place_of world out ≢ place_of world undo
+
+-- `apply` was done on a bank and an undo script that were left at these paths. Other files may have changed meanwhile.
+pub record RunsOn (second : ApplyPaths) (out undo : List ℕ) (left now new : World) (file script : List ℕ) (back : Done)
+    : Type 0 where
+  pub out_is : second.input.now ≡ out
+  pub undo_is : second.script.now ≡ undo
+  pub stays_out : file_at now out ≡ file_at left out
+  pub stays_undo : file_at now undo ≡ file_at left undo
+  pub done : IsApplied second now new file script back
+
+-- The last bank file holds the canonical file of the bank of a file, and the last undo script these edits. All notes
+-- sound on it as on that file.
+pub record IsRestored (second : ApplyPaths) (now new : World) (file edits : List ℕ) (back : Done) : Type 0 where
+  pub texts : back ≡ record { out = canon (bank_in file); undo = edits }
   pub holds_bank : stores_at now second.out.now ≡ true → held_at new second.out.now ≡ Ok (canon (bank_in file))
   pub holds_edits : stores_at now second.undo.now ≡ true → place_of now second.out.now ≢ place_of now second.undo.now
-      → held_at new second.undo.now ≡ Ok (texts_of (edits_of lines))
+      → held_at new second.undo.now ≡ Ok edits
+  pub sound : (notes : List ℕ) → play_outcome back.out notes ≡ play_outcome file notes
 
--- Wherever a script was applied to files, applying its undo script restores them.
+-- Wherever a script was applied to files, applying its undo script in the same mode restores them, and gives its edits.
 abbrev pub UndoRestoresFiles : Type 0
 UndoRestoresFiles =
-    (first second : ApplyPaths) (old left now new : World) (file script other_file other_script : List ℕ) (done back : Done)
-    → AreBytes file → RunsBack first second old left now new file script other_file other_script done back
-    → IsRestored second new now file script back
+    (first second : ApplyPaths) (old left now new : World) (file script other_file other_script : List ℕ)
+    (done back : Done) (lines : List Line)
+    → AreBytes file → script_of script ≡ Ok lines → IsApplied first old left file script done
+    → ArePlaced old first.out.now first.undo.now → second.forms ≡ first.forms
+    → RunsOn second first.out.now first.undo.now left now new other_file other_script back
+    → IsRestored second now new file (texts_of (edits_of lines)) back
+
+-- the same for an imported recording
+abbrev pub UndoRemovesRecordings : Type 0
+UndoRemovesRecordings =
+    (first : ImportPaths) (second : ApplyPaths) (old left now new : World) (file wave other_file other_script : List ℕ)
+    (done back : Done) (r : Recording)
+    → AreBytes file → AreBytes wave → AreBytes (name_in first.wave.now) → recording_in wave ≡ Ok r
+    → IsImported first old left file wave done
+    → ArePlaced old first.out.now first.undo.now → second.forms ≡ Every
+    → RunsOn second first.out.now first.undo.now left now new other_file other_script back
+    → IsRestored second now new file (texts_of (edits_into (bank_in file) (name_in first.wave.now) r)) back
+
+-- The same for what a live session saves at any time: it leads to the bank with which the session began.
+abbrev pub UndoEndsSessions : Type 0
+UndoEndsSessions =
+    (file : List ℕ) (ts : List Turn) (last : _) (c : Parts) (out undo : List ℕ) (second : ApplyPaths)
+    (old left now new : World) (other_file other_script : List ℕ) (back : Done)
+    → AreBytes file → fault_of file ≡ None → AreTurns (started_with (bank_in file)) ts last → IsHistory last.session
+    → bank_now last.session ≡ Some c
+    → left ≡ with_pair undo (saved_of c (undo_edits last.session)).undo out (saved_of c (undo_edits last.session)).out old
+    → ArePlaced old out undo → second.forms ≡ Every
+    → RunsOn second out undo left now new other_file other_script back
+    → IsRestored second now new file back.undo back

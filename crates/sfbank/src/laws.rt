@@ -1,7 +1,7 @@
 //! Laws of whole runs.
 ghost use Rattle.sfbank.specs.BankScripts.{RemadeRendersSame, ScriptsDistinguish};
 ghost use Rattle.sfbank.specs.SavedBanks.{SavedUndoRestores};
-ghost use Rattle.sfbank.specs.UndoneFiles.{UndoRestoresFiles};
+ghost use Rattle.sfbank.specs.UndoneFiles.{UndoEndsSessions, UndoRemovesRecordings, UndoRestoresFiles};
 
 use live_sessions::saved_undo_leads_back;
 
@@ -15,12 +15,18 @@ pub fn remade_banks_render_same()
     ensures { RemadeRendersSame }
 {}
 
-/// Where `apply` was done on files, and then in the same mode on the bank and the undo script that it saved, the second
-/// run restores the first bank, in its canonical file, and the edits of the script. Other files may have changed in
-/// between.
+/// On files, `apply` on a bank and an undo script that were saved, with other files changed meanwhile, restores the first
+/// bank in its canonical file, on which all notes sound as on the first file.
 pub fn undo_restores_files()
-    ensures { UndoRestoresFiles }
-{}
+    // They were saved by `apply`, in the same mode: the last undo script has the edits of the first script.
+    ensures apply { UndoRestoresFiles }
+    // They were saved by `import`: the last undo script has the edits that add the recording.
+    ensures import { UndoRemovesRecordings }
+    // They were saved by a live session, at any time.
+    ensures live { UndoEndsSessions }
+{
+    saved_undo_restores();
+}
 
 /// At any time in a live session, the undo script that `save` writes, run by `edit_run` on the bank file that it
 /// writes, restores the canonical file of the bank with which the session began.
