@@ -145,6 +145,10 @@ replacement_is a b p in_a in_b h =
     let whole = replaces (bank_in a) (bank_in b) (sound_in a in_a r.first) (sound_in b in_b r.second) r.minors in
     subst (λ (q : TwoBanks). IsScript q.first (texts_of (edits_between q.first q.second)) q.second) r.banks whole
 
+-- the second of two banks was read
+pub second_is_read : (a b : List ℕ) (p : TwoBanks) → two_banks_of a b ≡ Ok p → fault_of b ≡ None
+second_is_read a b p h = (both_read a b p h).second
+
 -- edits that were found, or else those that replace the bank
 any_script : {X : Type 0} (a b : List ℕ) (p : TwoBanks) (found : Option X) (view : X → List Edit)
     → AreBytes a → AreBytes b → two_banks_of a b ≡ Ok p

@@ -16,3 +16,4 @@ mod OutcomeLaws
 mod CommandLaws
 mod LiveLaws
 pub mod UndoneFiles
+pub mod ScriptFiles

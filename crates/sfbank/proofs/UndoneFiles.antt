@@ -34,7 +34,7 @@ use Rattle.sfbank.proofs.RenderLaws.{played_on_canon}
 
 -- ---- files that were saved
 
-held_text : (world : World) (path text : List ℕ) → stores_at world path ≡ true
+pub held_text : (world : World) (path text : List ℕ) → stores_at world path ≡ true
     → held_at (with_text path text world) path ≡ Ok text
 held_text world path text stores =
     ap (λ (b : Bool). held_at (if b then with_file path (Ok text) world else world) path) stores
@@ -53,7 +53,7 @@ paths_stay world path text true = refl
 paths_stay world path text false = refl
 
 -- where the text of a pair is saved
-pair_out : (world : World) (undo_path undo path text : List ℕ) → stores_at world path ≡ true
+pub pair_out : (world : World) (undo_path undo path text : List ℕ) → stores_at world path ≡ true
     → held_at (with_pair undo_path undo path text world) path ≡ Ok text
 pair_out world undo_path undo path text stores =
     let mid = with_text undo_path undo world in
@@ -81,7 +81,7 @@ read_whole text bytes e = whole_if text bytes (nat_le (length text) most_bytes) 
 
 -- ---- what was planned
 
-unless_done : {X : Type 0} (test : Bool) (why : Why) (rest : Result X Why) (x : X) → unless test why rest ≡ Ok x → rest ≡ Ok x
+pub unless_done : {X : Type 0} (test : Bool) (why : Why) (rest : Result X Why) (x : X) → unless test why rest ≡ Ok x → rest ≡ Ok x
 unless_done true why rest x e = cc
 unless_done false why rest x e = e
 
@@ -91,7 +91,7 @@ both_done out undo (Ok x) done e = cc
 both_done out undo (Err fault) done e = cc
 
 -- the outcome of a run that was applied
-applied_outcome : (p : ApplyPaths) (old new : World) (file script : List ℕ) (done : Done)
+pub applied_outcome : (p : ApplyPaths) (old new : World) (file script : List ℕ) (done : Done)
     → IsApplied p old new file script done → outcome_of p.forms file script ≡ Ok done
 applied_outcome p old new file script done h =
     let out = is_one_of old p.out.now (p.script.now ∷ []) in
@@ -114,11 +114,11 @@ leads_back Every file script done lines bytes e parses =
 leads_back Neutral file script done lines bytes e parses =
     of_neutral done.out done.undo ∙ neutrally_restores file script bytes done lines (sym (of_neutral file script) ∙ e) parses
 
-ok_same : (x y : Done) (r : Result Done RunFault) → r ≡ Ok x → r ≡ Ok y → x ≡ y
+pub ok_same : (x y : Done) (r : Result Done RunFault) → r ≡ Ok x → r ≡ Ok y → x ≡ y
 ok_same x y r e h = cc
 
 -- what the second run read
-second_read : (now left : World) (path text other bytes : List ℕ) → other ≡ path → file_at now path ≡ file_at left path
+pub second_read : (now left : World) (path text other bytes : List ℕ) → other ≡ path → file_at now path ≡ file_at left path
     → held_at left path ≡ Ok text → file_at now other ≡ Ok bytes → text ≡ bytes
 second_read now left path text other bytes e stays held read =
     read_whole text bytes (ap read_of (sym held) ∙ sym stays ∙ ap (file_at now) (sym e) ∙ read)

@@ -27,3 +27,4 @@ pub mod Meanings
 pub mod Steps
 pub mod Outputs
 pub mod UndoneFiles
+pub mod ScriptFiles

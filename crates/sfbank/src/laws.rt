@@ -1,6 +1,7 @@
 //! Laws of whole runs.
 ghost use Rattle.sfbank.specs.BankScripts.{RemadeRendersSame, ScriptsDistinguish};
 ghost use Rattle.sfbank.specs.SavedBanks.{SavedUndoRestores};
+ghost use Rattle.sfbank.specs.ScriptFiles.{DifferencesLead, ScriptsLead};
 ghost use Rattle.sfbank.specs.UndoneFiles.{UndoEndsSessions, UndoRemovesRecordings, UndoRestoresFiles};
 
 use live_sessions::saved_undo_leads_back;
@@ -27,6 +28,15 @@ pub fn undo_restores_files()
 {
     saved_undo_restores();
 }
+
+/// On files, `apply` on a script that `diff` or `script` saved, with other files changed meanwhile, makes the canonical
+/// file of the other bank.
+pub fn saved_scripts_lead()
+    // Run on the first of two files, their difference makes the bank of the second.
+    ensures diff { DifferencesLead }
+    // Run on the file of an empty bank of its minor version, the script of a file makes the bank of that file.
+    ensures script { ScriptsLead }
+{}
 
 /// At any time in a live session, the undo script that `save` writes, run by `edit_run` on the bank file that it
 /// writes, restores the canonical file of the bank with which the session began.

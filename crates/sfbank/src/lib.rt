@@ -29,7 +29,8 @@ pub use edit::{edit_run, edit_run_with_progress, neutral_run};
 pub use file_host::Which;
 pub use import::import_run;
 pub use laws::{
-    remade_banks_render_same, saved_undo_restores, scripts_distinguish_banks, undo_restores_files,
+    remade_banks_render_same, saved_scripts_lead, saved_undo_restores, scripts_distinguish_banks,
+    undo_restores_files,
 };
 pub use map::map_run;
 pub use new::new_run;
