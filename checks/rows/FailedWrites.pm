@@ -40,7 +40,7 @@ sub try_each_write {
             my $wrong = $run->{status} || $call == 1 ? 'is not done' : defined $other ? "another $other" : is_count($call - 1, $sign, $number);
             return report("$words, $how", $wrong);
         }
-        report("$words, $how, call $call", Writes::is_front($run, \%whole, @outputs));
+        report("$words, $how, call $call", Writes::is_counted($run, \%whole, @outputs));
     }
     report("$words, $how", 'goes on');
 }

@@ -31,7 +31,7 @@ sub try_each_write {
             my $right = !$run->{status} && $number > 1 && read_bytes('out') eq $whole{out};
             return report_case("$name, $number calls", $right ? undef : 'is not done');
         }
-        report_case("$name, call $number", Writes::is_front($run, \%whole, 'out'));
+        report_case("$name, call $number", Writes::is_counted($run, \%whole, 'out'));
     }
 }
 

@@ -87,6 +87,15 @@ pub trait Device {
         ensures stays { OnErr result (world self.new ≡ world self.old) }
         ensures kept { is_dirty self.new ≡ is_dirty self.old };
 
+    /// Moves a file to a path where nothing is. The open file need not be synced: after a crash, the file that was moved
+    /// may hold anything, but no other one is lost.
+    fn rename_new(&mut self, from: &str, to: &str) -> io::Result<()>
+        requires { IsDirect (world self.old) from.now }
+        ensures free { OnOk result (IsNew (world self.old) to.now) }
+        ensures moved { OnOk result (world self.new ≡ option_map (moved from.now to.now) (world self.old)) }
+        ensures stays { OnErr result (world self.new ≡ world self.old) }
+        ensures kept { is_dirty self.new ≡ is_dirty self.old };
+
     /// Links a file to a further path, where nothing is.
     fn link(&mut self, from: &str, to: &str) -> io::Result<()>
         requires { IsDirect (world self.old) from.now }

@@ -13,8 +13,8 @@ use file_host::{Host, InputFault, PairFault};
 use sf_base::Failure;
 use std::alloc::{AllocError, Global};
 
-/// Files on a device. A text is written to a new file beside the one that it replaces, which is put in place once it is
-/// written and synced; a pipe, a device or a descriptor is written in place.
+/// Files on a device. A text is written to a new file in the folder of its path, which is put in place once it is written,
+/// and synced if it replaces a file; a pipe, a device or a descriptor is written in place.
 #[derive(Drop)]
 pub struct Disk<D> {
     alloc: Global,

@@ -20,15 +20,17 @@ pub(crate) enum KeepFault {
 }
 
 /// Puts a new file in the place of another, whose old file is kept where one is there. If that fails, the old file is
-/// put back.
+/// put back. The new file must be synced where it replaces a file.
 pub(crate) fn put_and_keep<D: Device>(
     device: &mut D,
     file: &StoredFile,
     new_path: &str,
     old_path: &mut String,
     is_owned: bool,
+    is_synced: bool,
 ) -> io::Result<()>
-    requires clean { D.is_dirty device.old ≡ false }
+    requires synced { file.now.is_there ≡ true → is_synced ≡ true }
+    requires clean { is_synced ≡ true → D.is_dirty device.old ≡ false }
     requires target { IsTarget (D.world device.old) file.now }
     requires direct { IsDirect (D.world device.old) new_path.now }
     requires named { IsTemporary new_path.now }
@@ -37,19 +39,19 @@ pub(crate) fn put_and_keep<D: Device>(
     ensures named { OnOk result (file.now.is_there ≡ true → IsTemporary (string_bytes old_path.new)) }
     ensures free { OnOk result (file.now.is_there ≡ true → IsNew (D.world device.old) (string_bytes old_path.new)) }
     ensures failed { OnErr result (IfKnown (UndoFails (string_bytes file.now.path)) (D.world device.old) (D.world device.new)) }
-    ensures clean { D.is_dirty device.new ≡ false }
+    ensures clean { is_synced ≡ true → D.is_dirty device.new ≡ false }
 {
     if !file.is_there {
-        return put_in_place(device, new_path, file.path.as_str());
+        return put_in_place(device, new_path, file, is_synced);
     }
     let is_linked = keep_old(device, file, old_path, is_owned)?;
-    match put_in_place(device, new_path, file.path.as_str()) {
+    match put_in_place(device, new_path, file, is_synced) {
         Ok(()) => Ok(()),
         Err(error) => {
             if is_linked {
                 remove(device, old_path.as_str());
             } else {
-                let _ = put_in_place(device, old_path.as_str(), file.path.as_str());
+                let _ = put_in_place(device, old_path.as_str(), file, is_synced);
             }
             Err(error)
         }

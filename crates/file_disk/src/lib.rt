@@ -1,5 +1,5 @@
 //! Files on a device, which does one system call at a time: read by pieces, and saved by way of new files that are put
-//! in place once they are written and synced.
+//! in place once they are written.
 #![tactic(auto)]
 
 mod bank;

@@ -90,6 +90,17 @@ impl MemoryDevice {
         }
     }
 
+    fn move_file(&mut self, from: &str, to: &str) -> io::Result<()> {
+        let path = String::from_str(self.alloc, to)?;
+        let file = self.take_out(from)?;
+        let _old = self.take_out(to);
+        self.files.push(MemoryFile {
+            path,
+            bytes: file.bytes,
+        })?;
+        Ok(())
+    }
+
     // Counts a call, and fails if it is one that fails.
     fn call(&mut self) -> io::Result<()> {
         if self.behaviour.calls == 0 {
@@ -203,14 +214,13 @@ impl Device for MemoryDevice {
 
     fn rename(&mut self, from: &str, to: &str) -> io::Result<()> {
         self.call()?;
-        let path = String::from_str(self.alloc, to)?;
-        let file = self.take_out(from)?;
-        let _old = self.take_out(to);
-        self.files.push(MemoryFile {
-            path,
-            bytes: file.bytes,
-        })?;
-        Ok(())
+        self.move_file(from, to)
+    }
+
+    fn rename_new(&mut self, from: &str, to: &str) -> io::Result<()> {
+        self.call()?;
+        self.check_free(to)?;
+        self.move_file(from, to)
     }
 
     fn link(&mut self, from: &str, to: &str) -> io::Result<()> {

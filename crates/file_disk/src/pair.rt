@@ -185,7 +185,8 @@ fn replace_and_send<D: Device, U: Text, T: Text>(
     ensures saved { OnOk result.1 (D.world result.0 ≡ option_map (with_file (string_bytes undo_file.now.path) (Ok (U.bytes undo.now))) (D.world device)) }
     ensures failed { OnErr result.1 (IfKnown Litters (D.world device) (D.world result.0)) }
 {
-    let (device, answer) = prepare(device, undo_file, new_undo, undo);
+    let is_synced = undo_file.is_there;
+    let (device, answer) = prepare(device, undo_file, new_undo, undo, is_synced);
     let undo_length = match answer {
         Ok(written) => written.length,
         Err(fault) => return (device, Err(TextFault::new(Which::Undo, fault.written))),
@@ -195,7 +196,7 @@ fn replace_and_send<D: Device, U: Text, T: Text>(
         remove(&mut device, new_undo.as_str());
         return (device, Err(TextFault::new(Which::Out, fault.written)));
     }
-    match put_in_place(&mut device, new_undo.as_str(), undo_file.path.as_str()) {
+    match put_in_place(&mut device, new_undo.as_str(), undo_file, is_synced) {
         Ok(()) => (device, Ok(())),
         Err(_) => {
             remove(&mut device, new_undo.as_str());
@@ -210,8 +211,8 @@ impl TextFault {
     }
 }
 
-// Puts both texts in the place of files, by way of new files, of which each is written and synced before one is put in
-// place.
+// Puts both texts in the place of files, by way of new files, of which each is written before one is put in place, and
+// synced if one replaces a file.
 fn replace_both<D: Device, U: Text, T: Text>(
     device: D,
     undo_file: &StoredFile,
@@ -225,12 +226,13 @@ fn replace_both<D: Device, U: Text, T: Text>(
     ensures saved { OnOk result.1 (D.world result.0 ≡ option_map (both_saved (string_bytes undo_file.now.path) (U.bytes undo.now) (string_bytes file.now.path) (T.bytes text.now)) (D.world device)) }
     ensures failed { OnErr result.1 (SpoilsPair (D.world device) (D.world result.0) (string_bytes undo_file.now.path) (U.bytes undo.now) (string_bytes file.now.path) (T.bytes text.now)) }
 {
-    let (device, answer) = prepare(device, undo_file, &mut names.new_undo, undo);
+    let is_synced = is_replacing(undo_file, file);
+    let (device, answer) = prepare(device, undo_file, &mut names.new_undo, undo, is_synced);
     let undo_written = match answer {
         Ok(written) => written,
         Err(fault) => return (device, Err(TextFault::new(Which::Undo, fault.written))),
     };
-    let (mut device, answer) = prepare(device, file, &mut names.new_text, text);
+    let (mut device, answer) = prepare(device, file, &mut names.new_text, text, is_synced);
     let written = match answer {
         Ok(written) => written,
         Err(fault) => {
@@ -238,7 +240,8 @@ fn replace_both<D: Device, U: Text, T: Text>(
             return (device, Err(TextFault::new(Which::Out, fault.written)));
         }
     };
-    match put_both(&mut device, undo_file, file, names, undo_written.is_owned) {
+    let is_owned = undo_written.is_owned;
+    match put_both(&mut device, undo_file, file, names, is_owned, is_synced) {
         Ok(()) => (device, Ok(())),
         Err(Which::Undo) => (
             device,
@@ -248,16 +251,26 @@ fn replace_both<D: Device, U: Text, T: Text>(
     }
 }
 
-// Puts both new files in place, which are written and synced: the undo script first. If that fails, the old undo script
-// is put back.
+// Whether one of two files is replaced.
+fn is_replacing(undo_file: &StoredFile, file: &StoredFile) -> bool
+    ensures undo { undo_file.now.is_there ≡ true → result ≡ true }
+    ensures text { file.now.is_there ≡ true → result ≡ true }
+{
+    undo_file.is_there || file.is_there
+}
+
+// Puts both new files in place, which are written: the undo script first. If that fails, the old undo script is put back.
 fn put_both<D: Device>(
     device: &mut D,
     undo_file: &StoredFile,
     file: &StoredFile,
     names: &mut Names,
     is_owned: bool,
+    is_synced: bool,
 ) -> Result<(), Which>
-    requires clean { D.is_dirty device.old ≡ false }
+    requires synced_undo { undo_file.now.is_there ≡ true → is_synced ≡ true }
+    requires synced_text { file.now.is_there ≡ true → is_synced ≡ true }
+    requires clean { is_synced ≡ true → D.is_dirty device.old ≡ false }
     requires undo { IsTarget (D.world device.old) undo_file.now }
     requires text { IsTarget (D.world device.old) file.now }
     requires new_undo { IsTemporary (string_bytes names.old.new_undo) }
@@ -276,9 +289,10 @@ fn put_both<D: Device>(
         names.new_undo.as_str(),
         &mut names.old_undo,
         is_owned,
+        is_synced,
     );
     match put {
-        Ok(()) => put_text(device, undo_file, file, names),
+        Ok(()) => put_text(device, undo_file, file, names, is_synced),
         Err(_) => {
             remove(device, names.new_undo.as_str());
             remove(device, names.new_text.as_str());
@@ -294,8 +308,11 @@ fn put_text<D: Device>(
     undo_file: &StoredFile,
     file: &StoredFile,
     names: &Names,
+    is_synced: bool,
 ) -> Result<(), Which>
-    requires clean { D.is_dirty device.old ≡ false }
+    requires synced_undo { undo_file.now.is_there ≡ true → is_synced ≡ true }
+    requires synced_text { file.now.is_there ≡ true → is_synced ≡ true }
+    requires clean { is_synced ≡ true → D.is_dirty device.old ≡ false }
     requires undo { IsDirect (D.world device.old) (string_bytes undo_file.now.path) }
     requires text { IsDirect (D.world device.old) (string_bytes file.now.path) }
     requires new { IsDirect (D.world device.old) (string_bytes names.now.new_text) }
@@ -304,10 +321,10 @@ fn put_text<D: Device>(
     ensures put { OnOk result (D.world device.new ≡ option_map (text_put undo_file.now.is_there (string_bytes names.now.old_undo) (string_bytes file.now.path) (string_bytes names.now.new_text)) (D.world device.old)) }
     ensures failed { OnErr result (IfKnown (TextFails undo_file.now.is_there (string_bytes undo_file.now.path) (string_bytes names.now.old_undo) (string_bytes file.now.path) (string_bytes names.now.new_text)) (D.world device.old) (D.world device.new)) }
 {
-    match put_in_place(device, names.new_text.as_str(), file.path.as_str()) {
+    match put_in_place(device, names.new_text.as_str(), file, is_synced) {
         Ok(()) => drop_old(device, undo_file, names.old_undo.as_str()),
         Err(_) => {
-            put_back(device, undo_file, names.old_undo.as_str());
+            put_back(device, undo_file, names.old_undo.as_str(), is_synced);
             remove(device, names.new_text.as_str());
             Err(Which::Out)
         }
@@ -327,14 +344,15 @@ fn drop_old<D: Device>(device: &mut D, file: &StoredFile, old_path: &str) -> Res
 }
 
 // Puts an old file back that was kept, or removes the new one where none was.
-fn put_back<D: Device>(device: &mut D, file: &StoredFile, old_path: &str)
-    requires clean { D.is_dirty device.old ≡ false }
+fn put_back<D: Device>(device: &mut D, file: &StoredFile, old_path: &str, is_synced: bool)
+    requires synced { file.now.is_there ≡ true → is_synced ≡ true }
+    requires clean { is_synced ≡ true → D.is_dirty device.old ≡ false }
     requires direct { IsDirect (D.world device.old) (string_bytes file.now.path) }
     requires kept { file.now.is_there ≡ true → IsDirect (D.world device.old) old_path.now }
     ensures { MayPutBack file.now.is_there (string_bytes file.now.path) old_path.now (D.world device.old) (D.world device.new) }
 {
     if file.is_there {
-        let _ = put_in_place(device, old_path, file.path.as_str());
+        let _ = put_in_place(device, old_path, file, is_synced);
     } else {
         remove(device, file.path.as_str());
     }

@@ -56,7 +56,8 @@ fn look_at<R: Files + AllocGlobal>(rt: &R, path: String) -> Result<Lookup, Alloc
     match fs::symlink_metadata(rt, path.as_str()) {
         Ok(found) if found.is_symlink() => link_at(rt, path.as_str()),
         Ok(found) if found.is_file() => Ok(Lookup::Found(Resolved::Regular(path))),
-        Err(error) if error.kind() == ErrorKind::NotFound => {
+        // (an empty path can't name a file)
+        Err(error) if error.kind() == ErrorKind::NotFound && !path.is_empty() => {
             Ok(Lookup::Found(Resolved::Nothing(path)))
         }
         _ => Ok(Lookup::Found(Resolved::Other)),

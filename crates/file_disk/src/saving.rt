@@ -1,5 +1,5 @@
 //! A text that is saved by way of a new file, or written in place.
-ghost use Rattle.std.specs.Prelude.{◌≡◌, [], Ok, Some, false, OnOk, OnErr, IfErr, string_bytes};
+ghost use Rattle.std.specs.Prelude.{◌≡◌, [], Ok, Some, true, false, OnOk, OnErr, IfErr, string_bytes};
 ghost use Rattle.std.specs.Option.{option_map};
 ghost use Rattle.file_host.specs.World.{with_file, with_text};
 ghost use Rattle.file_host.specs.Saving.{SaveFails};
@@ -17,7 +17,7 @@ use std::alloc::Global;
 use std::io;
 use std::marker::Brand;
 
-/// A text that is written to a new file and synced.
+/// A text that is written to a new file.
 #[derive(Clone, Copy)]
 pub(crate) struct Written {
     /// The number of its bytes.
@@ -63,9 +63,10 @@ fn replace<D: Device, T: Text>(
     ensures saved { OnOk result.1 (D.world result.0 ≡ option_map (with_file (string_bytes file.now.path) (Ok (T.bytes text.now))) (D.world device)) }
     ensures failed { IfErr result.1 (IfFault (IfKnown Litters (D.world device) (D.world result.0))) }
 {
-    let (mut device, answer) = prepare(device, file, new_path, text);
+    let is_synced = file.is_there;
+    let (mut device, answer) = prepare(device, file, new_path, text, is_synced);
     match answer {
-        Ok(written) => match put_in_place(&mut device, new_path.as_str(), file.path.as_str()) {
+        Ok(written) => match put_in_place(&mut device, new_path.as_str(), file, is_synced) {
             Ok(()) => (device, Ok(())),
             Err(_) => {
                 remove(&mut device, new_path.as_str());
@@ -77,24 +78,25 @@ fn replace<D: Device, T: Text>(
     }
 }
 
-/// Writes a text to a new file beside the one that it is to replace, and syncs it. If that fails, the new file is removed
-/// again.
+/// Writes a text to a new file beside the path that it is for, and syncs it if asked. If that fails, the new file is
+/// removed again.
 pub(crate) fn prepare<D: Device, T: Text>(
     mut device: D,
     file: &StoredFile,
     new_path: &mut String,
     text: &T,
+    is_synced: bool,
 ) -> (D, Result<Written, WriteFault>)
     ensures made { OnOk result.1 (Makes (D.world device) (D.world result.0) (string_bytes new_path.new) (T.bytes text.now)) }
     ensures failed { OnErr result.1 (IfKnown Litters (D.world device) (D.world result.0)) }
-    ensures clean { OnOk result.1 (D.is_dirty result.0 ≡ false) }
+    ensures clean { OnOk result.1 (is_synced ≡ true → D.is_dirty result.0 ≡ false) }
 {
     let Ok(()) = open_new(&mut device, file, new_path) else {
         return (device, Err(WriteFault { written: 0 }));
     };
     let (mut device, answer) = write_new::<D, T, Brand>(device, new_path, text);
     match answer {
-        Ok(length) => match settle(&mut device, file, new_path.as_str()) {
+        Ok(length) => match settle(&mut device, file, new_path.as_str(), is_synced) {
             Ok(is_owned) => (device, Ok(Written { length, is_owned })),
             Err(_) => {
                 remove(&mut device, new_path.as_str());
@@ -108,7 +110,7 @@ pub(crate) fn prepare<D: Device, T: Text>(
     }
 }
 
-// Opens a new file beside the one that it is to replace. Fails if there is no permission to write that one.
+// Opens a new file beside the path that it is for. Fails if there is no permission to write a file that is there.
 fn open_new<D: Device>(device: &mut D, file: &StoredFile, new_path: &mut String) -> io::Result<()>
     ensures named { OnOk result (IsTemporary (string_bytes new_path.new)) }
     ensures free { OnOk result (IsNew (D.world device.old) (string_bytes new_path.new)) }
@@ -123,28 +125,61 @@ fn open_new<D: Device>(device: &mut D, file: &StoredFile, new_path: &mut String)
     create_beside(device, new_path, file.path.as_str(), file.is_there)
 }
 
-// Gives the new file, which is written, the access of the old one, and syncs it. Returns whether both have one owner.
-fn settle<D: Device>(device: &mut D, file: &StoredFile, new_path: &str) -> io::Result<bool>
+// Gives the new file, which is written, the access of the old one, where one is there, and syncs it if asked. Returns
+// whether both have one owner.
+fn settle<D: Device>(
+    device: &mut D,
+    file: &StoredFile,
+    new_path: &str,
+    is_synced: bool,
+) -> io::Result<bool>
     ensures stays { D.world device.new ≡ D.world device.old }
-    ensures clean { OnOk result (D.is_dirty device.new ≡ false) }
+    ensures clean { OnOk result (is_synced ≡ true → D.is_dirty device.new ≡ false) }
 {
     let is_owned = file.is_there && device.keep_access(file.path.as_str(), new_path);
-    device.sync()?;
+    if is_synced {
+        device.sync()?;
+    }
     Ok(is_owned)
 }
 
-/// Moves a new file, which is written and synced, in the place of another.
-pub(crate) fn put_in_place<D: Device>(device: &mut D, new_path: &str, path: &str) -> io::Result<()>
+/// Moves a file in the place of another, or to a path where nothing is. It must be synced where it replaces a file.
+pub(crate) fn put_in_place<D: Device>(
+    device: &mut D,
+    new_path: &str,
+    file: &StoredFile,
+    is_synced: bool,
+) -> io::Result<()>
     requires from { IsDirect (D.world device.old) new_path.now }
-    requires to { IsDirect (D.world device.old) path.now }
-    requires clean { D.is_dirty device.old ≡ false }
-    ensures moved { OnOk result (D.world device.new ≡ option_map (moved new_path.now path.now) (D.world device.old)) }
+    requires to { IsDirect (D.world device.old) (string_bytes file.now.path) }
+    requires synced { file.now.is_there ≡ true → is_synced ≡ true }
+    requires clean { is_synced ≡ true → D.is_dirty device.old ≡ false }
+    ensures moved { OnOk result (D.world device.new ≡ option_map (moved new_path.now (string_bytes file.now.path)) (D.world device.old)) }
     ensures stays { OnErr result (D.world device.new ≡ D.world device.old) }
-    ensures clean { D.is_dirty device.new ≡ false }
+    ensures kept { D.is_dirty device.new ≡ D.is_dirty device.old }
 {
-    device.rename(new_path, path)?;
-    device.sync_folder(path);
+    move_to_path(device, new_path, file)?;
+    if is_synced {
+        device.sync_folder(file.path.as_str());
+    }
     Ok(())
+}
+
+// Moves a file in the place of another, which must be synced, or to a path where nothing is.
+fn move_to_path<D: Device>(device: &mut D, new_path: &str, file: &StoredFile) -> io::Result<()>
+    requires from { IsDirect (D.world device.old) new_path.now }
+    requires to { IsDirect (D.world device.old) (string_bytes file.now.path) }
+    requires clean { file.now.is_there ≡ true → D.is_dirty device.old ≡ false }
+    ensures moved { OnOk result (D.world device.new ≡ option_map (moved new_path.now (string_bytes file.now.path)) (D.world device.old)) }
+    ensures stays { OnErr result (D.world device.new ≡ D.world device.old) }
+    ensures kept { D.is_dirty device.new ≡ D.is_dirty device.old }
+{
+    let path = file.path.as_str();
+    if file.is_there {
+        device.rename(new_path, path)
+    } else {
+        device.rename_new(new_path, path)
+    }
 }
 
 /// Removes a file, if it can be.

@@ -142,6 +142,14 @@ impl<'a, R: Files + AllocGlobal> Device for System<'a, R> {
         fs::rename(self.rt, from, to)
     }
 
+    fn rename_new(&mut self, from: &str, to: &str) -> io::Result<()> {
+        match fs::symlink_metadata(self.rt, to) {
+            Err(error) if error.kind() == ErrorKind::NotFound => self.rename(from, to),
+            Err(error) => Err(error),
+            Ok(_) => Err(io::Error::from(ErrorKind::AlreadyExists)),
+        }
+    }
+
     fn link(&mut self, from: &str, to: &str) -> io::Result<()> {
         fs::hard_link(self.rt, from, to)
     }

@@ -134,7 +134,7 @@ fn a_failing_pair_leaves_old_files(rt: HostRuntime) {
     for (is_broken, has_links) in [(false, false), (false, true), (true, false), (true, true)] {
         for (has_bank, has_undo) in [(false, false), (false, true), (true, false), (true, true)] {
             let failed = failed_pairs(alloc, is_broken, has_links, has_bank, has_undo);
-            assert!(rt; failed.is_some_and(|failed| failed > 15));
+            assert!(rt; failed.is_some_and(|failed| failed > 12));
         }
     }
 }

@@ -23,10 +23,10 @@ use Rattle.script_of_bank.specs.BankEdits.{empty}
 use Rattle.script_of_bank.specs.BankScript.{bank_script, IsScript}
 use Rattle.script_of_bank.proofs.AcceptedLaws.{sound_empty}
 use Rattle.script_of_bank.proofs.PrintedLaws.{text_gives, text_determines}
-use Rattle.program_files.specs.declared.run_fault.RunFault.{RunFault}
-use Rattle.program_files.specs.declared.run_fault.RunFault.TheVariants as run
+use Rattle.program_reports.specs.declared.run_fault.RunFault.{RunFault}
+use Rattle.program_reports.specs.declared.run_fault.RunFault.TheVariants as run
 use Rattle.file_host.specs.declared.faults.Which.TheVariants.{Out}
-use Rattle.program_files.specs.RunFaults.{in_run}
+use Rattle.program_reports.specs.RunFaults.{in_run}
 use Rattle.sfbank.specs.Outcome.{Done, edits_of, RefusedLine, first_refused, both_texts, unless_refused}
 use Rattle.sfbank.specs.Outcome.{after_script, after_reading, bank_in, outcome, play_outcome}
 use Rattle.sfbank.specs.Written.{IsWritten, RunsOneText}

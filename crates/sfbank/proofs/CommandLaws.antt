@@ -18,8 +18,8 @@ use Rattle.show_zone_map.specs.Picture.{picture}
 use Rattle.wave_file.specs.SampleWave.{sample_wave}
 use Rattle.wave_file.specs.ReadChecks.{recording_in}
 use Rattle.program_commands.specs.declared.words.ShowPaths.{ShowPaths}
-use Rattle.program_files.specs.declared.run_fault.RunFault.{RunFault}
-use Rattle.program_files.specs.declared.run_fault.RunFault.TheVariants as run
+use Rattle.program_reports.specs.declared.run_fault.RunFault.{RunFault}
+use Rattle.program_reports.specs.declared.run_fault.RunFault.TheVariants as run
 use Rattle.sfbank.specs.Outcome.{bank_in, counts_in, after_notes, canon_outcome, show_outcome}
 use Rattle.sfbank.specs.Outcome.{show_details_outcome, play_outcome}
 use Rattle.sfbank.specs.BankScripts.{script_outcome}

@@ -23,10 +23,10 @@ use Rattle.edit_script.proofs.LineLaws.{printed_is_read}
 use Rattle.script_of_bank.specs.BankScript.{IsScript}
 use Rattle.script_of_bank.specs.LeadsTo.{Leads, edits_between}
 use Rattle.script_of_bank.proofs.PrintedLaws.{replaces}
-use Rattle.program_files.specs.declared.run_fault.RunFault.{RunFault}
-use Rattle.program_files.specs.declared.run_fault.RunFault.TheVariants as run
+use Rattle.program_reports.specs.declared.run_fault.RunFault.{RunFault}
+use Rattle.program_reports.specs.declared.run_fault.RunFault.TheVariants as run
 use Rattle.file_host.specs.declared.faults.Which.TheVariants.{Out}
-use Rattle.program_files.specs.RunFaults.{in_run}
+use Rattle.program_reports.specs.RunFaults.{in_run}
 use Rattle.sfbank.specs.Outcome.{Done, edits_of, after_script, after_reading, bank_in, outcome}
 use Rattle.sfbank.specs.Written.{IsWritten}
 use Rattle.sfbank.specs.Differences.{TwoBanks, after_file, if_same, of_one_version, banks_in, two_banks_of, IsDifference}

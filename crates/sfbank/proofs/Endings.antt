@@ -1,8 +1,8 @@
 -- How a run ends: before its first byte, or with its texts.
 use Rattle.std.proofs.Common.{◌≡◌, ℕ, List, Option, Result, Ok, Err}
 use Rattle.std.proofs.KnownBytes.{Keeps-refl}
-use Rattle.program_files.specs.declared.run_fault.RunFault.{RunFault}
-use Rattle.program_files.specs.declared.run_fault.RunFault.TheVariants as run
+use Rattle.program_reports.specs.declared.run_fault.RunFault.{RunFault}
+use Rattle.program_reports.specs.declared.run_fault.RunFault.TheVariants as run
 use Rattle.file_host.specs.declared.faults.Which.TheVariants.{Out, Undo}
 use Rattle.sfbank.specs.Outcome.{Done}
 use Rattle.sfbank.specs.Written.{Writers, Delivers, Runs, FailsBefore}

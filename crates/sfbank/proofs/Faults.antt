@@ -15,8 +15,8 @@ use Rattle.script_tokens.specs.Pool as scripts
 use Rattle.edit_script.specs.declared.parsing.Line.{Line}
 use Rattle.edit_script.specs.Script.{script_of}
 use Rattle.edit_script.specs.Printing.{texts_of}
-use Rattle.program_files.specs.declared.run_fault.RunFault.{RunFault}
-use Rattle.program_files.specs.declared.run_fault.RunFault.TheVariants as run
+use Rattle.program_reports.specs.declared.run_fault.RunFault.{RunFault}
+use Rattle.program_reports.specs.declared.run_fault.RunFault.TheVariants as run
 use Rattle.sfbank.specs.Outcome.{Done, edits_of, RefusedLine, first_refused, both_texts, unless_refused}
 use Rattle.sfbank.specs.Outcome.{first_not_neutral, if_neutral, after_script, after_neutral_script, after_reading}
 use Rattle.sfbank.specs.Outcome.{bank_in}
@@ -24,7 +24,7 @@ use Rattle.sfbank.specs.Written.{FailsBefore}
 use Rattle.sfbank.specs.EditRuns.{AllApplied, AllOf, StopsAtLine, first_other, after_lines, outcome_of}
 use Rattle.program_commands.specs.declared.words.Forms.{Forms}
 use Rattle.program_commands.specs.declared.words.Forms.TheVariants.{Every, Neutral}
-use Rattle.program_files.specs.RunFaults.{in_run}
+use Rattle.program_reports.specs.RunFaults.{in_run}
 
 -- ---- a file that reads as a bank
 

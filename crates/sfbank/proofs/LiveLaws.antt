@@ -3,9 +3,9 @@ use Rattle.std.proofs.Common.{◌≡◌, ℕ, List, Option, Some, None, Result, 
 use Rattle.file_host.specs.World.{World, Gives, file_at}
 use Rattle.program_commands.specs.declared.words.LivePaths.{LivePaths}
 use Rattle.program_commands.specs.declared.words.Request.TheVariants.{Live}
-use Rattle.program_files.specs.declared.fault.Fault.{Fault}
-use Rattle.program_files.specs.declared.fault.Fault.TheVariants.{Words, NotText, Unexplained, File, Output, Run, PipeClosed}
-use Rattle.program_files.specs.declared.run_fault.RunFault.TheVariants as run
+use Rattle.program_reports.specs.declared.fault.Fault.{Fault}
+use Rattle.program_reports.specs.declared.fault.Fault.TheVariants.{Words, NotText, Unexplained, File, Output, Run, PipeClosed}
+use Rattle.program_reports.specs.declared.run_fault.RunFault.TheVariants as run
 use Rattle.sfbank.specs.Plans.{Action, Why, Plays, plan, with_input}
 use Rattle.sfbank.specs.Ends.{Outside, IsEarly}
 use Rattle.sfbank.specs.Steps.{Passes, FailsInput, live_part}

@@ -20,13 +20,13 @@ use Rattle.edit_script.proofs.LineLaws.{printed_is_read}
 use Rattle.show_listing.specs.declared.listing.Details.{Details}
 use Rattle.show_listing.specs.Listing.{listing}
 use Rattle.show_listing.specs.Details.{detailed_listing}
-use Rattle.program_files.specs.declared.run_fault.RunFault.{RunFault}
-use Rattle.program_files.specs.declared.run_fault.RunFault.TheVariants as run
+use Rattle.program_reports.specs.declared.run_fault.RunFault.{RunFault}
+use Rattle.program_reports.specs.declared.run_fault.RunFault.TheVariants as run
 use Rattle.file_host.specs.declared.faults.Which.TheVariants.{Out}
 use Rattle.sfbank.specs.Outcome.{after_script, after_reading, bank_in, counts_in, outcome, canon_outcome}
 use Rattle.sfbank.specs.Outcome.{show_outcome, show_details_outcome, without_undo, IsEmptyEdit, IsFixed}
 use Rattle.sfbank.specs.Written.{IsWritten, RunsOneText, FailsBefore}
-use Rattle.program_files.specs.RunFaults.{in_run}
+use Rattle.program_reports.specs.RunFaults.{in_run}
 use Rattle.sfbank.proofs.Restores.{reading_done}
 
 -- ---- a file that can't be read

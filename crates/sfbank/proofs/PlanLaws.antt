@@ -9,9 +9,9 @@ use Rattle.file_host.specs.Checks.{IsOneFile, is_one_file}
 use Rattle.file_host.specs.declared.input_fault.InputFault.{InputFault}
 use Rattle.file_host.specs.declared.input_fault.InputFault.TheVariants.{NotFound}
 use Rattle.program_commands.specs.declared.words.Request.{Request}
-use Rattle.program_files.specs.declared.fault.Fault.{Fault}
-use Rattle.program_files.specs.declared.fault.Fault.TheVariants.{Words, NotText, Unexplained, File, Output, Run, PipeClosed}
-use Rattle.program_files.specs.declared.run_fault.RunFault.TheVariants as run
+use Rattle.program_reports.specs.declared.fault.Fault.{Fault}
+use Rattle.program_reports.specs.declared.fault.Fault.TheVariants.{Words, NotText, Unexplained, File, Output, Run, PipeClosed}
+use Rattle.program_reports.specs.declared.run_fault.RunFault.TheVariants as run
 use Rattle.sfbank.specs.Plans.{Action, Why, Unread, Inputs, GivesInput, AreInputs, plan, no_bank, with_input}
 use Rattle.sfbank.specs.Ends.{Outside, IsUntouched, IsEarly, EndsAs, EndsFor}
 use Rattle.sfbank.specs.Meanings.{MeansPlan}

@@ -28,10 +28,10 @@ use Rattle.wave_file.specs.declared.recording.Recording.{Recording}
 use Rattle.wave_file.specs.ReadChecks.{recording_in}
 use Rattle.wave_file.specs.Imports.{import_edits}
 use Rattle.wave_file.proofs.FitLaws.{recording_fits, imports_fit}
-use Rattle.program_files.specs.declared.run_fault.RunFault.{RunFault}
-use Rattle.program_files.specs.declared.run_fault.RunFault.TheVariants as run
+use Rattle.program_reports.specs.declared.run_fault.RunFault.{RunFault}
+use Rattle.program_reports.specs.declared.run_fault.RunFault.TheVariants as run
 use Rattle.file_host.specs.declared.faults.Which.TheVariants.{Out}
-use Rattle.program_files.specs.RunFaults.{in_run}
+use Rattle.program_reports.specs.RunFaults.{in_run}
 use Rattle.sfbank.specs.Outcome.{Done, after_script, after_reading, bank_in, outcome}
 use Rattle.sfbank.specs.Recordings.{wave_of, wave_outcome, edits_into, after_recording, import_outcome, IsScripted}
 use Rattle.sfbank.specs.Recordings.{IsImportUndone}

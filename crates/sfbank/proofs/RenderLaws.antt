@@ -20,12 +20,12 @@ use Rattle.script_notes.specs.declared.fault.NoteFault.{NoteFault}
 use Rattle.script_notes.specs.Notes.{Numbers, notes_of}
 use Rattle.mixer.specs.Render.{render, IsRendered}
 use Rattle.wave_file.specs.Wave.{wave, FitsWave}
-use Rattle.program_files.specs.declared.run_fault.RunFault.{RunFault}
-use Rattle.program_files.specs.declared.run_fault.RunFault.TheVariants as run
+use Rattle.program_reports.specs.declared.run_fault.RunFault.{RunFault}
+use Rattle.program_reports.specs.declared.run_fault.RunFault.TheVariants as run
 use Rattle.sfbank.specs.Outcome.{Done, after_script, after_reading, bank_in, outcome, canon_outcome, after_notes}
 use Rattle.sfbank.specs.Outcome.{play_outcome, RestoredRendersSame, CanonRendersSame}
 use Rattle.sfbank.specs.Written.{FailsBefore}
-use Rattle.program_files.specs.RunFaults.{in_run}
+use Rattle.program_reports.specs.RunFaults.{in_run}
 use Rattle.sfbank.proofs.Restores.{reading_done, restores}
 
 -- ---- a run

@@ -21,7 +21,7 @@ use Rattle.edit_script.specs.Script.{script_of}
 use Rattle.edit_script.specs.Printing.{texts_of, numbered, AllFit, LinesFit}
 use Rattle.edit_script.proofs.LineLaws.{printed_is_read}
 use Rattle.edit_script.proofs.FitLaws.{script_fits}
-use Rattle.program_files.specs.declared.run_fault.RunFault.{RunFault}
+use Rattle.program_reports.specs.declared.run_fault.RunFault.{RunFault}
 use Rattle.sfbank.specs.Outcome.{Done, edits_of, RefusedLine, or_else, first_refused, both_texts, unless_refused}
 use Rattle.sfbank.specs.Outcome.{after_script, after_reading, bank_in, outcome, IsUndone}
 

@@ -12,7 +12,7 @@ use Rattle.file_host.specs.declared.input_fault.InputFault.{InputFault}
 use Rattle.file_host.specs.World.{World, held_at, file_at}
 use Rattle.file_host.specs.Checks.{is_bank_at}
 use Rattle.program_commands.specs.declared.words.ApplyPaths.{ApplyPaths}
-use Rattle.program_files.specs.declared.run_fault.RunFault.{RunFault}
+use Rattle.program_reports.specs.declared.run_fault.RunFault.{RunFault}
 use Rattle.sfbank.specs.Outcome.{Done, bank_in, outcome, play_outcome}
 use Rattle.sfbank.specs.EditRuns.{outcome_of}
 use Rattle.sfbank.specs.BankScripts.{script_outcome}

@@ -19,7 +19,7 @@ use Rattle.live_sessions.specs.Saved.{saved_of}
 use Rattle.inverse_edits.specs.Histories.{undo_edits}
 use Rattle.program_commands.specs.declared.words.Forms.{Forms}
 use Rattle.program_commands.specs.declared.words.Forms.TheVariants.{Every, Neutral}
-use Rattle.program_files.specs.declared.run_fault.RunFault.{RunFault}
+use Rattle.program_reports.specs.declared.run_fault.RunFault.{RunFault}
 use Rattle.sfbank.specs.Outcome.{Done, bank_in, edits_of, outcome, play_outcome}
 use Rattle.sfbank.specs.EditRuns.{after_lines, outcome_of}
 use Rattle.sfbank.specs.Plans.{Why, Rejected, SavesBoth, name_in, unless, with_both}

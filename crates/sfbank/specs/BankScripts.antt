@@ -6,7 +6,7 @@ use Rattle.bank_format.specs.ReadChecks.{fault_of}
 use Rattle.script_of_bank.specs.declared.samples.SamplePoints.{SamplePoints}
 use Rattle.script_of_bank.specs.declared.samples.SamplePoints.TheVariants.{Kept}
 use Rattle.script_of_bank.specs.BankScript.{bank_script}
-use Rattle.program_files.specs.declared.run_fault.RunFault.{RunFault}
+use Rattle.program_reports.specs.declared.run_fault.RunFault.{RunFault}
 use Rattle.sfbank.specs.Outcome.{Done, after_reading, bank_in, outcome, canon_outcome, play_outcome}
 use Rattle.sfbank.specs.NewBanks.{new_file}
 

@@ -4,8 +4,8 @@ use Rattle.bank_parts.specs.declared.parts.Parts.{Parts}
 use Rattle.edit_forms.specs.declared.edit.Edit.{Edit}
 use Rattle.bank_edits.specs.Runs.{after_all, undo_list}
 use Rattle.edit_script.specs.declared.parsing.Line.{Line}
-use Rattle.program_files.specs.declared.run_fault.RunFault.{RunFault}
-use Rattle.program_files.specs.declared.run_fault.RunFault.TheVariants as run
+use Rattle.program_reports.specs.declared.run_fault.RunFault.{RunFault}
+use Rattle.program_reports.specs.declared.run_fault.RunFault.TheVariants as run
 use Rattle.bank_format.specs.ReadChecks.{fault_of}
 use Rattle.script_tokens.specs.declared.fault.ScriptFault.{ScriptFault}
 use Rattle.edit_script.specs.Script.{script_of}

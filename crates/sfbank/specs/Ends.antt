@@ -12,9 +12,9 @@ use Rattle.file_host.specs.declared.faults.Which.TheVariants as which
 use Rattle.program_explanations.specs.declared.explanations.FaultCode.{FaultCode}
 use Rattle.program_explanations.specs.declared.explanations.Explanation.{Explanation}
 use Rattle.program_explanations.specs.Explanations as explanations
-use Rattle.program_files.specs.declared.fault.Fault.{Fault}
-use Rattle.program_files.specs.declared.fault.Fault.TheVariants.{Unexplained, File, Output, Run, PipeClosed}
-use Rattle.program_files.specs.declared.run_fault.RunFault.TheVariants as run
+use Rattle.program_reports.specs.declared.fault.Fault.{Fault}
+use Rattle.program_reports.specs.declared.fault.Fault.TheVariants.{Unexplained, File, Output, Run, PipeClosed}
+use Rattle.program_reports.specs.declared.run_fault.RunFault.TheVariants as run
 use Rattle.sfbank.specs.Outcome.{Done, bank_in}
 use Rattle.sfbank.specs.Differences.{IsDifference}
 use Rattle.sfbank.specs.Plans.{Action, Content, Saves, SavesBoth, Prints, Plays}

@@ -12,9 +12,9 @@ use Rattle.live_sessions.specs.declared.saving.SessionFiles.{SessionFiles}
 use Rattle.live_sessions.specs.Runs.{Runs}
 use Rattle.program_commands.specs.declared.words.LivePaths.{LivePaths}
 use Rattle.program_commands.specs.declared.words.Request.TheVariants.{Live}
-use Rattle.program_files.specs.declared.fault.Fault.{Fault}
-use Rattle.program_files.specs.declared.fault.Fault.TheVariants.{File, Run, PipeClosed}
-use Rattle.program_files.specs.declared.run_fault.RunFault.TheVariants as run
+use Rattle.program_reports.specs.declared.fault.Fault.{Fault}
+use Rattle.program_reports.specs.declared.fault.Fault.TheVariants.{File, Run, PipeClosed}
+use Rattle.program_reports.specs.declared.run_fault.RunFault.TheVariants as run
 use Rattle.sfbank.specs.Plans.{Action, Inputs, Why, AreInputs, Plays, plan, standard_output}
 use Rattle.sfbank.specs.Ends.{Outside, IsUntouched, IsEarly}
 

@@ -7,8 +7,8 @@ use Rattle.bank_format.specs.ReadChecks.{fault_of}
 use Rattle.edit_forms.specs.declared.cause.Cause.{Cause}
 use Rattle.edit_forms.specs.declared.cause.Cause.TheVariants.{NoSuchPreset, NoSuchInstrument}
 use Rattle.show_zone_map.specs.Picture.{picture}
-use Rattle.program_files.specs.declared.run_fault.RunFault.{RunFault}
-use Rattle.program_files.specs.declared.run_fault.RunFault.TheVariants as run
+use Rattle.program_reports.specs.declared.run_fault.RunFault.{RunFault}
+use Rattle.program_reports.specs.declared.run_fault.RunFault.TheVariants as run
 use Rattle.sfbank.specs.Outcome.{after_reading, bank_in}
 
 -- the owner is one of the bank's presets or instruments

@@ -8,8 +8,8 @@ use Rattle.program_commands.specs.Commands.{sfbank_app}
 use Rattle.program_commands.specs.Words.{AsksFor, AsksForNone}
 use Rattle.program_commands.specs.declared.words.Request.{Request}
 use Rattle.program_commands.specs.declared.words.Request.TheVariants.{Live}
-use Rattle.program_files.specs.declared.fault.Fault.{Fault}
-use Rattle.program_files.specs.Reporting.{Reports, status_of}
+use Rattle.program_reports.specs.declared.fault.Fault.{Fault}
+use Rattle.program_reports.specs.Reporting.{Reports, status_of}
 use Rattle.sfbank.specs.Plans.{Inputs, AreInputs, plan}
 use Rattle.sfbank.specs.Ends.{Outside, EndsFor}
 use Rattle.sfbank.specs.LiveRuns.{MeansLive}
@@ -33,30 +33,30 @@ Means request old new written end = MeansPlan request old new written end
 
 -- the exit status, and what is reported
 abbrev pub IsReported : {U : Type 0} → Bool → Option (List ℕ) → Option (List ℕ) → ℕ → Result U Fault → Type 0
-IsReported is_terminal told told_new status (Ok u) = (status ≡ 0) × Keeps told told_new
-IsReported is_terminal told told_new status (Err fault) =
-    (status ≡ status_of fault) × Reports is_terminal told told_new fault
+IsReported is_terminal errors errors_new status (Ok u) = (status ≡ 0) × Keeps errors errors_new
+IsReported is_terminal errors errors_new status (Err fault) =
+    (status ≡ status_of fault) × Reports is_terminal errors errors_new fault
 
 -- the words ask for a request, which ends as it means, and that is reported
 pub record AnswersRequest (words : List (List ℕ)) (is_terminal : Bool) (old new : Outside) (written : ℕ)
-    (told told_new : Option (List ℕ)) (status : ℕ) : Type 0 where
+    (errors errors_new : Option (List ℕ)) (status : ℕ) : Type 0 where
   pub request : Request
   pub asks : AsksFor (subcommand_of sfbank_app words) request
   pub end : Result (Unit {0}) Fault
   pub means : Means request old new written end
-  pub reported : IsReported is_terminal told told_new status end
+  pub reported : IsReported is_terminal errors errors_new status end
 
 -- the words ask for no request: no file is changed, and help, the version or the fault of the words is answered
-pub record AnswersNone (words : List (List ℕ)) (is_terminal : Bool) (old new : Outside) (told told_new : Option (List ℕ))
+pub record AnswersNone (words : List (List ℕ)) (is_terminal : Bool) (old new : Outside) (errors errors_new : Option (List ℕ))
     (status : ℕ) : Type 0 where
   pub error : Error
   pub asks : HasKind (fault_of sfbank_app words) error ⊎ AsksForNone (subcommand_of sfbank_app words)
   pub files : new.files ≡ old.files
   pub end : Result (Unit {0}) Fault
-  pub reported : IsReported is_terminal told told_new status end
+  pub reported : IsReported is_terminal errors errors_new status end
 
 -- how the program answers its words
 abbrev pub Answers : List (List ℕ) → Bool → Outside → Outside → ℕ → Option (List ℕ) → Option (List ℕ) → ℕ → Type 0
-Answers words is_terminal old new written told told_new status =
-    AnswersRequest words is_terminal old new written told told_new status
-    ⊎ AnswersNone words is_terminal old new told told_new status
+Answers words is_terminal old new written errors errors_new status =
+    AnswersRequest words is_terminal old new written errors errors_new status
+    ⊎ AnswersNone words is_terminal old new errors errors_new status

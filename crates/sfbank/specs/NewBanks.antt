@@ -3,7 +3,7 @@ use Rattle.std.specs.Prelude.{◌≡◌, ℕ, List, None, Result, Ok}
 use Rattle.bank_format.specs.Canon.{canon}
 use Rattle.bank_format.specs.ReadChecks.{fault_of}
 use Rattle.script_of_bank.specs.BankEdits.{empty}
-use Rattle.program_files.specs.declared.run_fault.RunFault.{RunFault}
+use Rattle.program_reports.specs.declared.run_fault.RunFault.{RunFault}
 use Rattle.sfbank.specs.Outcome.{bank_in, canon_outcome}
 
 -- the canonical file of the empty bank of a minor version

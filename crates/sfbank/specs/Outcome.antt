@@ -23,8 +23,8 @@ use Rattle.script_notes.specs.Notes.{Numbers, notes_of}
 use Rattle.mixer.specs.Render.{render}
 use Rattle.sound_neutral_edits.specs.Neutral.{is_neutral}
 use Rattle.wave_file.specs.Wave.{wave}
-use Rattle.program_files.specs.declared.run_fault.RunFault.{RunFault}
-use Rattle.program_files.specs.declared.run_fault.RunFault.TheVariants as run
+use Rattle.program_reports.specs.declared.run_fault.RunFault.{RunFault}
+use Rattle.program_reports.specs.declared.run_fault.RunFault.TheVariants as run
 
 -- both texts of a run that succeeds
 pub record Done : Type 0 where

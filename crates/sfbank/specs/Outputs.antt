@@ -7,10 +7,10 @@ use Rattle.file_host.specs.World.{World, with_text, with_pair}
 use Rattle.file_host.specs.Saving.{Spoils, SpoilsPair}
 use Rattle.file_host.specs.declared.faults.Which.{Which}
 use Rattle.file_host.specs.declared.faults.Which.TheVariants as which
-use Rattle.program_files.specs.declared.fault.Fault.{Fault}
-use Rattle.program_files.specs.declared.fault.Fault.TheVariants.{Unexplained, Run, PipeClosed}
-use Rattle.program_files.specs.declared.run_fault.RunFault.{RunFault}
-use Rattle.program_files.specs.declared.run_fault.RunFault.TheVariants as run
+use Rattle.program_reports.specs.declared.fault.Fault.{Fault}
+use Rattle.program_reports.specs.declared.fault.Fault.TheVariants.{Unexplained, Run, PipeClosed}
+use Rattle.program_reports.specs.declared.run_fault.RunFault.{RunFault}
+use Rattle.program_reports.specs.declared.run_fault.RunFault.TheVariants as run
 use Rattle.sfbank.specs.Outcome.{Done}
 use Rattle.sfbank.specs.Written.{FailsBefore}
 use Rattle.sfbank.specs.Plans.{Explanation, standard_output}

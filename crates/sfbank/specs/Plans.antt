@@ -16,7 +16,7 @@ use Rattle.program_commands.specs.declared.words.Request.TheVariants.{Apply, Can
 use Rattle.program_commands.specs.declared.words.Request.TheVariants.{New, Play, Script, Show, Wave}
 use Rattle.program_commands.specs.declared.words.LivePaths.{LivePaths}
 use Rattle.program_commands.specs.declared.words.ShowPaths.{ShowPaths}
-use Rattle.program_files.specs.declared.run_fault.RunFault.{RunFault}
+use Rattle.program_reports.specs.declared.run_fault.RunFault.{RunFault}
 use Rattle.sfbank.specs.Outcome.{Done, canon_outcome, show_outcome, show_details_outcome, play_outcome}
 use Rattle.sfbank.specs.EditRuns.{outcome_of}
 use Rattle.sfbank.specs.BankScripts.{script_outcome}

@@ -12,8 +12,8 @@ use Rattle.wave_file.specs.declared.fault.WaveFault.{WaveFault}
 use Rattle.wave_file.specs.declared.recording.Recording.{Recording}
 use Rattle.wave_file.specs.ReadChecks.{recording_in}
 use Rattle.wave_file.specs.Imports.{import_edits}
-use Rattle.program_files.specs.declared.run_fault.RunFault.{RunFault}
-use Rattle.program_files.specs.declared.run_fault.RunFault.TheVariants as run
+use Rattle.program_reports.specs.declared.run_fault.RunFault.{RunFault}
+use Rattle.program_reports.specs.declared.run_fault.RunFault.TheVariants as run
 use Rattle.sfbank.specs.Outcome.{Done, after_script, after_reading, bank_in, outcome}
 
 -- ---- a sample as a WAVE file

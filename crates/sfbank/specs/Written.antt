@@ -1,8 +1,8 @@
 -- What a run writes to its two writers.
 use Rattle.std.specs.Prelude.{◌≡◌, ◌≤◌, ℕ, List, length, take, Option, Result, Ok, Err}
 use Rattle.std.specs.Io.KnownBytes.{Appends, Keeps}
-use Rattle.program_files.specs.declared.run_fault.RunFault.{RunFault}
-use Rattle.program_files.specs.declared.run_fault.RunFault.TheVariants as run
+use Rattle.program_reports.specs.declared.run_fault.RunFault.{RunFault}
+use Rattle.program_reports.specs.declared.run_fault.RunFault.TheVariants as run
 use Rattle.file_host.specs.declared.faults.Which.{Which}
 use Rattle.file_host.specs.declared.faults.Which.TheVariants.{Out, Undo}
 use Rattle.sfbank.specs.Outcome.{Done}

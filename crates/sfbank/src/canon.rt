@@ -4,7 +4,7 @@ ghost use Rattle.sfbank.specs.Written.{RunsOneText};
 
 use crate::writing::write_one;
 use file_host::Which;
-use program_files::RunFault;
+use program_reports::RunFault;
 use sf_reader::read;
 use sf_writer::BankFile;
 use std::alloc::Global;

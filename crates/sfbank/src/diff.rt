@@ -10,7 +10,7 @@ use base_texts::Text;
 use edit_forms::Edit;
 use edit_script::EditLines;
 use file_host::Which;
-use program_files::RunFault;
+use program_reports::RunFault;
 use script_of_bank::Replacement;
 use sf_reader::read;
 use std::alloc::Global;

@@ -8,7 +8,7 @@ use crate::edited_bank::{apply_script, read_script};
 use crate::writing::write_edited;
 use base_progress::{NoReports, Progress};
 use program_commands::Forms;
-use program_files::RunFault;
+use program_reports::RunFault;
 use std::alloc::Global;
 use std::io::Write;
 

@@ -18,7 +18,7 @@ use edit_forms::Edit;
 use edit_refusals::Refusal;
 use edit_script::{Line, parse, pool_of};
 use program_commands::Forms;
-use program_files::RunFault;
+use program_reports::RunFault;
 use sound_neutral_edits::is_neutral;
 use std::alloc::Global;
 

@@ -15,7 +15,7 @@ use bank_core::Bank;
 use base_progress::NoReports;
 use edit_forms::Edit;
 use edit_script::Line;
-use program_files::RunFault;
+use program_reports::RunFault;
 use sf_base::OutOfMemory;
 use std::alloc::Global;
 use std::io::Write;

@@ -36,7 +36,7 @@ pub use map::map_run;
 pub use new::new_run;
 pub use play::{play_run, play_run_with_progress};
 pub use program::{run, run_with_arguments};
-pub use program_files::{ProgressMeter, Prompted, RunFault, fault_text};
+pub use program_reports::{ProgressMeter, Prompted, RunFault, fault_text};
 pub use script::script_run;
 pub use script_of_bank::SamplePoints;
 pub use show::{show_details_run, show_run};

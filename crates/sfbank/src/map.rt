@@ -9,7 +9,7 @@ use crate::writing::write_one;
 use bank_core::{Bank, Owner};
 use edit_refusals::Cause;
 use file_host::Which;
-use program_files::RunFault;
+use program_reports::RunFault;
 use show_zone_map::ZoneMap;
 use std::alloc::Global;
 use std::io::Write;

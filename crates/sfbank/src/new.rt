@@ -8,7 +8,7 @@ use crate::writing::write_one;
 use bank_core::{Bank, Owners, Parts, Texts};
 use bank_linked_members::LinkedMembers;
 use file_host::Which;
-use program_files::RunFault;
+use program_reports::RunFault;
 use sf_base::{BorrowedBytes, OutOfMemory};
 use sf_writer::BankFile;
 use std::alloc::Global;

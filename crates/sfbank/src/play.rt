@@ -10,7 +10,7 @@ use crate::writing::write_one;
 use base_progress::{NoReports, Progress};
 use file_host::Which;
 use mixer::render_with_progress;
-use program_files::RunFault;
+use program_reports::RunFault;
 use script_notes::parse_notes;
 use std::alloc::Global;
 use std::io::Write;

@@ -1,6 +1,6 @@
 //! The program, from its arguments to its exit status.
 ghost use Rattle.std.specs.Prelude.{map};
-ghost use Rattle.program_files.specs.Reporting.{Ends};
+ghost use Rattle.program_reports.specs.Reporting.{Ends};
 ghost use Rattle.sfbank.specs.Meanings.{Answers, IsReported, Means};
 
 mod apply;
@@ -25,6 +25,7 @@ use canon::canon;
 use clap::error::ErrorKind;
 use diff::diff;
 use explain::explain;
+use file_disk::{Disk, System};
 use file_host::Host;
 use import::import;
 use live::live;
@@ -33,7 +34,7 @@ use new::new;
 use outputs::print;
 use play::play;
 use program_commands::{Request, request_of};
-use program_files::{ClosedPipe, Fault, SystemHost, Watched, report};
+use program_reports::{ClosedPipe, Fault, Watched, report};
 use script::script;
 use show::show;
 use std::alloc::{AllocError, Global};
@@ -57,7 +58,7 @@ pub fn run_with_arguments<R: Env + Files + AllocGlobal, I: Read, O: Write, E: Wr
 {
     match arguments(rt) {
         Ok(words) => run(
-            &mut SystemHost::new(rt),
+            &mut Disk::new(rt.alloc(), System::new(rt)),
             rt.alloc(),
             words.as_slice(),
             input,

@@ -3,7 +3,7 @@ ghost use Rattle.sfbank.specs.Steps.{ReadsBank};
 
 use bank_core::Bank;
 use bank_format::Counts;
-use program_files::RunFault;
+use program_reports::RunFault;
 use sf_base::Failure;
 use std::alloc::Global;
 

@@ -4,7 +4,7 @@ ghost use Rattle.sfbank.specs.Written.{RunsOneText};
 
 use crate::writing::write_one;
 use file_host::Which;
-use program_files::RunFault;
+use program_reports::RunFault;
 use script_of_bank::{BankScript, SamplePoints};
 use sf_reader::read;
 use std::alloc::Global;

@@ -5,7 +5,7 @@ ghost use Rattle.sfbank.specs.Written.{RunsOneText};
 use crate::writing::write_one;
 use edit_refusals::Cause;
 use file_host::Which;
-use program_files::RunFault;
+use program_reports::RunFault;
 use sf_reader::read;
 use std::alloc::Global;
 use std::io::Write;

@@ -6,7 +6,7 @@ use crate::edited_bank::EditedBank;
 use base_texts::{Text, write_text};
 use edit_script::EditLines;
 use file_host::Which;
-use program_files::RunFault;
+use program_reports::RunFault;
 use sf_writer::BankFile;
 use std::io::Write;
 

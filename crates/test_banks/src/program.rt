@@ -1,27 +1,27 @@
-//! Tests of the program that the checks cannot run: no argument, a terminal, and an input that fails after its first
-//! bytes.
+//! Tests of the program that the checks cannot run: no argument, a terminal, and a device that fails at each call.
 
-use file_host::InputFault;
-use program_files::{SystemHost, Watched, read_whole};
-use sf_base::Failure;
+use file_disk::{Behaviour, Disk, MemoryDevice, System};
+use file_host::Host;
+use program_reports::Watched;
 use sfbank::{NoReports, run};
-use std::alloc::AllocError;
-use std::io;
-use std::io::{ErrorKind, Read, Write};
+use std::alloc::{AllocError, Global};
+use std::io::Write;
+use test_inputs::tone;
 
 /// Runs the program with these arguments, separated by spaces, and returns its exit status.
-fn run_on<O: Write, E: Write>(
-    rt: &HostRuntime,
+fn run_on<H: Host, O: Write, E: Write>(
+    host: &mut H,
+    alloc: Global,
     words: &str,
     output: &mut O,
     errors: &mut E,
     is_terminal: bool,
 ) -> u8 {
-    let words: Result<Vec<&str>, AllocError> = words.split_ascii_whitespace().collect(rt.alloc());
+    let words: Result<Vec<&str>, AllocError> = words.split_ascii_whitespace().collect(alloc);
     match words {
         Ok(words) => run(
-            &mut SystemHost::new(rt),
-            rt.alloc(),
+            host,
+            alloc,
             words.as_slice(),
             &mut b"".as_slice(),
             &mut Watched::new(output),
@@ -33,11 +33,23 @@ fn run_on<O: Write, E: Write>(
     }
 }
 
+/// Runs the program on real files, and returns its exit status.
+fn run_on_system<O: Write, E: Write>(
+    rt: &HostRuntime,
+    words: &str,
+    output: &mut O,
+    errors: &mut E,
+    is_terminal: bool,
+) -> u8 {
+    let mut disk = Disk::new(rt.alloc(), System::new(rt));
+    run_on(&mut disk, rt.alloc(), words, output, errors, is_terminal)
+}
+
 /// Whether the arguments are refused with a message on standard error.
 fn are_refused(rt: &HostRuntime, words: &str) -> bool {
     let mut output = Vec::new(rt.alloc());
     let mut errors = Vec::new(rt.alloc());
-    run_on(rt, words, &mut output, &mut errors, false) == 1
+    run_on_system(rt, words, &mut output, &mut errors, false) == 1
         && output.is_empty()
         && !errors.is_empty()
 }
@@ -51,7 +63,7 @@ fn a_run_without_arguments_is_refused(rt: HostRuntime) {
 fn reports_missing_bank(rt: &HostRuntime, is_terminal: bool, line: &[u8]) -> bool {
     let mut output = Vec::new(rt.alloc());
     let mut errors = Vec::new(rt.alloc());
-    let status = run_on(
+    let status = run_on_system(
         rt,
         "sfbank show no/bank",
         &mut output,
@@ -69,29 +81,105 @@ fn a_terminal_has_the_reason_of_a_file_fault(rt: HostRuntime) {
     assert!(rt; reports_missing_bank(&rt, true, reason));
 }
 
-/// A reader that returns at most three bytes a call, and an error after the last.
-#[derive(Drop)]
-struct FailingReader<'a> {
-    rest: &'a [u8],
+/// More calls of a device than any command below makes.
+const MOST_CALLS: u64 = 600;
+
+/// Commands on the files of `device_with`.
+const COMMANDS: [&str; 6] = [
+    "sfbank apply bank script bank undo",
+    "sfbank apply bank script out undo",
+    "sfbank apply --neutral bank script bank new",
+    "sfbank canon bank bank",
+    "sfbank new --force bank",
+    "sfbank script bank out",
+];
+
+/// A bank, a script and an old undo script on a device with one call that fails.
+fn device_with(alloc: Global, calls: u64) -> Result<MemoryDevice, AllocError> {
+    let mut device = MemoryDevice::new(
+        alloc,
+        Behaviour {
+            calls,
+            is_broken: false,
+            has_links: true,
+        },
+    );
+    let bank = tone();
+    device.put("bank", bank.bytes())?;
+    device.put("script", b"rename-sample 0 \"a\"\n")?;
+    device.put("undo", b"an older undo script\n")?;
+    Ok(device)
 }
 
-impl Read for FailingReader<'_> {
-    fn read(&mut self, buf: &mut [u8]) -> io::Result<usize> {
-        if self.rest.is_empty() {
-            return Err(io::Error::from(ErrorKind::Other));
+/// Runs a command on a device with one call that fails. Returns the exit status and what the files are then.
+fn run_with_fault(
+    alloc: Global,
+    words: &str,
+    calls: u64,
+) -> Result<(u8, Disk<MemoryDevice>), AllocError> {
+    let mut output = Vec::new(alloc);
+    let mut errors = Vec::new(alloc);
+    let mut disk = Disk::new(alloc, device_with(alloc, calls)?);
+    let status = run_on(&mut disk, alloc, words, &mut output, &mut errors, false);
+    Ok((status, disk))
+}
+
+/// The paths of all files of the commands.
+const PATHS: [&str; 5] = ["bank", "script", "undo", "new", "out"];
+
+/// Whether the file at a path is the same on both devices.
+fn is_same(one: &MemoryDevice, other: &MemoryDevice, path: &str) -> bool {
+    one.file(path) == other.file(path)
+}
+
+/// Whether a run left each file as it was or as it should be, and a new bank with its undo script.
+fn is_safe(left: &MemoryDevice, before: &MemoryDevice, after: &MemoryDevice) -> bool {
+    let is_pair = is_same(left, after, "undo") && is_same(left, after, "new");
+    for path in PATHS {
+        if !is_same(left, before, path) && !is_same(left, after, path) {
+            return false;
         }
-        let most = buf.len().min(3);
-        self.rest.read(&mut buf[..most])
     }
+    is_same(left, before, "bank") || is_pair
+}
+
+/// Whether a run left each file as it should be.
+fn is_done(left: &MemoryDevice, after: &MemoryDevice) -> bool {
+    for path in PATHS {
+        if !is_same(left, after, path) {
+            return false;
+        }
+    }
+    true
+}
+
+/// Whether a command, with each call of its device failing in turn, ends with a fault and old or whole files, and in the
+/// end is done. Returns `None` where memory does not suffice for the test.
+fn is_safe_at_each_call(alloc: Global, words: &str) -> Option<bool> {
+    let before = device_with(alloc, MOST_CALLS).ok()?;
+    let (status, disk) = run_with_fault(alloc, words, MOST_CALLS).ok()?;
+    let after = disk.device()?;
+    for calls in 0..MOST_CALLS {
+        let (status, disk) = run_with_fault(alloc, words, calls).ok()?;
+        let left = disk.device()?;
+        let is_right = match status {
+            0 => is_done(left, after),
+            5 | 6 => is_safe(left, &before, after),
+            _ => false,
+        };
+        if !is_right {
+            return Some(false);
+        }
+    }
+    Some(status == 0)
 }
 
 #[test]
-fn inputs_are_read_to_their_end_or_first_error(rt: HostRuntime) {
-    let text = b"sound fonts".as_slice();
-    for expected in [0, 3, 11, 400] {
-        let read = read_whole(rt.alloc(), &mut io::Cursor::new(text), expected);
-        assert!(rt; matches!(&read, Ok(bytes) if bytes.as_slice() == text));
-        let broken = read_whole(rt.alloc(), &mut FailingReader { rest: text }, expected);
-        assert!(rt; matches!(broken, Err(Failure::Fault(InputFault::Unreadable))));
+fn a_failing_device_leaves_each_file_old_or_whole(rt: HostRuntime) {
+    for words in COMMANDS {
+        assert!(rt;
+            is_safe_at_each_call(rt.alloc(), words) == Some(true),
+            "{words}"
+        );
     }
 }

@@ -13,7 +13,7 @@ use crate::edited_bank::{apply_script, read_script};
 use base_progress::Progress;
 use file_host::Host;
 use program_commands::ApplyPaths;
-use program_files::Fault;
+use program_reports::Fault;
 use std::alloc::Global;
 
 /// Runs the script on the bank. Both files are read whole first, so OUT may be the bank's own file.

@@ -10,7 +10,7 @@ use super::outputs::put;
 use crate::reading::read_bank;
 use file_host::Host;
 use program_commands::CanonPaths;
-use program_files::{ClosedPipe, Fault};
+use program_reports::{ClosedPipe, Fault};
 use sf_writer::BankFile;
 use std::alloc::Global;
 use std::io::Write;

@@ -6,7 +6,7 @@ ghost use Rattle.sfbank.specs.Steps.{Passes, edit_part, undo_part, fault_of_chec
 
 use base_outputs::OutputFault;
 use file_host::{Host, check_apart, check_no_bank};
-use program_files::{Fault, RunFault};
+use program_reports::{Fault, RunFault};
 use sf_base::Failure;
 
 /// Rejects an output that is one file with one of the others.

@@ -11,7 +11,7 @@ use super::outputs::put;
 use crate::diff::difference_of;
 use file_host::Host;
 use program_commands::DiffPaths;
-use program_files::{ClosedPipe, Fault};
+use program_reports::{ClosedPipe, Fault};
 use std::alloc::Global;
 use std::io::Write;
 

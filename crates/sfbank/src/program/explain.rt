@@ -3,7 +3,7 @@ ghost use Rattle.sfbank.specs.Outputs.{PrintsExplanation};
 
 use super::outputs::print;
 use program_explanations::explain as explanation_of;
-use program_files::{ClosedPipe, Fault};
+use program_reports::{ClosedPipe, Fault};
 use std::io::Write;
 
 /// Writes the meaning of a fault or cause number to the standard output.

@@ -12,7 +12,7 @@ use super::outputs::save_both;
 use crate::import::{apply_import, read_import};
 use file_host::Host;
 use program_commands::{ImportPaths, recording_name};
-use program_files::Fault;
+use program_reports::Fault;
 use std::alloc::Global;
 
 /// Imports a WAVE file into the bank, named after the file. Both files are read whole first, so OUT may be the bank's

@@ -2,7 +2,7 @@
 ghost use Rattle.sfbank.specs.Steps.{ReadsInput, ReadsTwo};
 
 use file_host::Host;
-use program_files::{Fault, RunFault};
+use program_reports::{Fault, RunFault};
 use sf_base::Failure;
 use std::alloc::Global;
 

@@ -7,7 +7,7 @@ use super::inputs::read_input;
 use file_host::{Host, InputFault, Which};
 use live_sessions::{InputLines, LineReader, LiveFault, SessionFiles, live_run};
 use program_commands::LivePaths;
-use program_files::{ClosedPipe, Fault, RunFault, STANDARD_OUTPUT};
+use program_reports::{ClosedPipe, Fault, RunFault, STANDARD_OUTPUT};
 use std::alloc::Global;
 use std::io::{BufReader, Read, Write};
 

@@ -11,7 +11,7 @@ use super::outputs::put;
 use crate::map::read_owner;
 use file_host::Host;
 use program_commands::MapPaths;
-use program_files::{ClosedPipe, Fault};
+use program_reports::{ClosedPipe, Fault};
 use show_zone_map::ZoneMap;
 use std::alloc::Global;
 use std::io::Write;

@@ -10,7 +10,7 @@ use super::outputs::put;
 use crate::new::empty_bank;
 use file_host::Host;
 use program_commands::NewBank;
-use program_files::{ClosedPipe, Fault, RunFault};
+use program_reports::{ClosedPipe, Fault, RunFault};
 use sf_writer::BankFile;
 use std::alloc::Global;
 use std::io::Write;

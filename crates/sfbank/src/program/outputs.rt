@@ -9,7 +9,7 @@ use crate::edited_bank::EditedBank;
 use base_texts::{Text, write_text};
 use edit_script::EditLines;
 use file_host::{Host, PairFault, Which};
-use program_files::{ClosedPipe, Fault, RunFault, STANDARD_OUTPUT};
+use program_reports::{ClosedPipe, Fault, RunFault, STANDARD_OUTPUT};
 use sf_base::Failure;
 use sf_writer::BankFile;
 use std::io::Write;

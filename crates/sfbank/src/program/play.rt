@@ -13,7 +13,7 @@ use crate::play::render_notes;
 use base_progress::Progress;
 use file_host::Host;
 use program_commands::PlayPaths;
-use program_files::{ClosedPipe, Fault};
+use program_reports::{ClosedPipe, Fault};
 use std::alloc::Global;
 use std::io::Write;
 use wave_file::WaveFile;

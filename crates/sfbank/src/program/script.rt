@@ -12,7 +12,7 @@ use super::outputs::put;
 use crate::reading::read_bank;
 use file_host::Host;
 use program_commands::ScriptPaths;
-use program_files::{ClosedPipe, Fault};
+use program_reports::{ClosedPipe, Fault};
 use script_of_bank::{BankScript, SamplePoints};
 use std::alloc::Global;
 use std::io::Write;

@@ -13,7 +13,7 @@ use bank_core::Bank;
 use bank_format::Counts;
 use file_host::Host;
 use program_commands::ShowPaths;
-use program_files::{ClosedPipe, Fault, RunFault, STANDARD_OUTPUT};
+use program_reports::{ClosedPipe, Fault, RunFault, STANDARD_OUTPUT};
 use show_listing::{Details, Listing};
 use std::alloc::Global;
 use std::io::Write;

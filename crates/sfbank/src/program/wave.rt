@@ -12,7 +12,7 @@ use crate::reading::read_bank;
 use edit_refusals::Cause;
 use file_host::Host;
 use program_commands::WavePaths;
-use program_files::{ClosedPipe, Fault, RunFault};
+use program_reports::{ClosedPipe, Fault, RunFault};
 use std::alloc::Global;
 use std::io::Write;
 use wave_file::SampleWave;

@@ -10,15 +10,14 @@ returns-in_err-is_linked-clause-failed g c =
 pub returns-in-Ok-clause-put : goal.returns-in-Ok-clause-put
 returns-in-Ok-clause-put g c =
     let kept = c.in_ok-is_linked.ensures in
-    let moved = rw c.as_str-2.ensures.value at c.in-Ok.ensures.moved in
     put_done _ (g.D.Device.world c.keep_old.new.device) _ c.in_ok-is_linked.is_linked _ _ _ _ (search rules)
     (puts_of _ c.args.file.now _ _ c.requires.target (search rules) kept.free c.requires.named c.requires.there)
-    kept.kept moved
+    kept.kept c.in-Ok.ensures.moved
 
 pub returns-then-is_linked-clause-failed : goal.returns-then-is_linked-clause-failed
 returns-then-is_linked-clause-failed g c =
     let kept = c.in_ok-is_linked.ensures in
-    let lost = rw (c.as_str-then-is_linked.ensures.value, c.in-Err.ensures.stays) at c.remove.ensures.lost in
+    let lost = rw (c.as_str.ensures.value, c.in-Err.ensures.stays) at c.remove.ensures.lost in
     linked_undone _ (g.D.Device.world c.keep_old.new.device) _ c.in_ok-is_linked.is_linked _ _ c.if-is_linked.true
     (keeps_of _ c.args.file.now _ c.requires.target (search rules) kept.free kept.named) kept.kept lost
 
@@ -27,8 +26,7 @@ returns-else-is_linked-clause-failed g c =
     let kept = c.in_ok-is_linked.ensures in
     let back = c.put_in_place-else-is_linked.ensures in
     let stays = c.in-Err.ensures.stays in
-    let moved =
-    rw (c.as_str-else-is_linked.ensures.value, c.as_str-else-is_linked-2.ensures.value, stays) at back.moved in
+    let moved = rw (c.as_str-else-is_linked.ensures.value, stays) at back.moved in
     let same = rw stays at back.stays in
     moved_undone _ (g.D.Device.world c.keep_old.new.device) _ c.in_ok-is_linked.is_linked _ _
     c.put_in_place-else-is_linked.result c.if-is_linked.false

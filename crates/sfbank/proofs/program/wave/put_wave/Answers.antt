@@ -1,6 +1,6 @@
 use Rattle.std.proofs.Common.{refl}
 use Rattle.edit_forms.specs.declared.cause.Cause.TheVariants.{NoSuchSample}
-use Rattle.program_files.specs.declared.run_fault.RunFault.TheVariants as run
+use Rattle.program_reports.specs.declared.run_fault.RunFault.TheVariants as run
 use Rattle.sfbank.specs.Plans.{Text}
 use Rattle.sfbank.specs.Recordings.{wave_outcome}
 use Rattle.sfbank.proofs.Recordings.{few_points}

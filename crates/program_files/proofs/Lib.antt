@@ -1,2 +1,0 @@
-mod ReadInPlace
-mod ReportedLines

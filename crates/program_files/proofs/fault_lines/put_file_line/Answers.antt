@@ -1,4 +1,0 @@
-use Rattle.program_files.proofs.fault_lines.put_file_line.Goals as goal
-
-pub returns : goal.returns
-returns g c = rw c.as_bytes.ensures.value at c.put_pieces.ensures

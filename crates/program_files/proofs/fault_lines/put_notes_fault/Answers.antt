@@ -1,4 +1,0 @@
-use Rattle.program_files.proofs.fault_lines.put_notes_fault.Goals as goal
-
-pub returns : goal.returns
-returns g c = rw (c.line.ensures, c.number.ensures, c.name.ensures) at c.put_text_fault.ensures

@@ -1,5 +1,0 @@
-use Rattle.std.proofs.Common.{◌∙◌}
-use Rattle.program_files.proofs.fault_lines.put_unexplained.Goals as goal
-
-pub returns : goal.returns
-returns g c = rw (c.as_bytes.ensures.value ∙ c.format.ensures.text) at c.put_pieces.ensures

@@ -1,0 +1,5 @@
+use Rattle.std.proofs.Common.{◌∙◌}
+use Rattle.program_reports.proofs.fault_lines.put_write_fault.Goals as goal
+
+pub returns : goal.returns
+returns g c = rw (c.as_bytes.ensures.value, c.as_bytes-2.ensures.value ∙ c.format.ensures.text) at c.put_pieces.ensures

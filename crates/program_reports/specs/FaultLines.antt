@@ -1,0 +1,139 @@
+-- The lines that report faults, and the exit status of a run's fault.
+use Rattle.std.specs.Prelude.{ℕ, List, [], ◌∷◌, ◌++◌, codes, decimal, Bool, true, false}
+use Rattle.std.specs.List.{concat}
+use Rattle.bank_format.specs.declared.fault.ReadFault.{ReadFault}
+use Rattle.bank_format.specs.FaultNames as reading
+use Rattle.script_tokens.specs.declared.fault.ScriptFault.{ScriptFault}
+use Rattle.script_tokens.specs.Faults as scripts
+use Rattle.script_notes.specs.declared.fault.NoteFault.{NoteFault}
+use Rattle.script_notes.specs.Faults as notes
+use Rattle.wave_file.specs.declared.fault.WaveFault.{WaveFault}
+use Rattle.wave_file.specs.FaultNames as recordings
+use Rattle.edit_forms.specs.declared.cause.Cause.{Cause}
+use Rattle.edit_refusals.specs.declared.refusal.Refusal.{Refusal}
+use Rattle.edit_forms.specs.CauseNames as causes
+use Rattle.edit_script.specs.RefusalText.{refusal_text}
+use Rattle.base_outputs.specs.declared.output_fault.OutputFault.{OutputFault}
+use Rattle.base_outputs.specs.OutputFaults as rejected
+use Rattle.file_host.specs.declared.input_fault.InputFault.{InputFault}
+use Rattle.file_host.specs.InputFaults.{reason_of}
+use Rattle.program_reports.specs.declared.run_fault.RunFault.{RunFault}
+use Rattle.program_reports.specs.declared.run_fault.RunFault.TheVariants.{Read, ReadFirst, ReadSecond, Script}
+use Rattle.program_reports.specs.declared.run_fault.RunFault.TheVariants.{Refused, NotNeutral, OtherVersion, Notes}
+use Rattle.program_reports.specs.declared.run_fault.RunFault.TheVariants.{Recording, NoMember, Write, Memory}
+
+-- a line that ends with a number and a name
+abbrev pub named_line : List ℕ → ℕ → List ℕ → List ℕ
+named_line start number name = concat (start ∷ decimal number ∷ codes " " ∷ name ∷ codes "\n" ∷ [])
+
+-- a read fault, by its number and its name
+abbrev pub read_text : ReadFault → List ℕ
+read_text fault = named_line (codes "read fault ") (reading.number_of fault) (reading.name_of fault)
+
+abbrev pub read_line : ReadFault → List ℕ
+read_line fault = codes "sfbank: " ++ read_text fault
+
+-- a read fault of the first or the second of two files
+abbrev pub first_read_line : ReadFault → List ℕ
+first_read_line fault = codes "sfbank: A: " ++ read_text fault
+
+abbrev pub second_read_line : ReadFault → List ℕ
+second_read_line fault = codes "sfbank: B: " ++ read_text fault
+
+-- a fault in a line of a text, by its number and its name
+abbrev pub text_line : ℕ → ℕ → List ℕ → List ℕ
+text_line line number name =
+    concat
+    (codes "sfbank: line " ∷ decimal line ∷ codes ": fault " ∷ decimal number ∷ codes " " ∷ name ∷ codes "\n"
+    ∷ [])
+
+abbrev pub script_line : ScriptFault → List ℕ
+script_line fault = text_line (scripts.line_of fault) (scripts.number_of fault) (scripts.name_of fault)
+
+abbrev pub notes_line : NoteFault → List ℕ
+notes_line fault = text_line (notes.line_of fault) (notes.number_of fault) (notes.name_of fault)
+
+-- a line that is refused
+abbrev pub refused_start : ℕ → List ℕ
+refused_start line = concat (codes "sfbank: line " ∷ decimal line ∷ codes ": refused" ∷ [])
+
+-- the same, and why
+abbrev pub refused_line : ℕ → Refusal → List ℕ
+refused_line line why = refused_start line ++ (refusal_text why ++ codes "\n")
+
+-- a line that is not neutral, in a run that accepts neutral edits only
+abbrev pub not_neutral_line : ℕ → List ℕ
+not_neutral_line line = concat (codes "sfbank: line " ∷ decimal line ∷ codes ": refused 50 NotNeutral\n" ∷ [])
+
+-- a fault of a WAVE file, by its number and its name
+abbrev pub recording_line : WaveFault → List ℕ
+recording_line fault = named_line (codes "sfbank: wave fault ") (recordings.number_of fault) (recordings.name_of fault)
+
+-- a preset, instrument or sample that does not exist, in a command without script lines
+abbrev pub no_member_line : Cause → List ℕ
+no_member_line cause = named_line (codes "sfbank: refused ") (causes.number_of cause) (causes.name_of cause)
+
+abbrev pub write_line : List ℕ → ℕ → List ℕ
+write_line path written =
+    concat (codes "sfbank: write fault " ∷ path ∷ codes " after " ∷ decimal written ∷ codes " bytes\n" ∷ [])
+
+-- an input that can't be read whole
+abbrev pub file_line : List ℕ → List ℕ
+file_line path = concat (codes "sfbank: file fault " ∷ path ∷ codes "\n" ∷ [])
+
+-- why it can't be read, below that line
+abbrev pub reason_line : List ℕ → List ℕ
+reason_line reason = concat (codes "  " ∷ reason ∷ codes "\n" ∷ [])
+
+-- the reason is shown on a terminal only
+abbrev pub shown_reason : Bool → InputFault → List ℕ
+shown_reason true fault = reason_line (reason_of fault)
+shown_reason false fault = []
+
+-- the report of an input that can't be read whole, on a terminal or elsewhere
+abbrev pub file_text : Bool → List ℕ → InputFault → List ℕ
+file_text is_terminal path fault = file_line path ++ shown_reason is_terminal fault
+
+-- an output that is rejected, by the number and the name of the fault, and its path
+abbrev pub rejected_line : ℕ → List ℕ → List ℕ → List ℕ
+rejected_line number name path =
+    concat
+    (codes "sfbank: output fault " ∷ decimal number ∷ codes " " ∷ name ∷ codes " " ∷ path ∷ codes "\n" ∷ [])
+
+abbrev pub output_line : List ℕ → OutputFault → List ℕ
+output_line path fault = rejected_line (rejected.number_of fault) (rejected.name_of fault) path
+
+-- a number that no fault and no cause has
+abbrev pub unexplained_line : ℕ → List ℕ
+unexplained_line number =
+    concat (codes "error: no fault and no refusal has the number " ∷ decimal number ∷ codes "\n" ∷ [])
+
+-- the line of a run's fault, with its line feed; a write fault has the path
+unfoldable pub fault_line : List ℕ → RunFault → List ℕ
+fault_line path (Read fault) = read_line fault
+fault_line path (ReadFirst fault) = first_read_line fault
+fault_line path (ReadSecond fault) = second_read_line fault
+fault_line path (Script fault) = script_line fault
+fault_line path (Refused line why) = refused_line line why
+fault_line path (NotNeutral line) = not_neutral_line line
+fault_line path OtherVersion = codes "sfbank: refused 51 OtherVersion\n"
+fault_line path (Notes fault) = notes_line fault
+fault_line path (Recording fault) = recording_line fault
+fault_line path (NoMember cause) = no_member_line cause
+fault_line path (Write which written) = write_line path written
+fault_line path Memory = codes "sfbank: out of memory\n"
+
+-- the exit status of a run's fault
+abbrev pub status_of : RunFault → ℕ
+status_of (Read fault) = 2
+status_of (ReadFirst fault) = 2
+status_of (ReadSecond fault) = 2
+status_of (Script fault) = 3
+status_of (Refused line why) = 4
+status_of (NotNeutral line) = 4
+status_of OtherVersion = 4
+status_of (Notes fault) = 3
+status_of (Recording fault) = 2
+status_of (NoMember cause) = 4
+status_of (Write which written) = 5
+status_of Memory = 6

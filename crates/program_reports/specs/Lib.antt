@@ -1,0 +1,3 @@
+pub mod FaultLines
+pub mod RunFaults
+pub mod Reporting

@@ -1,0 +1,300 @@
+//! The lines that report faults.
+ghost use Rattle.std.specs.Prelude.{◌≡◌, IfOk};
+ghost use Rattle.base_outputs.specs.Output.{Puts};
+ghost use Rattle.base_outputs.specs.Writing.{Writes};
+ghost use Rattle.sample_view.specs.Pieces.{joined_bytes};
+ghost use Rattle.program_reports.specs.FaultLines.{fault_line, status_of, read_line, first_read_line, second_read_line, read_text, script_line, notes_line, text_line, refused_line, refused_start, not_neutral_line, named_line, recording_line, no_member_line, write_line, file_line, reason_line, shown_reason, file_text, output_line, rejected_line, unexplained_line};
+
+use crate::run_fault::RunFault;
+use bank_format::ReadFault;
+use base_outputs::{Output, OutputFault, WriteFault};
+use base_texts::Text;
+use edit_refusals::{Cause, Refusal};
+use edit_script::RefusalText;
+use file_host::InputFault;
+use itoa::Buffer;
+use script_notes::NoteFault;
+use script_tokens::ScriptFault;
+use std::io::Write;
+use wave_file::WaveFault;
+
+/// Writes the line of a run's fault, with its line feed, and returns its exit status. The line of a write fault has
+/// `path`.
+pub fn fault_text<W: Write>(fault: &RunFault, path: &str, out: &mut W) -> Result<u8, WriteFault>
+    ensures line { Writes (W.contents out.old) (W.contents out.new) (fault_line path.now fault.now) result }
+    ensures status { IfOk result (λ status. status ≡ status_of fault.now) }
+{
+    let mut output = Output::to(out);
+    put_fault(fault, path, &mut output);
+    output.end()?;
+    Ok(exit_status(fault))
+}
+
+/// The exit status of a run's fault: 2 for a fault of a bank file or a WAVE file, 3 of a script or notes, 4 for a
+/// refused edit, a preset, instrument or sample that does not exist or banks of different versions, 5 for a write
+/// fault, and 6 for a failed allocation.
+pub fn exit_status(fault: &RunFault) -> u8
+    ensures { result ≡ status_of fault.now }
+{
+    match fault {
+        RunFault::Read(_)
+        | RunFault::ReadFirst(_)
+        | RunFault::ReadSecond(_)
+        | RunFault::Recording(_) => 2,
+        RunFault::Script(_) | RunFault::Notes(_) => 3,
+        RunFault::Refused(_, _)
+        | RunFault::NotNeutral(_)
+        | RunFault::OtherVersion
+        | RunFault::NoMember(_) => 4,
+        RunFault::Write(_, _) => 5,
+        RunFault::Memory => 6,
+    }
+}
+
+/// Puts the line of a run's fault. The line of a write fault has `path`.
+#[tactic(auto, unfolding(crate::specs::FaultLines::fault_line))]
+pub(crate) fn put_fault<W: Write>(fault: &RunFault, path: &str, output: &mut Output<'_, W>)
+    ensures { Puts W.contents output.old output.new (fault_line path.now fault.now) }
+{
+    match fault {
+        RunFault::Read(fault) => put_read_fault(*fault, output),
+        RunFault::ReadFirst(fault) => put_first_read_fault(*fault, output),
+        RunFault::ReadSecond(fault) => put_second_read_fault(*fault, output),
+        RunFault::Script(fault) => put_script_fault(*fault, output),
+        RunFault::Notes(fault) => put_notes_fault(*fault, output),
+        RunFault::Refused(line, why) => put_refused(*line, *why, output),
+        RunFault::NotNeutral(line) => put_not_neutral(*line, output),
+        RunFault::OtherVersion => output.put(b"sfbank: refused 51 OtherVersion\n"),
+        RunFault::Recording(fault) => put_recording_fault(*fault, output),
+        RunFault::NoMember(cause) => put_no_member(*cause, output),
+        RunFault::Write(_, written) => put_write_fault(path, *written, output),
+        RunFault::Memory => output.put(b"sfbank: out of memory\n"),
+    }
+}
+
+fn put_read_fault<W: Write>(fault: ReadFault, output: &mut Output<'_, W>)
+    ensures { Puts W.contents output.old output.new (read_line fault) }
+{
+    output.put(b"sfbank: ");
+    put_read_text(fault, output);
+}
+
+// A fault of the first or the second of two files, which help calls A and B.
+fn put_first_read_fault<W: Write>(fault: ReadFault, output: &mut Output<'_, W>)
+    ensures { Puts W.contents output.old output.new (first_read_line fault) }
+{
+    output.put(b"sfbank: A: ");
+    put_read_text(fault, output);
+}
+
+fn put_second_read_fault<W: Write>(fault: ReadFault, output: &mut Output<'_, W>)
+    ensures { Puts W.contents output.old output.new (second_read_line fault) }
+{
+    output.put(b"sfbank: B: ");
+    put_read_text(fault, output);
+}
+
+fn put_read_text<W: Write>(fault: ReadFault, output: &mut Output<'_, W>)
+    ensures { Puts W.contents output.old output.new (read_text fault) }
+{
+    put_named("read fault ", fault.number(), fault.name(), output);
+}
+
+fn put_script_fault<W: Write>(fault: ScriptFault, output: &mut Output<'_, W>)
+    ensures { Puts W.contents output.old output.new (script_line fault) }
+{
+    put_text_fault(fault.line(), fault.number(), fault.name(), output);
+}
+
+fn put_notes_fault<W: Write>(fault: NoteFault, output: &mut Output<'_, W>)
+    ensures { Puts W.contents output.old output.new (notes_line fault) }
+{
+    put_text_fault(fault.line(), fault.number(), fault.name(), output);
+}
+
+// A fault in a line of a text, by its number and its name.
+fn put_text_fault<W: Write>(line: u64, number: u8, name: &str, output: &mut Output<'_, W>)
+    ensures { Puts W.contents output.old output.new (text_line line number name.now) }
+{
+    let mut line_digits = Buffer::new();
+    let mut number_digits = Buffer::new();
+    put_pieces(
+        &[
+            b"sfbank: line ",
+            line_digits.format(line).as_bytes(),
+            b": fault ",
+            number_digits.format(number).as_bytes(),
+            b" ",
+            name.as_bytes(),
+            b"\n",
+        ],
+        output,
+    );
+}
+
+fn put_refused<W: Write>(line: u64, why: Refusal, output: &mut Output<'_, W>)
+    ensures { Puts W.contents output.old output.new (refused_line line why) }
+{
+    put_refused_line(line, output);
+    RefusalText(why).put(output);
+    output.put(b"\n");
+}
+
+// The line that is refused.
+fn put_refused_line<W: Write>(line: u64, output: &mut Output<'_, W>)
+    ensures { Puts W.contents output.old output.new (refused_start line) }
+{
+    let mut digits = Buffer::new();
+    put_pieces(
+        &[
+            b"sfbank: line ",
+            digits.format(line).as_bytes(),
+            b": refused",
+        ],
+        output,
+    );
+}
+
+fn put_not_neutral<W: Write>(line: u64, output: &mut Output<'_, W>)
+    ensures { Puts W.contents output.old output.new (not_neutral_line line) }
+{
+    let mut digits = Buffer::new();
+    put_pieces(
+        &[
+            b"sfbank: line ",
+            digits.format(line).as_bytes(),
+            b": refused 50 NotNeutral\n",
+        ],
+        output,
+    );
+}
+
+// A fault of a WAVE file.
+fn put_recording_fault<W: Write>(fault: WaveFault, output: &mut Output<'_, W>)
+    ensures { Puts W.contents output.old output.new (recording_line fault) }
+{
+    put_named("sfbank: wave fault ", fault.number(), fault.name(), output);
+}
+
+// A preset, instrument or sample that does not exist, in a command without script lines.
+fn put_no_member<W: Write>(cause: Cause, output: &mut Output<'_, W>)
+    ensures { Puts W.contents output.old output.new (no_member_line cause) }
+{
+    put_named("sfbank: refused ", cause.number(), cause.name(), output);
+}
+
+// A line that ends with a number and a name.
+fn put_named<'t, W: Write>(start: &'t str, number: u8, name: &'t str, output: &mut Output<'_, W>)
+    ensures { Puts W.contents output.old output.new (named_line start.now number name.now) }
+{
+    let mut digits = Buffer::new();
+    put_pieces(
+        &[
+            start.as_bytes(),
+            digits.format(number).as_bytes(),
+            b" ",
+            name.as_bytes(),
+            b"\n",
+        ],
+        output,
+    );
+}
+
+fn put_write_fault<W: Write>(path: &str, written: u64, output: &mut Output<'_, W>)
+    ensures { Puts W.contents output.old output.new (write_line path.now written) }
+{
+    let mut number = Buffer::new();
+    put_pieces(
+        &[
+            b"sfbank: write fault ",
+            path.as_bytes(),
+            b" after ",
+            number.format(written).as_bytes(),
+            b" bytes\n",
+        ],
+        output,
+    );
+}
+
+/// Puts the line of an input that can't be read whole, and on a terminal its reason on a second line.
+pub(crate) fn put_file_fault<W: Write>(
+    path: &str,
+    fault: InputFault,
+    is_terminal: bool,
+    output: &mut Output<'_, W>,
+)
+    ensures { Puts W.contents output.old output.new (file_text is_terminal path.now fault) }
+{
+    put_file_line(path, output);
+    put_shown_reason(fault, is_terminal, output);
+}
+
+fn put_file_line<W: Write>(path: &str, output: &mut Output<'_, W>)
+    ensures { Puts W.contents output.old output.new (file_line path.now) }
+{
+    put_pieces(&[b"sfbank: file fault ", path.as_bytes(), b"\n"], output);
+}
+
+// Only on a terminal: programs that read the line expect nothing after it.
+fn put_shown_reason<W: Write>(fault: InputFault, is_terminal: bool, output: &mut Output<'_, W>)
+    ensures { Puts W.contents output.old output.new (shown_reason is_terminal fault) }
+{
+    if is_terminal {
+        put_reason(fault.reason(), output);
+    }
+}
+
+fn put_reason<W: Write>(reason: &str, output: &mut Output<'_, W>)
+    ensures { Puts W.contents output.old output.new (reason_line reason.now) }
+{
+    put_pieces(&[b"  ", reason.as_bytes(), b"\n"], output);
+}
+
+/// Puts the line of an output that is rejected.
+pub(crate) fn put_output_fault<W: Write>(path: &str, fault: OutputFault, output: &mut Output<'_, W>)
+    ensures { Puts W.contents output.old output.new (output_line path.now fault) }
+{
+    put_rejected(fault.number(), fault.name(), path, output);
+}
+
+fn put_rejected<'t, W: Write>(number: u8, name: &'t str, path: &'t str, output: &mut Output<'_, W>)
+    ensures { Puts W.contents output.old output.new (rejected_line number name.now path.now) }
+{
+    let mut digits = Buffer::new();
+    put_pieces(
+        &[
+            b"sfbank: output fault ",
+            digits.format(number).as_bytes(),
+            b" ",
+            name.as_bytes(),
+            b" ",
+            path.as_bytes(),
+            b"\n",
+        ],
+        output,
+    );
+}
+
+/// Puts the line for a number that no fault and no cause has.
+pub(crate) fn put_unexplained<W: Write>(number: u32, output: &mut Output<'_, W>)
+    ensures { Puts W.contents output.old output.new (unexplained_line number) }
+{
+    let mut digits = Buffer::new();
+    put_pieces(
+        &[
+            b"error: no fault and no refusal has the number ",
+            digits.format(number).as_bytes(),
+            b"\n",
+        ],
+        output,
+    );
+}
+
+/// Puts the pieces in order.
+pub(crate) fn put_pieces<W: Write>(pieces: &[&[u8]], output: &mut Output<'_, W>)
+    ensures { Puts W.contents output.old output.new (joined_bytes pieces.now) }
+{
+    for piece in pieces {
+        output.put(piece);
+    }
+}

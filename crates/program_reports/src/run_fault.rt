@@ -1,0 +1,134 @@
+//! Why a run fails.
+ghost use Rattle.std.specs.Prelude.{◌≡◌};
+ghost use Rattle.program_reports.specs.declared.run_fault.RunFault.TheVariants.{Read, ReadFirst, ReadSecond, Script, Notes, Recording, Memory};
+ghost use Rattle.program_reports.specs.RunFaults.{in_run};
+
+use bank_format::ReadFault;
+use edit_refusals::{Cause, Refusal};
+use file_host::Which;
+use script_notes::NoteFault;
+use script_tokens::ScriptFault;
+use sf_base::{Failure, OutOfMemory};
+use std::alloc::AllocFailed;
+use thiserror::Error;
+use wave_file::WaveFault;
+
+/// Why a run fails.
+#[derive(Drop, Clone, Copy, Debug, PartialEq, Eq, Error)]
+pub enum RunFault {
+    /// The first failed check of reading the file.
+    #[error("{0}")]
+    Read(ReadFault),
+    /// The same for the first of two files.
+    #[error("A: {0}")]
+    ReadFirst(ReadFault),
+    /// The same for the second of two files.
+    #[error("B: {0}")]
+    ReadSecond(ReadFault),
+    /// The first fault of the script.
+    #[error("{0}")]
+    Script(ScriptFault),
+    /// The first refused line, and why. A failed allocation in an edit is `Memory` instead.
+    #[error("line {0}: {1}")]
+    Refused(u64, Refusal),
+    /// The first line with an edit that is not neutral, in a run that accepts neutral edits only.
+    #[error("line {0}: this edit may change the sound of notes")]
+    NotNeutral(u64),
+    /// The minor versions of two banks differ.
+    #[error("the banks are of different versions")]
+    OtherVersion,
+    /// The first fault of the notes.
+    #[error("{0}")]
+    Notes(NoteFault),
+    /// The first failed check of reading the WAVE file.
+    #[error("{0}")]
+    Recording(WaveFault),
+    /// The bank has no preset, instrument or sample of this number.
+    #[error("{0}")]
+    NoMember(Cause),
+    /// A writer accepted exactly this many bytes of its text, or all of them but failed to flush.
+    #[error("write fault after {1} bytes")]
+    Write(Which, u64),
+    /// An allocation failed.
+    #[error("out of memory")]
+    Memory,
+}
+
+impl RunFault {
+    /// The run's fault for the first of two banks that can't be read.
+    pub fn of_first(failure: Failure<ReadFault>) -> RunFault
+        ensures { result ≡ in_run ReadFirst failure }
+    {
+        match failure {
+            Failure::Fault(fault) => RunFault::ReadFirst(fault),
+            Failure::OutOfMemory => RunFault::Memory,
+        }
+    }
+
+    /// The run's fault for the second of two banks that can't be read.
+    pub fn of_second(failure: Failure<ReadFault>) -> RunFault
+        ensures { result ≡ in_run ReadSecond failure }
+    {
+        match failure {
+            Failure::Fault(fault) => RunFault::ReadSecond(fault),
+            Failure::OutOfMemory => RunFault::Memory,
+        }
+    }
+}
+
+impl From<Failure<ReadFault>> for RunFault {
+    ghost from_gives = { λ failure fault. fault ≡ in_run Read failure };
+
+    fn from(failure: Failure<ReadFault>) -> RunFault {
+        match failure {
+            Failure::Fault(fault) => RunFault::Read(fault),
+            Failure::OutOfMemory => RunFault::Memory,
+        }
+    }
+}
+
+impl From<Failure<ScriptFault>> for RunFault {
+    ghost from_gives = { λ failure fault. fault ≡ in_run Script failure };
+
+    fn from(failure: Failure<ScriptFault>) -> RunFault {
+        match failure {
+            Failure::Fault(fault) => RunFault::Script(fault),
+            Failure::OutOfMemory => RunFault::Memory,
+        }
+    }
+}
+
+impl From<Failure<NoteFault>> for RunFault {
+    ghost from_gives = { λ failure fault. fault ≡ in_run Notes failure };
+
+    fn from(failure: Failure<NoteFault>) -> RunFault {
+        match failure {
+            Failure::Fault(fault) => RunFault::Notes(fault),
+            Failure::OutOfMemory => RunFault::Memory,
+        }
+    }
+}
+
+impl From<WaveFault> for RunFault {
+    ghost from_gives = { λ fault reported. reported ≡ Recording fault };
+
+    fn from(fault: WaveFault) -> RunFault {
+        RunFault::Recording(fault)
+    }
+}
+
+impl From<OutOfMemory> for RunFault {
+    ghost from_gives = { λ _ fault. fault ≡ Memory };
+
+    fn from(_error: OutOfMemory) -> RunFault {
+        RunFault::Memory
+    }
+}
+
+impl<T: Drop> From<AllocFailed<T>> for RunFault {
+    ghost from_gives = { λ _ fault. fault ≡ Memory };
+
+    fn from(_error: AllocFailed<T>) -> RunFault {
+        RunFault::Memory
+    }
+}
