@@ -8,11 +8,8 @@ mod device;
 mod disk;
 mod identity;
 mod keeping;
-mod memory;
 mod names;
 mod new_file;
-#[cfg(test)]
-mod output_tests;
 mod pair;
 mod reading;
 mod resolving;
@@ -20,12 +17,9 @@ mod saving;
 mod stream;
 mod system;
 mod target;
-#[cfg(test)]
-mod tests;
 
 pub use device::Device;
 pub use disk::Disk;
-pub use memory::{Behaviour, MemoryDevice, MemoryStream};
 pub use stream::SystemStream;
 pub use system::System;
 pub use target::{StoredFile, Target};

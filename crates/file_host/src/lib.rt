@@ -7,8 +7,6 @@ mod host;
 mod input_fault;
 mod memory;
 mod saved;
-#[cfg(test)]
-mod tests;
 
 pub use checks::{begins_as_bank, check_apart, check_no_bank};
 pub use faults::{PairFault, Which};

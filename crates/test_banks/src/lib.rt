@@ -13,6 +13,4 @@ mod lists;
 #[cfg(test)]
 mod long_work;
 #[cfg(test)]
-mod program;
-#[cfg(test)]
 mod writers;

@@ -1,8 +1,7 @@
 //! A device in memory, for tests, which fails at a call that the test picks.
 ghost use Rattle.std.specs.Prelude.{None, false};
 
-use crate::device::Device;
-use crate::target::{StoredFile, Target};
+use file_disk::{Device, StoredFile, Target};
 use file_host::InputFault;
 use sf_base::Failure;
 use std::alloc::{AllocError, Global};
@@ -14,19 +13,19 @@ const PIECE: usize = 3;
 
 /// How a device in memory behaves.
 #[derive(Clone, Copy)]
-pub struct Behaviour {
+pub(crate) struct Behaviour {
     /// The number of calls before one fails.
-    pub calls: u64,
+    pub(crate) calls: u64,
     /// Whether all calls after that one fail too.
-    pub is_broken: bool,
+    pub(crate) is_broken: bool,
     /// Whether files can be linked.
-    pub has_links: bool,
+    pub(crate) has_links: bool,
 }
 
 /// A device in memory. Each path is a file of its own, but a path that begins with `pipe` is written in place. Its clauses
 /// are empty: it tests what the contracts of `Disk` leave open, such as that no temporary file is left.
 #[derive(Drop)]
-pub struct MemoryDevice {
+pub(crate) struct MemoryDevice {
     alloc: Global,
     behaviour: Behaviour,
     files: Vec<MemoryFile>,
@@ -44,7 +43,7 @@ struct MemoryFile {
 
 impl MemoryDevice {
     /// A device without files.
-    pub fn new(alloc: Global, behaviour: Behaviour) -> MemoryDevice {
+    pub(crate) fn new(alloc: Global, behaviour: Behaviour) -> MemoryDevice {
         MemoryDevice {
             alloc,
             behaviour,
@@ -56,7 +55,7 @@ impl MemoryDevice {
     }
 
     /// Puts a file at a path where nothing is.
-    pub fn put(&mut self, path: &str, bytes: &[u8]) -> Result<(), AllocError> {
+    pub(crate) fn put(&mut self, path: &str, bytes: &[u8]) -> Result<(), AllocError> {
         let path = String::from_str(self.alloc, path)?;
         let bytes = Vec::from_slice(self.alloc, bytes)?;
         self.files.push(MemoryFile { path, bytes })?;
@@ -64,13 +63,13 @@ impl MemoryDevice {
     }
 
     /// Returns the bytes of the file at a path.
-    pub fn file(&self, path: &str) -> Option<&[u8]> {
+    pub(crate) fn file(&self, path: &str) -> Option<&[u8]> {
         let file = self.files.get(self.find(path)?)?;
         Some(file.bytes.as_slice())
     }
 
     /// Returns how many files there are.
-    pub fn count(&self) -> usize {
+    pub(crate) fn count(&self) -> usize {
         self.files.len()
     }
 
@@ -123,13 +122,13 @@ impl MemoryDevice {
 
 /// A stream of a device in memory, which keeps what is written.
 #[derive(Drop)]
-pub struct MemoryStream {
+pub(crate) struct MemoryStream {
     bytes: Vec<u8>,
 }
 
 impl MemoryStream {
     /// Returns what was written.
-    pub fn bytes(&self) -> &[u8] {
+    pub(crate) fn bytes(&self) -> &[u8] {
         self.bytes.as_slice()
     }
 }

@@ -1,7 +1,8 @@
 //! Checks of outputs, and streams, on a device in memory and on real files.
 
-use crate::{Behaviour, Disk, MemoryDevice, System};
+use crate::memory_device::{Behaviour, MemoryDevice};
 use base_outputs::{OutputFault, put_all};
+use file_disk::{Disk, System};
 use file_host::{Host, check_apart, check_no_bank};
 use sf_base::Failure;
 use std::alloc::{AllocError, Global};

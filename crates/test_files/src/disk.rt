@@ -1,26 +1,14 @@
 //! Saves and reads on a device in memory that fails at each call in turn.
 
-use crate::{Behaviour, Disk, MemoryDevice};
-use base_outputs::Output;
-use base_texts::Text;
+use crate::memory_device::{Behaviour, MemoryDevice};
+use crate::texts::Bytes;
+use file_disk::Disk;
 use file_host::{Host, InputFault, PairFault};
 use sf_base::Failure;
 use std::alloc::Global;
-use std::io::Write;
 
 /// More calls than any run below makes.
 const MOST_CALLS: u64 = 200;
-
-/// Bytes as they are.
-struct Bytes<'a>(&'a [u8]);
-
-impl Text for Bytes<'_> {
-    ghost bytes = { λ text. text.0.now };
-
-    fn put<W: Write>(&self, output: &mut Output<'_, W>) {
-        output.put(self.0);
-    }
-}
 
 const OLD: &[u8] = b"the old bank";
 

@@ -1,21 +1,9 @@
 //! Tests of the host in memory.
 
-use crate::{Host, InputFault, MemoryHost, PairFault, Which, check_apart, check_no_bank};
-use base_outputs::{Output, OutputFault, WriteFault};
-use base_texts::Text;
+use crate::texts::Bytes;
+use base_outputs::{OutputFault, WriteFault};
+use file_host::{Host, InputFault, MemoryHost, PairFault, Which, check_apart, check_no_bank};
 use sf_base::Failure;
-use std::io::Write;
-
-/// Bytes as they are.
-struct Bytes<'a>(&'a [u8]);
-
-impl Text for Bytes<'_> {
-    ghost bytes = { λ text. text.0.now };
-
-    fn put<W: Write>(&self, output: &mut Output<'_, W>) {
-        output.put(self.0);
-    }
-}
 
 #[test]
 fn a_saved_text_is_read_back(rt: HostRuntime) {

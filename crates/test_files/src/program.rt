@@ -1,6 +1,7 @@
 //! Tests of the program that the checks cannot run: no argument, a terminal, and a device that fails at each call.
 
-use file_disk::{Behaviour, Disk, MemoryDevice, System};
+use crate::memory_device::{Behaviour, MemoryDevice};
+use file_disk::{Disk, System};
 use file_host::Host;
 use program_reports::Watched;
 use sfbank::{NoReports, run};
