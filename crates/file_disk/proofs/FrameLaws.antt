@@ -1,13 +1,14 @@
 -- What stays while one file is written.
-use Rattle.std.proofs.Common.{◌≡◌, ℕ, List, [], ◌++◌, take, Option, Some, None, Result, Ok, Err, refl, sym, ap, subst, ◌∙◌}
+use Rattle.std.proofs.Common.{◌≡◌, ℕ, List, [], ◌++◌, take, Option, Some, None, Result, Ok, Err, refl, sym, ap, subst, ◌∙◌, inl, inr}
 use Rattle.std.specs.Prelude.{IfOk, OnErr}
 use Rattle.std.specs.Option.{option_map}
 use Rattle.std.specs.Io.KnownBytes.{Appends, Keeps, WriteAppends}
 use Rattle.file_host.specs.declared.input_fault.InputFault.{InputFault}
+use Rattle.file_host.specs.declared.input_fault.InputFault.TheVariants.{NotFound}
 use Rattle.file_host.specs.World.{World, held_at, with_file}
 use Rattle.file_disk.specs.Devices.{IsOpen, grown, bytes_in}
-use Rattle.file_disk.specs.Frames.{Frame, IsEmptyAt, known_bytes, known_at}
-use Rattle.file_disk.proofs.WorldLaws.{holds}
+use Rattle.file_disk.specs.Frames.{Frame, IsEmptyAt, MayLose, known_bytes, known_at}
+use Rattle.file_disk.proofs.WorldLaws.{holds, keeps, overwrites}
 
 bytes_kept : (held : Option (List ℕ)) → Keeps held held
 bytes_kept None = tt
@@ -59,3 +60,40 @@ whole_written None None path text f empty a = refl
 whole_written None (Some n) path text f empty a = cc
 whole_written (Some b) None path text f empty a = cc
 whole_written (Some b) (Some n) path text f empty a = whole b n path text f empty a
+
+-- ---- all but one file is as it was
+
+pub frame_self : (old : Option World) (path : List ℕ) → Frame old old path
+frame_self None path = refl
+frame_self (Some w) path = ap (λ (x : World). Some x) (sym (keeps w path (held_at w path) refl))
+
+pub framed : (w : World) (path : List ℕ) (left : Result (List ℕ) InputFault) → Frame (Some w) (Some (with_file path left w)) path
+framed w path left =
+    ap (λ (x : Result (List ℕ) InputFault). Some (with_file path x w)) (sym (holds w path left))
+
+pub frame_put : (old now : Option World) (path : List ℕ) (left : Result (List ℕ) InputFault)
+    → now ≡ option_map (with_file path left) old → Frame old now path
+frame_put None now path left e = e
+frame_put (Some w) now path left e =
+    subst (λ (x : Option World). Frame (Some w) x path) (sym e) (framed w path left)
+
+frame_over : (b m n : World) (path : List ℕ) → Frame (Some b) (Some m) path → Frame (Some m) (Some n) path
+    → Frame (Some b) (Some n) path
+frame_over b m n path f g =
+    g ∙ ap (option_map (with_file path (held_at n path))) f
+    ∙ ap (λ (x : World). Some x) (overwrites b path (held_at m path) (held_at n path))
+
+pub frame_then : (base mid now : Option World) (path : List ℕ) → Frame base mid path → Frame mid now path
+    → Frame base now path
+frame_then None None now path f g = g
+frame_then None (Some m) now path f g = cc
+frame_then (Some b) None now path f g = cc
+frame_then (Some b) (Some m) None path f g = cc
+frame_then (Some b) (Some m) (Some n) path f g = frame_over b m n path f g
+
+pub frame_same : (base old now : Option World) (path : List ℕ) → Frame base old path → now ≡ old → Frame base now path
+frame_same base old now path f e = subst (λ (x : Option World). Frame base x path) (sym e) f
+
+pub frame_lost : (old now : Option World) (path : List ℕ) → MayLose old now path → Frame old now path
+frame_lost old now path (inl same) = subst (λ (x : Option World). Frame old x path) (sym same) (frame_self old path)
+frame_lost old now path (inr gone) = frame_put old now path (Err NotFound) gone

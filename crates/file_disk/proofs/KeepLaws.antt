@@ -8,9 +8,10 @@ use Rattle.file_host.specs.declared.input_fault.InputFault.TheVariants.{NotFound
 use Rattle.file_host.specs.World.{Paths, World, place_of, held_at, with_file, without_file}
 use Rattle.file_disk.specs.declared.target.StoredFile.{StoredFile}
 use Rattle.file_disk.specs.Devices.{IsNew, IsTarget, IsTemporary, moved, linked, kept_as, kept_moved}
-use Rattle.file_disk.specs.Frames.{IfKnown, IsFileOrLasting, Litters, MayLose}
+use Rattle.file_disk.specs.Frames.{Frame, IfKnown, IsFileOrLasting, Litters, MayLose, held_of}
 use Rattle.file_disk.specs.Pairs.{IsThere, UndoFails}
 use Rattle.file_host.proofs.FileLaws.{put_beside}
+use Rattle.file_disk.proofs.FrameLaws.{frame_lost, frame_put, frame_then}
 use Rattle.file_disk.proofs.WorldLaws.{overwrites, swaps, keeps, holds, holds_beside, apart_by}
 
 -- a place that a temporary file was put at is neither that of a file nor a lasting one
@@ -57,17 +58,19 @@ move_done (Some w) made now path old free there e f =
     f ∙ ap (option_map (moved path old)) e
     ∙ ap (λ (x : World). Some x) (move_over w path old (Ok []) (apart_by w path old there free.nothing))
 
--- the file that took the name was removed, or it could not be
-pub move_failed : (before made now : Option World) (old : List ℕ) → IsNew before old → IsTemporary old
-    → made ≡ option_map (with_file old (Ok [])) before → MayLose made now old → IfKnown Litters before now
-move_failed None made now old free named e lost = none_stays Litters now (none_lost made now old e lost)
-move_failed (Some w) made now old free named e (inl same) =
-    subst (λ (x : Option World). IfKnown Litters (Some w) x) (sym (same ∙ e)) (litters_put w old (Ok []) free.nothing named)
-move_failed (Some w) made now old free named e (inr gone) =
-    subst (λ (x : Option World). IfKnown Litters (Some w) x)
-    (sym (gone ∙ ap (option_map (without_file old)) e
-    ∙ ap (λ (x : World). Some x) (overwrites w old (Ok []) (Err NotFound))))
-    (litters_put w old (Err NotFound) free.nothing named)
+-- only a new file changed
+pub new_left : (before now : Option World) (new : List ℕ) → IsNew before new → IsTemporary new → Frame before now new
+    → IfKnown Litters before now
+new_left None now new free named f = none_stays Litters now f
+new_left (Some w) now new free named f =
+    subst (λ (x : Option World). IfKnown Litters (Some w) x) (sym f) (litters_put w new (held_of now new) free.nothing named)
+
+-- it was removed, or it could not be
+pub new_failed : (before made now : Option World) (new : List ℕ) (left : Result (List ℕ) InputFault) → IsNew before new
+    → IsTemporary new → made ≡ option_map (with_file new left) before → MayLose made now new → IfKnown Litters before now
+new_failed before made now new left free named e lost =
+    new_left before now new free named
+    (frame_then before made now new (frame_put before made new left e) (frame_lost made now new lost))
 
 -- ---- a new file in the place of one that is kept
 

@@ -5,3 +5,7 @@ pub mod KeepLaws
 pub mod PairLaws
 pub mod SaveLaws
 pub mod BankLaws
+pub mod CrashLaws
+pub mod CrashSaveLaws
+pub mod CrashKeepLaws
+pub mod CrashPairLaws

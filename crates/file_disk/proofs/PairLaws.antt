@@ -149,7 +149,7 @@ pub record Ready (w : World) (is_there : Bool) (undo_path new_undo path new_text
 pub back_to : {x y : List ℕ} → x ≢ y → y ≢ x
 back_to apart e = apart (sym e)
 
-moved_beside : (w : World) (from to other : List ℕ) (left : Result (List ℕ) InputFault) → place_of w from ≢ place_of w other
+pub moved_beside : (w : World) (from to other : List ℕ) (left : Result (List ℕ) InputFault) → place_of w from ≢ place_of w other
     → place_of w to ≢ place_of w other → moved from to (with_file other left w) ≡ with_file other left (moved from to w)
 moved_beside w from to other left from_apart to_apart =
     ap (λ (x : Result (List ℕ) InputFault). with_file to x (without_file from (with_file other left w)))
@@ -158,7 +158,7 @@ moved_beside w from to other left from_apart to_apart =
     ∙ swaps (without_file from w) to other (held_at w from) left to_apart
 
 -- a file elsewhere stays over a move
-held_over : (w : World) (from to asked : List ℕ) → place_of w asked ≢ place_of w from → place_of w asked ≢ place_of w to
+pub held_over : (w : World) (from to asked : List ℕ) → place_of w asked ≢ place_of w from → place_of w asked ≢ place_of w to
     → held_at (moved from to w) asked ≡ held_at w asked
 held_over w from to asked from_apart to_apart =
     holds_beside (without_file from w) to asked (held_at w from) to_apart

@@ -11,12 +11,12 @@ use Rattle.file_host.specs.declared.faults.PairFault.TheVariants as pair
 use Rattle.file_host.specs.Saving.{IsMovedAway, PairFails, SpoilsPair, SpoilsTwo}
 use Rattle.file_disk.specs.declared.target.StoredFile.{StoredFile}
 use Rattle.file_disk.specs.declared.target.Target.TheVariants.{Stores}
-use Rattle.file_disk.specs.Devices.{IsNew, IsTarget, IsTemporary, Leads, LeadsTo}
+use Rattle.file_disk.specs.Devices.{IsNew, IsTarget, IsTemporary, Leads, LeadsTo, moved}
 use Rattle.file_disk.specs.Frames.{IfKnown, IsFileOrLasting, Litters, Makes, MayLose}
-use Rattle.file_disk.specs.Pairs.{BothFail, both_saved}
+use Rattle.file_disk.specs.Pairs.{BothFail, both_saved, puts_both}
 use Rattle.file_host.proofs.FileLaws.{put_beside}
-use Rattle.file_disk.proofs.WorldLaws.{holds, holds_beside, apart_by, is_with_text}
-use Rattle.file_disk.proofs.PairLaws.{Loses, loses_of, back_to, at_place, shift_place}
+use Rattle.file_disk.proofs.WorldLaws.{holds, holds_beside, apart_by, is_with_text, put_in_place}
+use Rattle.file_disk.proofs.PairLaws.{Loses, loses_of, back_to, at_place, moved_beside, shift_place}
 use Rattle.file_disk.proofs.KeepLaws.{off_new}
 
 -- ---- a file is where it was after a temporary one is made
@@ -40,6 +40,15 @@ target_after None now new text file made t = subst (λ (x : Option World). IsTar
 target_after (Some w) now new text file made t =
     subst (λ (x : Option World). IsTarget x file) (sym made.world)
     (target_put w new (string_bytes file.path) (Ok text) file.is_there made.named t)
+
+-- ---- one file
+
+pub replaced : (before made now : Option World) (new real text : List ℕ) → Makes before made new text
+    → now ≡ option_map (moved new real) made → now ≡ option_map (with_file real (Ok text)) before
+replaced None made now new real text m e = e ∙ ap (option_map (moved new real)) m.world
+replaced (Some w) made now new real text m e =
+    e ∙ ap (option_map (moved new real)) m.world
+    ∙ ap (λ (x : World). Some x) (put_in_place w new real (Ok text) m.free.nothing)
 
 -- ---- only temporary files are left
 
@@ -248,6 +257,43 @@ both_spoiled (Some w) mid made now undo_file file new_undo new_text undo text t 
     })
     (subst (λ (x : Option World). IfKnown (BothFail (string_bytes undo_file.path) new_undo (string_bytes file.path) new_text) x now)
     (q.world ∙ ap (option_map (with_file new_text (Ok text))) p.world) f)
+
+-- ---- both new files are put in place
+
+both_put : (w : World) (undo_path new_undo path new_text undo text : List ℕ) → Made w undo_path new_undo path new_text undo
+    → puts_both undo_path new_undo path new_text (with_file new_text (Ok text) (with_file new_undo (Ok undo) w))
+    ≡ both_saved undo_path undo path text w
+both_put w undo_path new_undo path new_text undo text k =
+    let v = with_file new_undo (Ok undo) w in
+    let x = with_file undo_path (Ok undo) w in
+    let off = k.undo_apart new_text k.text_named in
+    let undo_put : moved new_undo undo_path (with_file new_text (Ok text) v) ≡ with_file new_text (Ok text) x =
+    moved_beside v new_undo undo_path new_text (Ok text) (two_apart w undo_path new_undo path new_text undo k) (back_to off)
+    ∙ ap (with_file new_text (Ok text)) (put_in_place w new_undo undo_path (Ok undo) k.undo_free) in
+    ap (moved new_text path) undo_put
+    ∙ put_in_place x new_text path (Ok text)
+    (holds_beside w undo_path new_text (Ok undo) off ∙ none_there w undo_path new_undo path new_text undo k)
+
+pub both_in_place : (before mid made now : Option World) (undo_file file : StoredFile) (new_undo new_text undo text : List ℕ)
+    → IsTarget before undo_file → IsTarget before file → Makes before mid new_undo undo → Makes mid made new_text text
+    → now ≡ option_map (puts_both (string_bytes undo_file.path) new_undo (string_bytes file.path) new_text) made
+    → now ≡ option_map (both_saved (string_bytes undo_file.path) undo (string_bytes file.path) text) before
+both_in_place None mid made now undo_file file new_undo new_text undo text t u p q e =
+    e ∙ ap (option_map (puts_both (string_bytes undo_file.path) new_undo (string_bytes file.path) new_text))
+    (q.world ∙ ap (option_map (with_file new_text (Ok text))) p.world)
+both_in_place (Some w) mid made now undo_file file new_undo new_text undo text t u p q e =
+    e ∙ ap (option_map (puts_both (string_bytes undo_file.path) new_undo (string_bytes file.path) new_text))
+    (q.world ∙ ap (option_map (with_file new_text (Ok text))) p.world)
+    ∙ ap (λ (x : World). Some x)
+    (both_put w (string_bytes undo_file.path) new_undo (string_bytes file.path) new_text undo text
+    record {
+      undo_apart = t.apart;
+      path_apart = u.apart;
+      undo_named = p.named;
+      text_named = q.named;
+      undo_free = p.free.nothing;
+      text_free = free_after w mid new_undo new_text undo p.world q.free;
+    })
 
 -- ---- what a path leads to
 

@@ -57,6 +57,11 @@ abbrev pub IsNew : Option World → List ℕ → Type 0
 IsNew None path = ⊤
 IsNew (Some world) path = IsFree world path
 
+-- no temporary file is at the place of a path, as far as is known
+abbrev pub IsLasting : Option World → List ℕ → Type 0
+IsLasting None path = ⊤
+IsLasting (Some world) path = (other : List ℕ) → IsTemporary other → place_of world other ≢ place_of world path
+
 -- a path is no link, as far as is known
 abbrev pub IsDirect : Option World → List ℕ → Type 0
 IsDirect None path = ⊤

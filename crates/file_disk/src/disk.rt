@@ -1,6 +1,10 @@
 //! Files on a device.
-ghost use Rattle.std.specs.Prelude.{◌≡◌};
+ghost use Rattle.std.specs.Prelude.{◌≡◌, IfErr, OnOk};
+ghost use Rattle.std.specs.Option.{option_map};
+ghost use Rattle.file_host.specs.World.{with_pair, with_text};
+ghost use Rattle.file_host.specs.Saving.{Counts, CountsPair, PairFails, SaveFails};
 ghost use Rattle.file_disk.specs.Devices.{world_in};
+ghost use Rattle.file_disk.specs.Crashes.{FromKnown, LeavesPair, LeavesText, Since, past_in};
 
 use crate::bank::has_bank;
 use crate::device::Device;
@@ -56,7 +60,13 @@ impl<D: Device + Drop> Host for Disk<D> {
         }
     }
 
-    fn save<T: Text>(&mut self, path: &str, text: &T) -> Result<(), Failure<WriteFault>> {
+    // After a crash at any moment, a file that was there holds its old bytes or the whole text.
+    fn save<T: Text>(&mut self, path: &str, text: &T) -> Result<(), Failure<WriteFault>>
+        ensures saved { OnOk result (world_in D.world self.new.device ≡ option_map (with_text path.now (T.bytes text.now)) (world_in D.world self.old.device)) }
+        ensures failed { IfErr result (SaveFails (world_in D.world self.old.device) (world_in D.world self.new.device) path.now (T.bytes text.now)) }
+        ensures counted { IfErr result (Counts self.new.written) }
+        ensures crash { Since (past_in D.past self.old.device) (past_in D.past self.new.device) (FromKnown (LeavesText path.now (T.bytes text.now)) (world_in D.durable self.old.device)) }
+    {
         let Some(device) = self.device.take() else {
             return Err(Failure::OutOfMemory);
         };
@@ -68,13 +78,20 @@ impl<D: Device + Drop> Host for Disk<D> {
         answer
     }
 
+    // After a crash at any moment, a file that was there for the text holds its old bytes or the whole text, and then the
+    // undo script is whole.
     fn save_pair<U: Text, T: Text>(
         &mut self,
         undo_path: &str,
         undo: &U,
         path: &str,
         text: &T,
-    ) -> Result<(), PairFault> {
+    ) -> Result<(), PairFault>
+        ensures saved { OnOk result (world_in D.world self.new.device ≡ option_map (with_pair undo_path.now (U.bytes undo.now) path.now (T.bytes text.now)) (world_in D.world self.old.device)) }
+        ensures failed { IfErr result (PairFails (world_in D.world self.old.device) (world_in D.world self.new.device) undo_path.now (U.bytes undo.now) path.now (T.bytes text.now)) }
+        ensures counted { IfErr result (CountsPair self.new.written) }
+        ensures crash { Since (past_in D.past self.old.device) (past_in D.past self.new.device) (FromKnown (LeavesPair undo_path.now (U.bytes undo.now) path.now (T.bytes text.now)) (world_in D.durable self.old.device)) }
+    {
         let Some(device) = self.device.take() else {
             return Err(PairFault::OutOfMemory);
         };

@@ -4,6 +4,7 @@ ghost use Rattle.std.specs.Option.{option_map};
 ghost use Rattle.file_disk.specs.Devices.{IsDirect, IsNew, IsTarget, IsTemporary, kept_as, kept_moved, linked, moved};
 ghost use Rattle.file_disk.specs.Frames.{IfKnown, Litters};
 ghost use Rattle.file_disk.specs.Pairs.{IsThere, KeepFails, UndoFails};
+ghost use Rattle.file_disk.specs.Crashes.{HasMoved, KeepsFilesBut, Leaves};
 
 use crate::device::Device;
 use crate::names::{NUMBERS, set_name};
@@ -40,6 +41,8 @@ pub(crate) fn put_and_keep<D: Device>(
     ensures free { OnOk result (file.now.is_there ≡ true → IsNew (D.world device.old) (string_bytes old_path.new)) }
     ensures failed { OnErr result (IfKnown (UndoFails (string_bytes file.now.path)) (D.world device.old) (D.world device.new)) }
     ensures clean { is_synced ≡ true → D.is_dirty device.new ≡ false }
+    ensures crash { Leaves (KeepsFilesBut (string_bytes file.now.path) new_path.now) (D.past device.old) (D.past device.new) (D.durable device.old) (D.durable device.new) }
+    ensures moved { OnOk result (IfKnown (HasMoved new_path.now (string_bytes file.now.path)) (D.durable device.old) (D.durable device.new)) }
 {
     if !file.is_there {
         return put_in_place(device, new_path, file, is_synced);
@@ -73,6 +76,7 @@ fn keep_old<D: Device>(
     ensures free { OnOk result (IsNew (D.world device.old) (string_bytes old_path.new)) }
     ensures failed { OnErr result (IfKnown Litters (D.world device.old) (D.world device.new)) }
     ensures clean { D.is_dirty device.new ≡ false }
+    ensures crash { Leaves (KeepsFilesBut (string_bytes file.now.path) (string_bytes file.now.path)) (D.past device.old) (D.past device.new) (D.durable device.old) (D.durable device.new) }
 {
     for number in 1..=NUMBERS {
         set_name(old_path, file.path.as_str(), "/sfbank-old-", number)?;
@@ -101,6 +105,7 @@ fn keep_as<D: Device>(
     ensures free { OnOk result (IsNew (D.world device.old) old_path.now) }
     ensures failed { IfErr result (KeepFails (D.world device.old) (D.world device.new)) }
     ensures clean { D.is_dirty device.new ≡ false }
+    ensures crash { Leaves (KeepsFilesBut (string_bytes file.now.path) (string_bytes file.now.path)) (D.past device.old) (D.past device.new) (D.durable device.old) (D.durable device.new) }
 {
     if is_owned {
         match device.link(file.path.as_str(), old_path) {
@@ -125,6 +130,7 @@ fn move_to<D: Device>(device: &mut D, file: &StoredFile, old_path: &str) -> Resu
     ensures free { OnOk result (IsNew (D.world device.old) old_path.now) }
     ensures failed { IfErr result (KeepFails (D.world device.old) (D.world device.new)) }
     ensures clean { D.is_dirty device.new ≡ false }
+    ensures crash { Leaves (KeepsFilesBut (string_bytes file.now.path) (string_bytes file.now.path)) (D.past device.old) (D.past device.new) (D.durable device.old) (D.durable device.new) }
 {
     match device.create_new(old_path, true) {
         Ok(()) => {}

@@ -4,6 +4,7 @@ ghost use Rattle.std.specs.Option.{option_map};
 ghost use Rattle.file_host.specs.World.{with_file};
 ghost use Rattle.file_disk.specs.Devices.{IsNew, IsOpen, IsTemporary};
 ghost use Rattle.file_disk.specs.Names.{IsNumbered};
+ghost use Rattle.file_disk.specs.Crashes.{ChangesIfOk, Passes};
 
 use crate::device::Device;
 use itoa::Buffer;
@@ -60,6 +61,8 @@ pub(crate) fn create_beside<D: Device>(
     ensures made { OnOk result (D.world device.new ≡ option_map (with_file (string_bytes name.new) (Ok [])) (D.world device.old)) }
     ensures stays { OnErr result (D.world device.new ≡ D.world device.old) }
     ensures clean { OnOk result (D.is_dirty device.new ≡ false) }
+    ensures left { ChangesIfOk result (with_file (string_bytes name.new) (Ok [])) (D.durable device.old) (D.durable device.new) }
+    ensures crash { Passes (D.past device.old) (D.past device.new) (D.durable device.old) (D.durable device.new) }
 {
     for number in 1..=NUMBERS {
         set_name(name, path, "/sfbank-new-", number)?;

@@ -6,6 +6,7 @@ ghost use Rattle.base_outputs.specs.Writing.{Delivers};
 ghost use Rattle.file_host.specs.World.{with_file};
 ghost use Rattle.file_disk.specs.Devices.{IsOpen};
 ghost use Rattle.file_disk.specs.Frames.{Frame, IsEmptyAt, known_at};
+ghost use Rattle.file_disk.specs.Crashes.{IsBeside, Since};
 
 use crate::device::Device;
 use base_outputs::{Output, WriteFault};
@@ -22,6 +23,11 @@ pub(crate) trait Before {
     ghost before: { Option World };
 
     ghost path: { List ℕ };
+
+    // What a crash left then, and what one might have left so far.
+    ghost durable: { Option World };
+
+    ghost past: { World → Type 0 };
 }
 
 impl Before for Brand {
@@ -30,6 +36,10 @@ impl Before for Brand {
     ghost before = { None };
 
     ghost path = { [] };
+
+    ghost durable = { None };
+
+    ghost past = { λ left. ⊥ };
 }
 
 // A new file that is written; all else is as it was before. It owns the device, since a generic writer may be swapped for
@@ -39,6 +49,8 @@ struct NewFile<D: Device, K: Before> {
     of: PhantomData<K>,
     ghost open: { IsOpen (D.world device) (D.output device) (Some K.path) } by { Prim.hlevel props },
     ghost frame: { Frame K.before (D.world device) K.path } by { Prim.hlevel props },
+    ghost left: { Frame K.durable (D.durable device) K.path } by { Prim.hlevel props },
+    ghost crash: { Since K.past (D.past device) (IsBeside K.durable K.path) } by { Prim.hlevel props },
 }
 
 impl<D: Device, K: Before> Write for NewFile<D, K> {
@@ -64,8 +76,13 @@ pub(crate) fn write_new<D: Device, T: Text, K: Before>(
     requires before { D.world device ≡ K.before }
     requires open { IsOpen (D.world device) (D.output device) (Some (string_bytes path.now)) }
     requires empty { IsEmptyAt (D.world device) (string_bytes path.now) }
+    requires left { D.durable device ≡ K.durable }
+    requires past { (left : _) → D.past device left → K.past left }
     ensures written { OnOk result.1 (D.world result.0 ≡ option_map (with_file (string_bytes path.now) (Ok (T.bytes text.now))) (D.world device)) }
     ensures frame { Frame (D.world device) (D.world result.0) (string_bytes path.now) }
+    ensures open { IsOpen (D.world result.0) (D.output result.0) (Some (string_bytes path.now)) }
+    ensures left { Frame K.durable (D.durable result.0) (string_bytes path.now) }
+    ensures crash { Since K.past (D.past result.0) (IsBeside K.durable (string_bytes path.now)) }
 {
     let _ = path;
     let mut file = NewFile::<D, K> {

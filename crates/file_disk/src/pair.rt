@@ -4,9 +4,10 @@ ghost use Rattle.std.specs.Option.{option_map};
 ghost use Rattle.file_host.specs.World.{with_file, with_text, with_pair};
 ghost use Rattle.file_host.specs.Saving.{PairFails, SpoilsPair};
 ghost use Rattle.file_disk.specs.declared.target.Target.TheVariants.{Stores};
-ghost use Rattle.file_disk.specs.Devices.{IsDirect, IsTarget, IsTemporary, Leads, dropped};
+ghost use Rattle.file_disk.specs.Devices.{IsDirect, IsLasting, IsTarget, IsTemporary, Leads, dropped};
 ghost use Rattle.file_disk.specs.Frames.{IfKnown, Litters};
 ghost use Rattle.file_disk.specs.Pairs.{AfterUndo, AreApart, BothFail, IsThere, MayPutBack, OnlyLitters, TextFails, both_saved, puts_both, text_put};
+ghost use Rattle.file_disk.specs.Crashes.{ChangesIfOk, FromKnown, LeavesBoth, LeavesPair, Passes, Since};
 
 use crate::device::Device;
 use crate::keeping::put_and_keep;
@@ -45,6 +46,7 @@ pub(crate) fn save_both<D: Device, U: Text, T: Text>(
 ) -> (D, Result<(), PairFault>)
     ensures saved { OnOk result.1 (D.world result.0 ≡ option_map (with_pair undo_path.now (U.bytes undo.now) path.now (T.bytes text.now)) (D.world device)) }
     ensures failed { IfErr result.1 (PairFails (D.world device) (D.world result.0) undo_path.now (U.bytes undo.now) path.now (T.bytes text.now)) }
+    ensures crash { Since (D.past device) (D.past result.0) (FromKnown (LeavesPair undo_path.now (U.bytes undo.now) path.now (T.bytes text.now)) (D.durable device)) }
 {
     match device.resolve(undo_path) {
         Ok(Target::Stores(undo_file)) => {
@@ -106,6 +108,7 @@ fn save_beside<D: Device, U: Text, T: Text>(
     requires { Leads (D.world device) undo_path.now (Stores undo_file.now) }
     ensures saved { OnOk result.1 (D.world result.0 ≡ option_map (with_pair undo_path.now (U.bytes undo.now) path.now (T.bytes text.now)) (D.world device)) }
     ensures failed { IfErr result.1 (PairFails (D.world device) (D.world result.0) undo_path.now (U.bytes undo.now) path.now (T.bytes text.now)) }
+    ensures crash { Since (D.past device) (D.past result.0) (FromKnown (LeavesPair undo_path.now (U.bytes undo.now) path.now (T.bytes text.now)) (D.durable device)) }
 {
     match device.resolve(path) {
         Ok(Target::Stores(file)) => save_files(alloc, device, undo_file, &file, undo, text),
@@ -127,6 +130,7 @@ fn save_files<D: Device, U: Text, T: Text>(
     requires text { IsTarget (D.world device) file.now }
     ensures saved { OnOk result.1 (D.world result.0 ≡ option_map (both_saved (string_bytes undo_file.now.path) (U.bytes undo.now) (string_bytes file.now.path) (T.bytes text.now)) (D.world device)) }
     ensures failed { IfErr result.1 (PairFails (D.world device) (D.world result.0) (string_bytes undo_file.now.path) (U.bytes undo.now) (string_bytes file.now.path) (T.bytes text.now)) }
+    ensures crash { Since (D.past device) (D.past result.0) (FromKnown (LeavesPair (string_bytes undo_file.now.path) (U.bytes undo.now) (string_bytes file.now.path) (T.bytes text.now)) (D.durable device)) }
 {
     let Ok(mut names) = Names::with_room(alloc, undo_file.path.len(), file.path.len()) else {
         return (device, Err(PairFault::OutOfMemory));
@@ -225,6 +229,7 @@ fn replace_both<D: Device, U: Text, T: Text>(
     requires text { IsTarget (D.world device) file.now }
     ensures saved { OnOk result.1 (D.world result.0 ≡ option_map (both_saved (string_bytes undo_file.now.path) (U.bytes undo.now) (string_bytes file.now.path) (T.bytes text.now)) (D.world device)) }
     ensures failed { OnErr result.1 (SpoilsPair (D.world device) (D.world result.0) (string_bytes undo_file.now.path) (U.bytes undo.now) (string_bytes file.now.path) (T.bytes text.now)) }
+    ensures crash { Since (D.past device) (D.past result.0) (FromKnown (LeavesPair (string_bytes undo_file.now.path) (U.bytes undo.now) (string_bytes file.now.path) (T.bytes text.now)) (D.durable device)) }
 {
     let is_synced = is_replacing(undo_file, file);
     let (device, answer) = prepare(device, undo_file, &mut names.new_undo, undo, is_synced);
@@ -282,6 +287,7 @@ fn put_both<D: Device>(
     requires apart { AreApart (D.world device.old) (string_bytes names.old.new_undo) (string_bytes names.old.new_text) }
     ensures put { OnOk result (D.world device.new ≡ option_map (puts_both (string_bytes undo_file.now.path) (string_bytes names.old.new_undo) (string_bytes file.now.path) (string_bytes names.old.new_text)) (D.world device.old)) }
     ensures failed { OnErr result (IfKnown (BothFail (string_bytes undo_file.now.path) (string_bytes names.old.new_undo) (string_bytes file.now.path) (string_bytes names.old.new_text)) (D.world device.old) (D.world device.new)) }
+    ensures crash { Since (D.past device.old) (D.past device.new) (FromKnown (LeavesBoth (string_bytes undo_file.now.path) (string_bytes names.old.new_undo) (string_bytes file.now.path) (string_bytes names.old.new_text)) (D.durable device.old)) }
 {
     let put = put_and_keep(
         device,
@@ -318,8 +324,13 @@ fn put_text<D: Device>(
     requires new { IsDirect (D.world device.old) (string_bytes names.now.new_text) }
     requires kept { undo_file.now.is_there ≡ true → IsDirect (D.world device.old) (string_bytes names.now.old_undo) }
     requires apart { AreApart (D.world device.old) (string_bytes names.now.new_text) (string_bytes undo_file.now.path) }
+    requires lasting_undo { IsLasting (D.world device.old) (string_bytes undo_file.now.path) }
+    requires lasting_text { IsLasting (D.world device.old) (string_bytes file.now.path) }
+    requires named_new { IsTemporary (string_bytes names.now.new_text) }
+    requires named_old { undo_file.now.is_there ≡ true → IsTemporary (string_bytes names.now.old_undo) }
     ensures put { OnOk result (D.world device.new ≡ option_map (text_put undo_file.now.is_there (string_bytes names.now.old_undo) (string_bytes file.now.path) (string_bytes names.now.new_text)) (D.world device.old)) }
     ensures failed { OnErr result (IfKnown (TextFails undo_file.now.is_there (string_bytes undo_file.now.path) (string_bytes names.now.old_undo) (string_bytes file.now.path) (string_bytes names.now.new_text)) (D.world device.old) (D.world device.new)) }
+    ensures crash { Since (D.past device.old) (D.past device.new) (FromKnown (LeavesBoth (string_bytes undo_file.now.path) (string_bytes undo_file.now.path) (string_bytes file.now.path) (string_bytes names.now.new_text)) (D.durable device.old)) }
 {
     match put_in_place(device, names.new_text.as_str(), file, is_synced) {
         Ok(()) => drop_old(device, undo_file, names.old_undo.as_str()),
@@ -336,6 +347,8 @@ fn drop_old<D: Device>(device: &mut D, file: &StoredFile, old_path: &str) -> Res
     requires { file.now.is_there ≡ true → IsDirect (D.world device.old) old_path.now }
     ensures dropped { OnOk result (D.world device.new ≡ option_map (dropped file.now.is_there old_path.now) (D.world device.old)) }
     ensures stays { OnErr result (D.world device.new ≡ D.world device.old) }
+    ensures left { ChangesIfOk result (dropped file.now.is_there old_path.now) (D.durable device.old) (D.durable device.new) }
+    ensures crash { Passes (D.past device.old) (D.past device.new) (D.durable device.old) (D.durable device.new) }
 {
     if file.is_there && device.remove(old_path).is_err() {
         return Err(Which::Undo);
@@ -349,7 +362,9 @@ fn put_back<D: Device>(device: &mut D, file: &StoredFile, old_path: &str, is_syn
     requires clean { is_synced ≡ true → D.is_dirty device.old ≡ false }
     requires direct { IsDirect (D.world device.old) (string_bytes file.now.path) }
     requires kept { file.now.is_there ≡ true → IsDirect (D.world device.old) old_path.now }
-    ensures { MayPutBack file.now.is_there (string_bytes file.now.path) old_path.now (D.world device.old) (D.world device.new) }
+    ensures back { MayPutBack file.now.is_there (string_bytes file.now.path) old_path.now (D.world device.old) (D.world device.new) }
+    ensures left { MayPutBack file.now.is_there (string_bytes file.now.path) old_path.now (D.durable device.old) (D.durable device.new) }
+    ensures crash { Passes (D.past device.old) (D.past device.new) (D.durable device.old) (D.durable device.new) }
 {
     if file.is_there {
         let _ = put_in_place(device, old_path, file, is_synced);

@@ -3,8 +3,9 @@ ghost use Rattle.std.specs.Prelude.{◌≡◌, [], Ok, Some, true, false, OnOk, 
 ghost use Rattle.std.specs.Option.{option_map};
 ghost use Rattle.file_host.specs.World.{with_file, with_text};
 ghost use Rattle.file_host.specs.Saving.{SaveFails};
-ghost use Rattle.file_disk.specs.Devices.{IsDirect, IsNew, IsOpen, IsTemporary, moved};
+ghost use Rattle.file_disk.specs.Devices.{IsDirect, IsNew, IsOpen, IsTarget, IsTemporary, moved};
 ghost use Rattle.file_disk.specs.Frames.{IfFault, IfKnown, Litters, Makes, MayLose};
+ghost use Rattle.file_disk.specs.Crashes.{ChangesIfOk, FromKnown, HoldsText, KeepsFiles, Leaves, LeavesText, Passes, Since, synced_if};
 
 use crate::device::Device;
 use crate::names::{create_beside, room_for_name};
@@ -35,6 +36,7 @@ pub(crate) fn save_text<D: Device, T: Text>(
 ) -> (D, Result<(), Failure<WriteFault>>)
     ensures saved { OnOk result.1 (D.world result.0 ≡ option_map (with_text path.now (T.bytes text.now)) (D.world device)) }
     ensures failed { IfErr result.1 (SaveFails (D.world device) (D.world result.0) path.now (T.bytes text.now)) }
+    ensures crash { Since (D.past device) (D.past result.0) (FromKnown (LeavesText path.now (T.bytes text.now)) (D.durable device)) }
 {
     match device.resolve(path) {
         Ok(Target::Stores(file)) => match room_for_name(alloc, file.path.len()) {
@@ -59,9 +61,10 @@ fn replace<D: Device, T: Text>(
     new_path: &mut String,
     text: &T,
 ) -> (D, Result<(), Failure<WriteFault>>)
-    requires { IsDirect (D.world device) (string_bytes file.now.path) }
+    requires { IsTarget (D.world device) file.now }
     ensures saved { OnOk result.1 (D.world result.0 ≡ option_map (with_file (string_bytes file.now.path) (Ok (T.bytes text.now))) (D.world device)) }
     ensures failed { IfErr result.1 (IfFault (IfKnown Litters (D.world device) (D.world result.0))) }
+    ensures crash { Since (D.past device) (D.past result.0) (FromKnown (LeavesText (string_bytes file.now.path) (T.bytes text.now)) (D.durable device)) }
 {
     let is_synced = file.is_there;
     let (mut device, answer) = prepare(device, file, new_path, text, is_synced);
@@ -90,6 +93,8 @@ pub(crate) fn prepare<D: Device, T: Text>(
     ensures made { OnOk result.1 (Makes (D.world device) (D.world result.0) (string_bytes new_path.new) (T.bytes text.now)) }
     ensures failed { OnErr result.1 (IfKnown Litters (D.world device) (D.world result.0)) }
     ensures clean { OnOk result.1 (is_synced ≡ true → D.is_dirty result.0 ≡ false) }
+    ensures synced { OnOk result.1 (is_synced ≡ true → HoldsText (D.durable result.0) (string_bytes new_path.new) (T.bytes text.now)) }
+    ensures crash { Leaves KeepsFiles (D.past device) (D.past result.0) (D.durable device) (D.durable result.0) }
 {
     let Ok(()) = open_new(&mut device, file, new_path) else {
         return (device, Err(WriteFault { written: 0 }));
@@ -118,6 +123,8 @@ fn open_new<D: Device>(device: &mut D, file: &StoredFile, new_path: &mut String)
     ensures made { OnOk result (D.world device.new ≡ option_map (with_file (string_bytes new_path.new) (Ok [])) (D.world device.old)) }
     ensures stays { OnErr result (D.world device.new ≡ D.world device.old) }
     ensures clean { OnOk result (D.is_dirty device.new ≡ false) }
+    ensures left { ChangesIfOk result (with_file (string_bytes new_path.new) (Ok [])) (D.durable device.old) (D.durable device.new) }
+    ensures crash { Passes (D.past device.old) (D.past device.new) (D.durable device.old) (D.durable device.new) }
 {
     if file.is_there {
         device.check_writable(file.path.as_str())?;
@@ -135,6 +142,8 @@ fn settle<D: Device>(
 ) -> io::Result<bool>
     ensures stays { D.world device.new ≡ D.world device.old }
     ensures clean { OnOk result (is_synced ≡ true → D.is_dirty device.new ≡ false) }
+    ensures left { ChangesIfOk result (synced_if is_synced (D.output device.old) (D.world device.old)) (D.durable device.old) (D.durable device.new) }
+    ensures crash { Passes (D.past device.old) (D.past device.new) (D.durable device.old) (D.durable device.new) }
 {
     let is_owned = file.is_there && device.keep_access(file.path.as_str(), new_path);
     if is_synced {
@@ -157,6 +166,8 @@ pub(crate) fn put_in_place<D: Device>(
     ensures moved { OnOk result (D.world device.new ≡ option_map (moved new_path.now (string_bytes file.now.path)) (D.world device.old)) }
     ensures stays { OnErr result (D.world device.new ≡ D.world device.old) }
     ensures kept { D.is_dirty device.new ≡ D.is_dirty device.old }
+    ensures left { ChangesIfOk result (moved new_path.now (string_bytes file.now.path)) (D.durable device.old) (D.durable device.new) }
+    ensures crash { Passes (D.past device.old) (D.past device.new) (D.durable device.old) (D.durable device.new) }
 {
     move_to_path(device, new_path, file)?;
     if is_synced {
@@ -173,6 +184,8 @@ fn move_to_path<D: Device>(device: &mut D, new_path: &str, file: &StoredFile) ->
     ensures moved { OnOk result (D.world device.new ≡ option_map (moved new_path.now (string_bytes file.now.path)) (D.world device.old)) }
     ensures stays { OnErr result (D.world device.new ≡ D.world device.old) }
     ensures kept { D.is_dirty device.new ≡ D.is_dirty device.old }
+    ensures left { ChangesIfOk result (moved new_path.now (string_bytes file.now.path)) (D.durable device.old) (D.durable device.new) }
+    ensures crash { Passes (D.past device.old) (D.past device.new) (D.durable device.old) (D.durable device.new) }
 {
     let path = file.path.as_str();
     if file.is_there {
@@ -187,6 +200,8 @@ pub(crate) fn remove<D: Device>(device: &mut D, path: &str)
     requires { IsDirect (D.world device.old) path.now }
     ensures lost { MayLose (D.world device.old) (D.world device.new) path.now }
     ensures kept { D.is_dirty device.new ≡ D.is_dirty device.old }
+    ensures left { MayLose (D.durable device.old) (D.durable device.new) path.now }
+    ensures crash { Passes (D.past device.old) (D.past device.new) (D.durable device.old) (D.durable device.new) }
 {
     let _ = device.remove(path);
 }

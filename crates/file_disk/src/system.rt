@@ -1,5 +1,6 @@
 //! The device of a real system.
 ghost use Rattle.std.specs.Prelude.{None, false};
+ghost use Rattle.file_disk.specs.Crashes.{none_left};
 
 use crate::descriptor::Descriptor;
 use crate::device::Device;
@@ -57,6 +58,14 @@ impl<'a, R: Files + AllocGlobal> Device for System<'a, R> {
     ghost is_dirty = { λ system. false };
 
     ghost unread = { λ system. None };
+
+    ghost durable = { λ system. None };
+
+    ghost past = { λ system left. ⊥ };
+
+    ghost counts_now = { λ system left e. none_left left e };
+
+    ghost agrees = { λ system. tt };
 
     fn resolve(&mut self, path: &str) -> Result<Target, AllocError> {
         match resolve(self.rt, path)? {

@@ -1,5 +1,6 @@
 //! A device in memory, for tests, which fails at a call that the test picks.
 ghost use Rattle.std.specs.Prelude.{None, false};
+ghost use Rattle.file_disk.specs.Crashes.{none_left};
 
 use file_disk::{Device, StoredFile, Target};
 use file_host::InputFault;
@@ -155,6 +156,14 @@ impl Device for MemoryDevice {
     ghost is_dirty = { λ device. false };
 
     ghost unread = { λ device. None };
+
+    ghost durable = { λ device. None };
+
+    ghost past = { λ device left. ⊥ };
+
+    ghost counts_now = { λ device left e. none_left left e };
+
+    ghost agrees = { λ device. tt };
 
     fn resolve(&mut self, path: &str) -> Result<Target, AllocError> {
         if self.call().is_err() {
