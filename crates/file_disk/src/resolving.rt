@@ -125,8 +125,10 @@ pub(crate) fn name_of(path: &str) -> &str {
 
 /// Whether a path has the name of a temporary file, which is never written as an output.
 pub(crate) fn is_temporary(path: &str) -> bool {
-    let name = name_of(path);
-    name.starts_with("sfbank-new-") || name.starts_with("sfbank-old-")
+    match name_of(path).rsplit_once('-') {
+        Some(("sfbank-new" | "sfbank-old", number)) => number.parse::<u64>().is_ok(),
+        _ => false,
+    }
 }
 
 /// Whether a path leads to the standard output. That is written as a stream, so that later writes follow in order: a
