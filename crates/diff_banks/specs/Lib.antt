@@ -1,2 +1,1 @@
 pub use Rattle.script_of_bank.specs.LeadsTo
-pub mod Drafts

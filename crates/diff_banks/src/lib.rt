@@ -2,8 +2,6 @@
 //! kept small by heuristics.
 #![tactic(auto)]
 
-mod applied_steps;
-mod draft;
 mod two_banks;
 
 pub use two_banks::difference;

@@ -1,4 +1,4 @@
--- Banks that give each note the same voices render identically.
+-- Banks that give notes the same voices render them identically.
 use Rattle.std.proofs.Common.{◌≡◌, ℕ, ◌+◌, ◌-◌, ◌*◌, ◌/◌, ℤ, pos, ◌+ℤ◌, Bool, cond, nat_le, ◌&&◌, ◌||◌, max, List}
 use Rattle.std.proofs.Common.{[], ◌∷◌, map, refl, sym, ap, ◌∙◌}
 use Rattle.std.specs.List.{range_with_len}
@@ -16,18 +16,26 @@ use Rattle.mixer.specs.StartFrames.{Start, playing, note_voices, excludes, silen
 use Rattle.mixer.specs.StartFrames.{side_at, frames, clipped, is_left}
 use Rattle.mixer.specs.Events.{Event, Edited, Started, Given, starts, given, heard, blocks}
 use Rattle.mixer.specs.Render.{end_of, frame_count, silenced_from, note_with, note_at, notes_at, rendered_side, render}
-use Rattle.mixer.specs.Alike.{LeaveAlike, without_edits}
+use Rattle.mixer.specs.Alike.{AreAlikeFor, LeaveAlike, without_edits}
 use Rattle.mixer.proofs.Sums.{sum_over-same}
 use Rattle.mixer.proofs.Permuted.{sum_over-permuted, last_release-permuted}
 use Rattle.mixer.proofs.EventLaws.{blocks_from, frames-same}
 
-note_voices-alike : (b c : Parts) → AreAlike b c → (n : Numbers) → IsPermutation (note_voices b n) (note_voices c n)
+-- the voices of a note that are the same in both banks, in some order
+abbrev SameVoices : Parts → Parts → Numbers → Type 0
+SameVoices b c n = IsPermutation (selected b n) (selected c n)
+
+note_voices-alike : (b c : Parts) (n : Numbers) → SameVoices b c n → IsPermutation (note_voices b n) (note_voices c n)
 unfolding note_voices
-note_voices-alike b c h n = IsPermutation-map (playing n) (selected b n) (selected c n) (h n)
+note_voices-alike b c n h = IsPermutation-map (playing n) (selected b n) (selected c n) h
 
 silences-permuted : (ps qs : List PlayingVoice) → IsPermutation ps qs → (p : PlayingVoice) → silences ps p ≡ silences qs p
 unfolding silences
 silences-permuted ps qs h p = list_any-IsPermutation (λ q. excludes q p) ps qs h
+
+silences-alike : (b c : Parts) (n : Numbers) → SameVoices b c n → (p : PlayingVoice)
+    → silences (note_voices b n) p ≡ silences (note_voices c n) p
+silences-alike b c n h p = silences-permuted (note_voices b n) (note_voices c n) (note_voices-alike b c n h) p
 
 -- functions that are equal at each element, and lists that are permutations
 sum_over-alike : (f g : PlayingVoice → ℤ) (ps qs : List PlayingVoice) → ((p : PlayingVoice) → f p ≡ g p) → IsPermutation ps qs
@@ -36,62 +44,68 @@ sum_over-alike f g ps qs e h = sum_over-same f g e ps ∙ sum_over-permuted g ps
 
 -- ---- notes
 
-silenced_from-alike : (b c : Parts) → AreAlike b c → (k t : ℕ) (q : PlayingVoice) (ms : List Numbers)
+silenced_from-alike : (b c : Parts) (k t : ℕ) (q : PlayingVoice) (ms : List Numbers) → AreAlikeFor b c ms
     → silenced_from b k t q ms ≡ silenced_from c k t q ms
 unfolding silenced_from
-silenced_from-alike b c h k t q [] = refl
-silenced_from-alike b c h k t q (m ∷ ms) =
+silenced_from-alike b c k t q [] h = refl
+silenced_from-alike b c k t q (m ∷ ms) h =
     λ j.
-    (nat_le k m.start
-    && (nat_le m.start t && silences-permuted (note_voices b m) (note_voices c m) (note_voices-alike b c h m) q j))
-    || silenced_from-alike b c h k t q ms j
+    (nat_le k m.start && (nat_le m.start t && silences-alike b c m h.0 q j))
+    || silenced_from-alike b c k t q ms h.1 j
 
-note_with-alike : (b c : Parts) → AreAlike b c → (quiet hushed : PlayingVoice → Bool) → ((p : PlayingVoice) → quiet p ≡ hushed p)
-    → (n : Numbers) (left : Bool) (t : ℕ) → note_with b quiet n left t ≡ note_with c hushed n left t
+note_with-alike : (b c : Parts) (quiet hushed : PlayingVoice → Bool) → ((p : PlayingVoice) → quiet p ≡ hushed p)
+    → (n : Numbers) → SameVoices b c n → (left : Bool) (t : ℕ) → note_with b quiet n left t ≡ note_with c hushed n left t
 unfolding note_with
-note_with-alike b c h quiet hushed e n left t =
+note_with-alike b c quiet hushed e n h left t =
     ap (λ z. cond (nat_le n.start t) z (pos 0))
     (sum_over-alike
     (λ p. cond (quiet p) (pos 0) (snd p.voice.value left (p.voice.age + (t - n.start))))
     (λ p. cond (hushed p) (pos 0) (snd p.voice.value left (p.voice.age + (t - n.start))))
     (note_voices b n) (note_voices c n)
     (λ p. ap (λ q. cond q (pos 0) (snd p.voice.value left (p.voice.age + (t - n.start)))) (e p))
-    (note_voices-alike b c h n))
+    (note_voices-alike b c n h))
 
-notes_at-alike : (b c : Parts) → AreAlike b c → (before ns : List Numbers) (left : Bool) (t : ℕ)
-    → notes_at b before ns left t ≡ notes_at c before ns left t
+notes_at-alike : (b c : Parts) (before ns : List Numbers) → AreAlikeFor b c before → AreAlikeFor b c ns
+    → (left : Bool) (t : ℕ) → notes_at b before ns left t ≡ notes_at c before ns left t
 unfolding notes_at note_at
-notes_at-alike b c h before [] left t = refl
-notes_at-alike b c h before (n ∷ after) left t =
-    λ j. note_with-alike b c h
+notes_at-alike b c before [] g h left t = refl
+notes_at-alike b c before (n ∷ after) g h left t =
+    λ j. note_with-alike b c
     (λ p. silenced_from b (n.start + 1) t p before || silenced_from b n.start t p after)
     (λ p. silenced_from c (n.start + 1) t p before || silenced_from c n.start t p after)
-    (λ p. λ i. silenced_from-alike b c h (n.start + 1) t p before i || silenced_from-alike b c h n.start t p after i)
-    n left t j
-    +ℤ notes_at-alike b c h (n ∷ before) after left t j
+    (λ p. λ i. silenced_from-alike b c (n.start + 1) t p before g i || silenced_from-alike b c n.start t p after h.1 i)
+    n h.0 left t j
+    +ℤ notes_at-alike b c (n ∷ before) after (h.0, g) h.1 left t j
 
-end_of-alike : (b c : Parts) → AreAlike b c → (n : Numbers) → end_of b n ≡ end_of c n
+end_of-alike : (b c : Parts) (n : Numbers) → SameVoices b c n → end_of b n ≡ end_of c n
 unfolding end_of
-end_of-alike b c h n = ap (λ r. n.start + n.length + r) (last_release-permuted (selected b n) (selected c n) (h n))
+end_of-alike b c n h = ap (λ r. n.start + n.length + r) (last_release-permuted (selected b n) (selected c n) h)
 
-frame_count-alike : (b c : Parts) → AreAlike b c → (ns : List Numbers) → frame_count b ns ≡ frame_count c ns
+frame_count-alike : (b c : Parts) (ns : List Numbers) → AreAlikeFor b c ns → frame_count b ns ≡ frame_count c ns
 unfolding frame_count
-frame_count-alike b c h [] = refl
-frame_count-alike b c h (n ∷ ns) = λ j. max (end_of-alike b c h n j) (frame_count-alike b c h ns j)
+frame_count-alike b c [] h = refl
+frame_count-alike b c (n ∷ ns) h = λ j. max (end_of-alike b c n h.0 j) (frame_count-alike b c ns h.1 j)
+
+pub alike_notes_render : (b c : Parts) (ns : List Numbers) → AreAlikeFor b c ns → render b ns ≡ render c ns
+unfolding render rendered_side
+alike_notes_render b c ns h =
+    λ j.
+    map (λ i. clipped (notes_at-alike b c [] ns tt h (is_left i) (i / 2) j))
+    (range_with_len 0 (2 * frame_count-alike b c ns h j))
+
+alike_for : (b c : Parts) → AreAlike b c → (ns : List Numbers) → AreAlikeFor b c ns
+alike_for b c h [] = tt
+alike_for b c h (n ∷ ns) = (h n, alike_for b c h ns)
 
 pub alike_render : (b c : Parts) → AreAlike b c → (ns : List Numbers) → render b ns ≡ render c ns
-unfolding render rendered_side
-alike_render b c h ns =
-    λ j.
-    map (λ i. clipped (notes_at-alike b c h [] ns (is_left i) (i / 2) j))
-    (range_with_len 0 (2 * frame_count-alike b c h ns j))
+alike_render b c h ns = alike_notes_render b c ns (alike_for b c h ns)
 
 -- ---- events
 
-AreAlike-refl : (b : Parts) → AreAlike b b
+pub AreAlike-refl : (b : Parts) → AreAlike b b
 AreAlike-refl b n = IsPermutation-refl (selected b n)
 
-AreAlike-trans : (b c d : Parts) → AreAlike b c → AreAlike c d → AreAlike b d
+pub AreAlike-trans : (b c d : Parts) → AreAlike b c → AreAlike c d → AreAlike b d
 AreAlike-trans b c d h g n = IsPermutation-trans (selected b n) (selected c n) (selected d n) (h n) (g n)
 
 -- c is the bank with the edits, b the one without them
@@ -102,7 +116,7 @@ is_silenced-alike b c h [] g from t q = refl
 is_silenced-alike b c h (Edited d ∷ es) g from t q = is_silenced-alike b d (AreAlike-trans b c d h g.0) es g.1 from t q
 is_silenced-alike b c h (Started n ∷ es) g from t q =
     λ j.
-    (nat_le from t && sym (silences-permuted (note_voices b n) (note_voices c n) (note_voices-alike b c h n) q) j)
+    (nat_le from t && sym (silences-alike b c n (h n) q) j)
     || is_silenced-alike b c h es g from t q j
 is_silenced-alike b c h (Given m ∷ es) g from t q = is_silenced-alike b c h es g (from + m) t q
 
@@ -128,7 +142,7 @@ sum_at-alike b c h (Started n ∷ es) g from left t =
     ap (λ x. cond x (pos 0) (snd p.voice.value left (p.voice.age + (t - from))))
     (is_silenced-alike b c h es g from t p))
     (note_voices c n)
-    ∙ sym (sum_over-permuted (voice_at others from left t) (note_voices b n) (note_voices c n) (note_voices-alike b c h n)) in
+    ∙ sym (sum_over-permuted (voice_at others from left t) (note_voices b n) (note_voices c n) (note_voices-alike b c n (h n))) in
     λ j. cond (nat_le from t) (one j) (pos 0) +ℤ sum_at-alike b c h es g from left t j
 sum_at-alike b c h (Given m ∷ es) g from left t = sum_at-alike b c h es g (from + m) left t
 

@@ -1,13 +1,24 @@
--- Banks that give each note the same voices render identically.
+-- Banks that give notes the same voices render them identically.
 use Rattle.std.specs.Prelude.{◌≡◌, List, [], ◌∷◌}
+use Rattle.std.specs.List.{AllByRecursion}
+use Rattle.std.specs.List.Sorted.{IsPermutation}
 use Rattle.bank_parts.specs.declared.parts.Parts.{Parts}
 use Rattle.script_notes.specs.Notes.{Numbers}
+use Rattle.zone_select.specs.Select.{selected}
 use Rattle.zone_select.specs.Alike.{AreAlike}
 use Rattle.mixer.specs.declared.playing.PlayingVoice.{PlayingVoice}
 use Rattle.mixer.specs.Events.{Event, Edited, Started, Given, heard, blocks}
 use Rattle.mixer.specs.Render.{render}
 
 -- ---- notes
+
+-- each of the notes has the same voices in both banks, in some order
+abbrev pub AreAlikeFor : Parts → Parts → List Numbers → Type 0
+AreAlikeFor b c ns = AllByRecursion (λ n. IsPermutation (selected b n) (selected c n)) ns
+
+-- banks with the same voices for each of some notes render these notes identically
+abbrev pub AlikeNotesRender : Type 0
+AlikeNotesRender = (b c : Parts) (ns : List Numbers) → AreAlikeFor b c ns → render b ns ≡ render c ns
 
 -- banks with the same voices for each note render all notes identically
 abbrev pub AlikeRender : Type 0

@@ -1,5 +1,5 @@
 //! The laws of players and of notes.
-ghost use Rattle.mixer.specs.Alike.{AlikeBlocks, AlikeFrames, AlikeRender};
+ghost use Rattle.mixer.specs.Alike.{AlikeBlocks, AlikeFrames, AlikeNotesRender, AlikeRender};
 ghost use Rattle.mixer.specs.Events.{BlocksAreHeard, SplitsAreFree};
 ghost use Rattle.mixer.specs.Order.{OrderIsFree};
 ghost use Rattle.mixer.specs.Stops.{StopsAreLeast};
@@ -30,10 +30,12 @@ pub fn stops_are_least()
     ensures { StopsAreLeast }
 {}
 
-/// The law that banks that give each note the same voices, in any order, render all notes identically. It does nothing.
-#[tactic(auto, using(crate::proofs::AlikeLaws::alike_render))]
+/// The laws that banks that give each note the same voices, in any order, render all notes identically, and that banks
+/// that do so for some notes render these identically. It does nothing.
+#[tactic(auto, using(crate::proofs::AlikeLaws::alike_render, crate::proofs::AlikeLaws::alike_notes_render))]
 pub fn alike_banks_render_the_same()
-    ensures { AlikeRender }
+    ensures all { AlikeRender }
+    ensures some { AlikeNotesRender }
 {}
 
 /// The law that edits that keep the voices of each note change neither the frames of note starts nor the blocks of a

@@ -1,0 +1,2 @@
+pub use Rattle.script_of_bank.specs.LeadsTo
+pub mod Drafts

@@ -1,0 +1,2 @@
+pub use Rattle.zone_select.specs.Alike
+pub mod Keeping

@@ -1,0 +1,3 @@
+pub use Rattle.zone_select.specs.Alike
+pub mod NeutralRuns
+pub mod Tidying

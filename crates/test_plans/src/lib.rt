@@ -1,0 +1,5 @@
+//! Tests of plans: the edits that they find, as a script.
+#![tactic(auto)]
+
+#[cfg(test)]
+mod plans;

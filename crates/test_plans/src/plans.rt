@@ -1,0 +1,123 @@
+//! Tests of the edits that keep presets and that tidy a bank.
+
+use bank_core::Bank;
+use bank_edits::apply;
+use edit_forms::Edit;
+use edit_script::{Line, parse, pool_of, print};
+use plan_keep::{PlanFault, PresetNumbers, keep_edits};
+use plan_tidy::tidy_edits;
+use sf_reader::read;
+use std::alloc::Global;
+use std::test::Fail;
+use test_inputs::tone;
+
+/// What the edits of a plan are found for.
+#[derive(Clone, Copy, Drop)]
+enum Plan<'k> {
+    Keep(&'k [PresetNumbers]),
+    Tidy,
+}
+
+fn apply_line<'a>(alloc: Global, bank: &mut Bank<'a>, line: Line<'a>) -> bool {
+    apply(alloc, bank, line.into_edit()).is_ok()
+}
+
+fn apply_lines<'a>(alloc: Global, bank: &mut Bank<'a>, lines: Vec<Line<'a>>) -> bool {
+    for line in lines {
+        if !apply_line(alloc, bank, line) {
+            return false;
+        }
+    }
+    true
+}
+
+fn print_edits(alloc: Global, edits: &[Edit<'_>]) -> Vec<u8> {
+    let mut text = Vec::new(alloc);
+    for edit in edits {
+        let _ = print(edit, &mut text);
+    }
+    text
+}
+
+fn edits_of<'a>(
+    alloc: Global,
+    bank: &Bank<'a>,
+    plan: &Plan<'_>,
+) -> Result<Vec<Edit<'a>>, PlanFault> {
+    match plan {
+        Plan::Keep(kept) => keep_edits(alloc, bank, kept),
+        Plan::Tidy => tidy_edits(alloc, bank),
+    }
+}
+
+/// Whether the edits of a plan, for the bank of `tone` after a script, are these.
+fn is_planned(alloc: Global, script: &[u8], plan: &Plan<'_>, wanted: &[u8]) -> Result<bool, Fail> {
+    let file = tone();
+    let pool = pool_of(alloc, script)?;
+    let (mut bank, _counts) = read(alloc, file.bytes())?;
+    let lines = parse(alloc, script, pool.as_slice())?;
+    if !apply_lines(alloc, &mut bank, lines) {
+        return Ok(false);
+    }
+    match edits_of(alloc, &bank, plan) {
+        Ok(edits) => Ok(print_edits(alloc, edits.as_slice()).as_slice() == wanted),
+        Err(_) => Ok(false),
+    }
+}
+
+/// Two more samples, linked to each other, with an instrument for each, and a preset for the left one.
+const SIDES: &[u8] = b"add-sample 1 \"l\" 44100 60 0 mono noloop x0100
+add-sample 2 \"r\" 44100 60 0 right 1 noloop x0200
+set-kind 1 left 2
+add-inst 1 \"l\" { 1 }
+add-inst 2 \"r\" { 2 }
+add-preset 1 \"l\" 1 0 0 0 0 { 1 }
+";
+
+#[test]
+fn a_preset_is_kept(rt: HostRuntime) -> Result<(), Fail> {
+    let bank = 0;
+    let tone = [PresetNumbers { bank, number: 0 }];
+    let left = [PresetNumbers { bank, number: 1 }];
+    let other = [PresetNumbers { bank, number: 2 }];
+    for (kept, wanted) in [
+        (
+            tone.as_slice(),
+            b"remove-preset 1\nremove-inst 2\nremove-inst 1\nset-kind 1 mono\nset-kind 2 mono\nremove-sample 2\nremove-sample 1\n".as_slice(),
+        ),
+        (
+            left.as_slice(),
+            b"remove-preset 0\nremove-inst 2\nremove-inst 0\nset-kind 1 mono\nremove-sample 2\nremove-sample 0\n",
+        ),
+        (
+            other.as_slice(),
+            b"remove-preset 1\nremove-preset 0\nremove-inst 2\nremove-inst 1\nremove-inst 0\nset-kind 1 mono\nset-kind 2 mono\nremove-sample 2\nremove-sample 1\nremove-sample 0\n",
+        ),
+    ] {
+        assert!(rt; is_planned(rt.alloc(), SIDES, &Plan::Keep(kept), wanted)?);
+    }
+    Ok(())
+}
+
+#[test]
+fn a_bank_is_tidied(rt: HostRuntime) -> Result<(), Fail> {
+    for (script, wanted) in [
+        (b"".as_slice(), b"".as_slice()),
+        (SIDES, b"remove-inst 2\nset-kind 1 mono\nremove-sample 2\n"),
+        (
+            b"split-zone inst 0 0 key 60\nsplit-zone inst 0 0 key 30\n",
+            b"join-zone inst 0 1 key keep\njoin-zone inst 0 0 key bare\n",
+        ),
+        (
+            b"add-sample 1 \"r\" 44100 60 0 mono noloop x0200\nadd-zone inst 0 1 { 1 }\nset-kind 0 left 1\n",
+            b"set-kind 1 right 0\n",
+        ),
+        (
+            b"add-sample 1 \"r\" 44100 60 0 mono noloop x0200\nadd-zone inst 0 1 { 1 }\nset-kind 1 left 1\nset-kind 0 left 1\n",
+            b"set-kind 0 mono\n",
+        ),
+    ] {
+        assert!(rt; is_planned(rt.alloc(), script, &Plan::Tidy, wanted)?);
+    }
+    Ok(())
+}
