@@ -1,4 +1,6 @@
 //! Tests of the edits that keep presets and that tidy a bank.
+ghost use Rattle.std.specs.Prelude.{◌≡◌, Ok};
+ghost use Rattle.script_tokens.specs.Pool.{pool_bytes};
 
 use bank_core::Bank;
 use bank_edits::apply;
@@ -50,19 +52,38 @@ fn edits_of<'a>(
     }
 }
 
-/// Whether the edits of a plan, for the bank of `tone` after a script, are these.
-fn is_planned(alloc: Global, script: &[u8], plan: &Plan<'_>, wanted: &[u8]) -> Result<bool, Fail> {
-    let file = tone();
-    let pool = pool_of(alloc, script)?;
-    let (mut bank, _counts) = read(alloc, file.bytes())?;
-    let lines = parse(alloc, script, pool.as_slice())?;
+/// The edits of a plan, for the bank of a file after a script, as a text. `pool` has the script's literals.
+fn text_of_plan<'a>(
+    alloc: Global,
+    file: &'a [u8],
+    script: &[u8],
+    pool: &'a [u8],
+    plan: &Plan<'_>,
+) -> Result<Vec<u8>, Fail>
+    requires { pool_bytes script.now ≡ Ok pool.now }
+{
+    let (mut bank, _counts) = read(alloc, file)?;
+    let lines = parse(alloc, script, pool)?;
     if !apply_lines(alloc, &mut bank, lines) {
-        return Ok(false);
+        return Ok(Vec::new(alloc));
     }
     match edits_of(alloc, &bank, plan) {
-        Ok(edits) => Ok(print_edits(alloc, edits.as_slice()).as_slice() == wanted),
-        Err(_) => Ok(false),
+        Ok(edits) => Ok(print_edits(alloc, edits.as_slice())),
+        Err(_) => Ok(Vec::new(alloc)),
     }
+}
+
+/// Whether the edits of a plan, for the bank of a file after a script, are these.
+fn is_planned(
+    alloc: Global,
+    file: &[u8],
+    script: &[u8],
+    plan: &Plan<'_>,
+    wanted: &[u8],
+) -> Result<bool, Fail> {
+    let pool = pool_of(alloc, script)?;
+    let text = text_of_plan(alloc, file, script, pool.as_slice(), plan)?;
+    Ok(text.as_slice() == wanted)
 }
 
 /// Two more samples, linked to each other, with an instrument for each, and a preset for the left one.
@@ -77,12 +98,12 @@ add-preset 1 \"l\" 1 0 0 0 0 { 1 }
 #[test]
 fn a_preset_is_kept(rt: HostRuntime) -> Result<(), Fail> {
     let bank = 0;
-    let tone = [PresetNumbers { bank, number: 0 }];
+    let first = [PresetNumbers { bank, number: 0 }];
     let left = [PresetNumbers { bank, number: 1 }];
     let other = [PresetNumbers { bank, number: 2 }];
     for (kept, wanted) in [
         (
-            tone.as_slice(),
+            first.as_slice(),
             b"remove-preset 1\nremove-inst 2\nremove-inst 1\nset-kind 1 mono\nset-kind 2 mono\nremove-sample 2\nremove-sample 1\n".as_slice(),
         ),
         (
@@ -94,7 +115,7 @@ fn a_preset_is_kept(rt: HostRuntime) -> Result<(), Fail> {
             b"remove-preset 1\nremove-preset 0\nremove-inst 2\nremove-inst 1\nremove-inst 0\nset-kind 1 mono\nset-kind 2 mono\nremove-sample 2\nremove-sample 1\nremove-sample 0\n",
         ),
     ] {
-        assert!(rt; is_planned(rt.alloc(), SIDES, &Plan::Keep(kept), wanted)?);
+        assert!(rt; is_planned(rt.alloc(), tone().bytes(), SIDES, &Plan::Keep(kept), wanted)?);
     }
     Ok(())
 }
@@ -117,7 +138,7 @@ fn a_bank_is_tidied(rt: HostRuntime) -> Result<(), Fail> {
             b"set-kind 0 mono\n",
         ),
     ] {
-        assert!(rt; is_planned(rt.alloc(), script, &Plan::Tidy, wanted)?);
+        assert!(rt; is_planned(rt.alloc(), tone().bytes(), script, &Plan::Tidy, wanted)?);
     }
     Ok(())
 }
