@@ -1,8 +1,9 @@
--- Words of two commands, with what they ask for.
-use Rattle.std.proofs.Common.{◌≡◌, ◌∷◌, List, [], Option, Some, codes, option_map, refl}
-use Rattle.clap.specs.Words.{Text, fault_of, first_of, one_of, subcommand_of}
+-- Words of some commands, with what they ask for.
+use Rattle.std.proofs.Common.{◌≡◌, ◌∷◌, List, [], None, Option, Some, codes, option_map, refl, rules}
+use Rattle.clap.specs.Words.{Text, all_of, fault_of, first_of, one_of, subcommand_of}
 use Rattle.clap.proofs.OnLiterals.{clap_on_literals}
 use Rattle.program_commands.specs.Commands.{sfbank_app}
+use Rattle.program_commands.specs.Words.{IsPreset}
 
 abbrev pub explain_words : List Text
 explain_words = codes "sfbank" ∷ codes "explain" ∷ codes "41" ∷ []
@@ -10,6 +11,16 @@ explain_words = codes "sfbank" ∷ codes "explain" ∷ codes "41" ∷ []
 abbrev pub map_words : List Text
 map_words =
     codes "sfbank" ∷ codes "map" ∷ codes "--force" ∷ codes "in.sf2" ∷ codes "inst" ∷ codes "7" ∷ codes "out.svg" ∷ []
+
+abbrev pub keep_words : List Text
+keep_words =
+    codes "sfbank" ∷ codes "keep" ∷ codes "--preset" ∷ codes "0:24" ∷ codes "--preset=8:4" ∷ codes "in.sf2"
+    ∷ codes "out.sf2" ∷ codes "undo.txt" ∷ []
+
+abbrev pub keep_notes_words : List Text
+keep_notes_words =
+    codes "sfbank" ∷ codes "keep" ∷ codes "--dry-run" ∷ codes "in.sf2" ∷ codes "out.sf2" ∷ codes "undo.txt"
+    ∷ codes "--notes" ∷ codes "song.txt" ∷ []
 
 -- the command that words use
 abbrev pub command_used : List Text → Option Text
@@ -21,6 +32,10 @@ word_given words name = option_map (λ used. first_of name used.1) (subcommand_o
 
 abbrev pub value_given : List Text → Text → Option (Option Text)
 value_given words name = option_map (λ used. one_of name used.1) (subcommand_of sfbank_app words)
+
+-- all words that words give under this name
+abbrev pub words_given : List Text → Text → Option (Option (List Text))
+words_given words name = option_map (λ used. all_of name used.1) (subcommand_of sfbank_app words)
 
 pub explain_used : command_used explain_words ≡ Some (codes "explain")
 unfolding clap_on_literals
@@ -42,7 +57,31 @@ pub map_force : value_given map_words (codes "force") ≡ Some (Some (codes "tru
 unfolding clap_on_literals
 map_force = refl
 
--- clap finds no fault in either
+-- each use of an option gives one preset
+pub keep_presets : words_given keep_words (codes "preset") ≡ Some (Some (codes "0:24" ∷ codes "8:4" ∷ []))
+unfolding clap_on_literals
+keep_presets = refl
+
+pub keep_no_notes : word_given keep_words (codes "notes") ≡ Some None
+unfolding clap_on_literals
+keep_no_notes = refl
+
+pub keep_first_preset : IsPreset (codes "0:24") (record { bank = 0; number = 24 })
+keep_first_preset = (codes "0", codes "24", refl, search rules, search rules)
+
+pub keep_notes : word_given keep_notes_words (codes "notes") ≡ Some (Some (codes "song.txt"))
+unfolding clap_on_literals
+keep_notes = refl
+
+pub keep_no_presets : word_given keep_notes_words (codes "preset") ≡ Some None
+unfolding clap_on_literals
+keep_no_presets = refl
+
+pub keep_dry_run : value_given keep_notes_words (codes "dry-run") ≡ Some (Some (codes "true"))
+unfolding clap_on_literals
+keep_dry_run = refl
+
+-- clap finds no fault in any of them
 pub explain_passes : fault_of sfbank_app explain_words ≡ []
 unfolding clap_on_literals
 explain_passes = refl
@@ -50,3 +89,11 @@ explain_passes = refl
 pub map_passes : fault_of sfbank_app map_words ≡ []
 unfolding clap_on_literals
 map_passes = refl
+
+pub keep_passes : fault_of sfbank_app keep_words ≡ []
+unfolding clap_on_literals
+keep_passes = refl
+
+pub keep_notes_passes : fault_of sfbank_app keep_notes_words ≡ []
+unfolding clap_on_literals
+keep_notes_passes = refl

@@ -13,7 +13,7 @@ pub number_read : {E : Type 0} (P Q : Text → Result ℕ E → Type 0)
     → FindsOne result (λ n. IsGiven rows (Number name bits n))
 number_read P Q rows name bits None none value =
     let fits : ℕ → Type 0 = λ k. k < 2 ^ bits in
-    (tt, λ n given. absurd ((value given.0 given.1).1.0 (given.2, subst fits given.3 given.4)))
+    (tt, λ n given. absurd ((value given.0 given.1).1.0 (given.2.0, subst fits given.2.1 given.2.2)))
 number_read P Q rows name bits (Some n) none value = (go (one_of name rows) refl, λ other given. refl)
   where
     go : (one : Option Text) → one_of name rows ≡ one → IsGiven rows (Number name bits n)
@@ -21,7 +21,7 @@ number_read P Q rows name bits (Some n) none value = (go (one_of name rows) refl
     go (Some text) e =
         let read = (value text e).0 in
         let fits : ℕ → Type 0 = λ k. k < 2 ^ bits in
-        (text, e, read.0.0, read.1, subst fits (sym read.1) read.0.1)
+        (text, e, (read.0.0, read.1, subst fits (sym read.1) read.0.1))
 
 -- where a part is missing that each value needs, none is found
 pub none_found : {A B : Type 0} (P : A → Type 0) (Q : B → Type 0) (whole : Option A) (part : Option B)

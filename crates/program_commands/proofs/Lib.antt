@@ -3,5 +3,6 @@ pub mod CommandExamples
 pub mod CommandLaws
 pub mod FaultLaws
 mod GetterLaws
+mod PresetLaws
 mod RequestLaws
 pub mod WalkLaws

@@ -1,6 +1,6 @@
 -- Requests of the command that was used.
 use Rattle.std.proofs.Common.{◌≡◌, ◌∙◌, ◌⊎◌, ◌&&◌, ℕ, Bool, true, false, refl, IsSome, Result, Ok, Err, List, Option}
-use Rattle.std.proofs.Common.{Some, None, codes, option_map, sym, subst, arith}
+use Rattle.std.proofs.Common.{Some, None, codes, sym, subst, arith}
 use Rattle.clap.specs.Words.{App, HasKind, HasMatchesOf, Kinds, Row, Text, fault_of, is_simple_and_free}
 use Rattle.clap.specs.Words.{subcommand_of, subcommand_rows_of}
 use Rattle.clap.specs.declared.error.Error.{Error}
@@ -13,29 +13,17 @@ use Rattle.program_commands.specs.Words.{AreGiven, AsksFor, AsksForNone, FailsBy
 use Rattle.program_commands.specs.Words.{Number, command_of, operands_of}
 use Rattle.program_commands.proofs.AppLaws.{fault_same, free_app, simple_app, subcommand_same}
 
--- where both halves of a pair in an `Option` are known, the pair is
-pub both_known : {A X Y : Type 0} (f : A → X) (g : A → Y) (o : Option A) (x : X) (y : Y) → Some x ≡ option_map f o
-    → Some y ≡ option_map {T = X × Y} (λ p. p.1) (option_map (λ a. (f a, g a)) o)
-    → option_map {U = X × Y} (λ a. (f a, g a)) o ≡ Some (x, y)
-both_known f g None x y first second = absurd cc
-both_known f g (Some a) x y first second = cc
-
 -- a request is asked for if its command was used and the words give its operands their values
-pub asks : {used : Option (Text × List Row)} {name : Text} {rows : List Row} {request result : Request}
-    → used ≡ Some (name, rows) → result ≡ request → name ≡ command_of request → AreGiven rows (operands_of request)
-    → AsksFor used result
-asks {used} {name} {rows} {request} {result} used_is result_is command given =
-    let of_used : Option (Text × List Row) → Type 0 = λ o. AsksFor o result in
+pub asks : (rows : List Row) {name : Text} {request result : Request} → result ≡ request → name ≡ command_of request
+    → AreGiven rows (operands_of request) → AsksFor (Some (name, rows)) result
+asks rows {name} {request} {result} is command given =
     let of_result : Request → Type 0 = λ r. AsksFor (Some (name, rows)) r in
-    subst of_used (sym used_is) (subst of_result (sym result_is) (command, given))
+    subst of_result (sym is) (command, given)
 
 -- if `explain` was used and any request is asked for, the words give a number
-pub explained : {used : Option (Text × List Row)} {name : Text} {rows : List Row} → used ≡ Some (name, rows)
-    → name ≡ codes "explain" → (request : Request) → AsksFor used request
-    → (n : ℕ) × IsGiven rows (Number (codes "N") 32 n)
-explained {used} {name} {rows} used_is command request asked =
-    let of_used : Option (Text × List Row) → Type 0 = λ o. AsksFor o request in
-    go request (sym command) (subst of_used used_is asked)
+pub explained : (rows : List Row) {name : Text} → name ≡ codes "explain" → (request : Request)
+    → AsksFor (Some (name, rows)) request → (n : ℕ) × IsGiven rows (Number (codes "N") 32 n)
+explained rows {name} command request asked = go request (sym command) asked
   where
     go : (r : Request) → codes "explain" ≡ name → AsksFor (Some (name, rows)) r
         → (n : ℕ) × IsGiven rows (Number (codes "N") 32 n)

@@ -2,21 +2,23 @@
 use Rattle.std.specs.Prelude.{◌≡◌, ◌-◌, ◌^◌, ℕ, true, pos, List, [], ◌∷◌, map, fold, Some, codes}
 use Rattle.std.specs.Borrow.{Bor}
 use Rattle.clap.specs.Words.{App, Rule, Shape, Text, new_app, new_rule, with_subcommand}
-use Rattle.clap.specs.declared.builder.ArgAction.TheVariants.{Set, SetTrue}
+use Rattle.clap.specs.declared.builder.ArgAction.TheVariants.{Append, Set, SetTrue}
 use Rattle.clap.specs.declared.builder.ValueParser.{ValueParser}
 use Rattle.clap.specs.declared.builder.ValueParser.TheVariants as parser
 use Rattle.program_commands.specs.declared.commands.Entry.{Entry}
 use Rattle.program_commands.specs.declared.commands.Operand as operand
 use Rattle.program_commands.specs.declared.commands.Operand.TheVariants as variant
 
--- an argument of a command with its name: a path, a number of 32 bits and a level are required, a flag and a minor
--- version are options
+-- an argument of a command with its name: a path, a number of 32 bits and a level are required; a flag, a minor
+-- version, a word and words given one by one are options
 pub data Argument : Type 0 where
   Path : Text → Argument
   Number : Text → Argument
   Level : Text → Argument
   Flag : Text → Argument
   Minor : Text → Argument
+  Single : Text → Argument
+  Repeated : Text → Argument
 
 -- a reference to the words for the two levels of owners
 abbrev pub LevelWords : Type 0
@@ -46,6 +48,10 @@ force_flag = Flag (codes "force")
 abbrev pub neutral_flag : Argument
 neutral_flag = Flag (codes "neutral")
 
+-- the arguments of a command that finds edits
+abbrev pub plan_arguments : List Argument
+plan_arguments = Flag (codes "dry-run") ∷ force_flag ∷ input_path ∷ output_path ∷ undo_path ∷ []
+
 -- the commands, each with its arguments
 abbrev pub command_table : List (Text × List Argument)
 command_table =
@@ -54,12 +60,14 @@ command_table =
     ∷ (codes "diff", force_flag ∷ Path (codes "A") ∷ Path (codes "B") ∷ output_path ∷ [])
     ∷ (codes "explain", Number (codes "N") ∷ [])
     ∷ (codes "import", force_flag ∷ input_path ∷ Path (codes "WAVE") ∷ output_path ∷ undo_path ∷ [])
+    ∷ (codes "keep", Single (codes "notes") ∷ Repeated (codes "preset") ∷ plan_arguments)
     ∷ (codes "live", force_flag ∷ input_path ∷ Path (codes "PCM") ∷ [])
     ∷ (codes "map", force_flag ∷ input_path ∷ Level (codes "LEVEL") ∷ Number (codes "N") ∷ output_path ∷ [])
     ∷ (codes "new", force_flag ∷ Minor (codes "minor") ∷ output_path ∷ [])
     ∷ (codes "play", force_flag ∷ input_path ∷ Path (codes "NOTES") ∷ output_path ∷ [])
     ∷ (codes "script", force_flag ∷ Flag (codes "no-points") ∷ input_path ∷ output_path ∷ [])
     ∷ (codes "show", Flag (codes "zones") ∷ Flag (codes "uses") ∷ input_path ∷ [])
+    ∷ (codes "tidy", plan_arguments)
     ∷ (codes "wave", force_flag ∷ input_path ∷ Number (codes "S") ∷ output_path ∷ [])
     ∷ []
 
@@ -92,6 +100,8 @@ rule_for levels (Minor name) = record (rule_for_option name) {
   parser = Some (number_parser 16);
   defaults = default_minor ∷ [];
 }
+rule_for levels (Single name) = record (rule_for_option name) { action = Some Set; value_names = 1 }
+rule_for levels (Repeated name) = record (rule_for_option name) { action = Some Append; value_names = 1 }
 
 -- what clap reads of a command
 abbrev pub shape_for : ValueParser → Text × List Argument → Shape
@@ -135,6 +145,8 @@ argument_of (variant.Number name help) = Number name.now
 argument_of (variant.Level name help) = Level name.now
 argument_of (variant.Flag name help) = Flag name.now
 argument_of (variant.Minor name help) = Minor name.now
+argument_of (variant.Single name value help) = Single name.now
+argument_of (variant.Repeated name value help) = Repeated name.now
 
 -- a command of the code with its arguments
 abbrev pub command_in : Entry → Text × List Argument

@@ -1,24 +1,33 @@
 -- The operands of each request, and when the words of a command ask for it.
-use Rattle.std.specs.Prelude.{◌≡◌, ◌<◌, ◌^◌, ℕ, Bool, true, false, List, [], ◌∷◌, codes}
+use Rattle.std.specs.Prelude.{◌≡◌, ◌<◌, ◌^◌, ℕ, Bool, true, false, List, [], ◌∷◌, ◌++◌, codes, length}
 use Rattle.std.specs.Prelude.{◌⊎◌, MatchResult, Option, Result, Some, None, IfSome, IsSome}
+use Rattle.std.specs.List.{AllZip}
 use Rattle.std.specs.Str.Parse.{IsNumeral, digits_value, without_leading_plus}
-use Rattle.clap.specs.Words.{App, HasKind, Row, Text, fault_of, first_of, found_of, is_simple, one_of, rows_of}
+use Rattle.clap.specs.Words.{App, HasKind, Row, Text, all_of, fault_of, first_of, found_of, is_simple, one_of, rows_of}
 use Rattle.clap.specs.Words.{subcommand_of}
 use Rattle.clap.specs.declared.error.Error.{Error}
 use Rattle.clap.specs.declared.parser.matches.ArgMatches.{ArgMatches}
 use Rattle.bank_changes.specs.declared.members.Owner.{Owner}
 use Rattle.bank_changes.specs.declared.members.Owner.TheVariants.{Preset, Inst}
+use Rattle.plan_presets.specs.declared.numbers.PresetNumbers.{PresetNumbers}
+use Rattle.program_commands.specs.declared.plans.KeepPaths.{KeepPaths}
+use Rattle.program_commands.specs.declared.plans.Kept.{Kept}
+use Rattle.program_commands.specs.declared.plans.Kept.TheVariants as choice
+use Rattle.program_commands.specs.declared.plans.PlanPaths.{PlanPaths}
 use Rattle.program_commands.specs.declared.words.Request.{Request}
-use Rattle.program_commands.specs.declared.words.Request.TheVariants.{Apply, Canon, Diff, Explain, Import, Live, Map}
-use Rattle.program_commands.specs.declared.words.Request.TheVariants.{New, Play, Script, Show, Wave}
+use Rattle.program_commands.specs.declared.words.Request.TheVariants.{Apply, Canon, Diff, Explain, Import, Keep}
+use Rattle.program_commands.specs.declared.words.Request.TheVariants.{Live, Map, New, Play, Script, Show, Tidy, Wave}
 use Rattle.program_commands.specs.declared.words.Forms.{Forms}
 use Rattle.program_commands.specs.declared.words.Forms.TheVariants.{Every, Neutral}
 
--- an operand of a request with its name and its value: a word, a number with its width in bits, or a flag
+-- an operand of a request with its name and its value: a word, a number with its width in bits, a flag, an option that
+-- is not used, or presets
 pub data Operand : Type 0 where
   Word : Text → Text → Operand
   Number : Text → ℕ → ℕ → Operand
   Flag : Text → Bool → Operand
+  Absent : Text → Operand
+  Presets : Text → List PresetNumbers → Operand
 
 -- whether only neutral forms are accepted
 abbrev pub is_neutral : Forms → Bool
@@ -38,6 +47,25 @@ owner_number (Inst n) = n
 -- the operands that name an owner
 abbrev pub owner_operands : Owner → List Operand
 owner_operands owner = Word (codes "LEVEL") (level_word owner) ∷ Number (codes "N") 32 (owner_number owner) ∷ []
+
+-- the operands of a command that finds edits
+abbrev pub plan_operands : PlanPaths → List Operand
+plan_operands paths =
+    Word (codes "IN") paths.input.now
+    ∷ Word (codes "OUT") paths.out.now
+    ∷ Word (codes "UNDO") paths.undo.now
+    ∷ Flag (codes "dry-run") paths.dry_run
+    ∷ Flag (codes "force") paths.force
+    ∷ []
+
+-- the operands that name what is kept: exactly one of two options is used
+abbrev pub kept_operands : Kept → List Operand
+kept_operands (choice.Notes path) = Word (codes "notes") path.now ∷ Absent (codes "preset") ∷ []
+kept_operands (choice.Presets presets) = Presets (codes "preset") presets.items ∷ Absent (codes "notes") ∷ []
+
+-- the operands of `keep`
+abbrev pub keep_operands : KeepPaths → List Operand
+keep_operands keep = plan_operands keep.paths ++ kept_operands keep.kept
 
 -- the operands of each request
 abbrev pub operands_of : Request → List Operand
@@ -64,6 +92,7 @@ operands_of (Import paths) =
     ∷ Word (codes "UNDO") paths.undo.now
     ∷ Flag (codes "force") paths.force
     ∷ []
+operands_of (Keep keep) = keep_operands keep
 operands_of (Live paths) =
     Word (codes "IN") paths.input.now ∷ Word (codes "PCM") paths.pcm.now ∷ Flag (codes "force") paths.force ∷ []
 operands_of (Map paths) =
@@ -89,6 +118,7 @@ operands_of (Script paths) =
     ∷ []
 operands_of (Show paths) =
     Word (codes "IN") paths.input.now ∷ Flag (codes "zones") paths.zones ∷ Flag (codes "uses") paths.uses ∷ []
+operands_of (Tidy paths) = plan_operands paths
 operands_of (Wave paths) =
     Word (codes "IN") paths.input.now
     ∷ Number (codes "S") 32 paths.sample
@@ -103,31 +133,50 @@ command_of (Canon paths) = codes "canon"
 command_of (Diff paths) = codes "diff"
 command_of (Explain n) = codes "explain"
 command_of (Import paths) = codes "import"
+command_of (Keep keep) = codes "keep"
 command_of (Live paths) = codes "live"
 command_of (Map paths) = codes "map"
 command_of (New bank) = codes "new"
 command_of (Play paths) = codes "play"
 command_of (Script paths) = codes "script"
 command_of (Show paths) = codes "show"
+command_of (Tidy paths) = codes "tidy"
 command_of (Wave paths) = codes "wave"
 
 -- what clap found for a command, under the names of its operands
 abbrev pub rows_in : ArgMatches → List Row
 rows_in matches = rows_of (found_of matches)
 
--- the words give the operand its value: a number may begin with a plus, and a flag that is not given is false
+-- the text is the numeral of n in base 10, which may begin with a plus, and n has at most this many bits
+abbrev pub IsDecimal : ℕ → Text → ℕ → Type 0
+IsDecimal bits text n =
+    IsNumeral 10 (without_leading_plus text) × (n ≡ digits_value 10 (without_leading_plus text)) × (n < 2 ^ bits)
+
+-- the code of the colon
+abbrev pub colon : ℕ
+colon = 58
+
+-- the text is BANK:NUMBER with the numbers of the preset
+abbrev pub IsPreset : Text → PresetNumbers → Type 0
+IsPreset text preset =
+    (bank : Text)
+    × (number : Text)
+    × (text ≡ bank ++ colon ∷ number)
+    × IsDecimal 16 bank preset.bank
+    × IsDecimal 16 number preset.number
+
+-- the words give the operand its value: a flag that is not given is false, and presets are the values of an option, of
+-- which there is one or more
 abbrev pub IsGiven : List Row → Operand → Type 0
 IsGiven rows (Word name text) = first_of name rows ≡ Some text
-IsGiven rows (Number name bits n) =
-    (text : Text)
-    × (one_of name rows ≡ Some text)
-    × IsNumeral 10 (without_leading_plus text)
-    × (n ≡ digits_value 10 (without_leading_plus text))
-    × (n < 2 ^ bits)
+IsGiven rows (Number name bits n) = (text : Text) × (one_of name rows ≡ Some text) × IsDecimal bits text n
 IsGiven rows (Flag name value) =
     (one_of name rows ≡ Some (codes "true") → value ≡ true)
     × (one_of name rows ≡ Some (codes "false") → value ≡ false)
     × (one_of name rows ≡ None → value ≡ false)
+IsGiven rows (Absent name) = first_of name rows ≡ None
+IsGiven rows (Presets name presets) =
+    (texts : List Text) × (all_of name rows ≡ Some texts) × (0 < length texts) × AllZip IsPreset texts presets
 
 -- the words give each operand its value
 abbrev pub AreGiven : List Row → List Operand → Type 0

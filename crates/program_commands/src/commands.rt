@@ -38,6 +38,10 @@ enum Operand {
     Flag(&'static str, &'static str),
     /// `--NAME N` with a 16-bit number, optional.
     Minor(&'static str, &'static str),
+    /// `--NAME VALUE`, optional, with the name of its value and its help text.
+    Single(&'static str, &'static str, &'static str),
+    /// `--NAME VALUE`, any number of times, with the name of its value and its help text.
+    Repeated(&'static str, &'static str, &'static str),
 }
 
 /// The flag that lets OUT replace a bank.
@@ -46,13 +50,16 @@ const FORCE: Operand = Operand::Flag("force", "Writes OUT even if a bank is ther
 /// The flag that lets UNDO replace a bank.
 const UNDO_FORCE: Operand = Operand::Flag("force", "Writes UNDO even if a bank is there");
 
+/// The flag that saves nothing.
+const DRY_RUN: Operand = Operand::Flag("dry-run", "Prints the script of edits, and saves nothing");
+
 /// The flag that lets the outputs of `live` replace banks.
 const LIVE_FORCE: Operand = Operand::Flag(
     "force",
     "Writes PCM, and UNDO of each save, even if a bank is there",
 );
 
-static COMMANDS: [Entry; 12] = [
+static COMMANDS: [Entry; 14] = [
     Entry {
         name: "apply",
         about: "Runs a script of edits on a bank, and writes its undo script",
@@ -112,6 +119,28 @@ static COMMANDS: [Entry; 12] = [
             ),
         ],
         example: "Example: sfbank import organ.sf2 flute.wav larger.sf2 undo.txt",
+    },
+    Entry {
+        name: "keep",
+        about: "Keeps some presets of a bank, and removes what they don't need",
+        operands: &[
+            Operand::Single(
+                "notes",
+                "NOTES",
+                "Keeps the presets that this list of notes plays",
+            ),
+            Operand::Repeated(
+                "preset",
+                "BANK:NUMBER",
+                "Keeps the preset with these numbers; can be given several times",
+            ),
+            DRY_RUN,
+            UNDO_FORCE,
+            Operand::Path("IN", "The bank to reduce"),
+            Operand::Path("OUT", "Where the smaller bank is written; may be IN"),
+            Operand::Path("UNDO", "Where the undo script is written"),
+        ],
+        example: "Example: sfbank keep --preset 0:24 --preset 0:25 gm.sf2 guitars.sf2 undo.txt",
     },
     Entry {
         name: "live",
@@ -185,6 +214,18 @@ static COMMANDS: [Entry; 12] = [
             Operand::Path("IN", "The bank to show"),
         ],
         example: "Example: sfbank show --zones organ.sf2",
+    },
+    Entry {
+        name: "tidy",
+        about: "Removes what a bank doesn't use, and changes no sound",
+        operands: &[
+            DRY_RUN,
+            UNDO_FORCE,
+            Operand::Path("IN", "The bank to tidy"),
+            Operand::Path("OUT", "Where the tidied bank is written; may be IN"),
+            Operand::Path("UNDO", "Where the undo script is written"),
+        ],
+        example: "Example: sfbank tidy organ.sf2 tidy.sf2 undo.txt",
     },
     Entry {
         name: "wave",
@@ -264,6 +305,12 @@ fn arg_of<'a>(alloc: Global, operand: Operand, levels: ValueParser<'a>) -> Arg<'
             .action(ArgAction::Set)
             .value_parser(value_parser!(u16))
             .default_value(DEFAULT_MINOR),
+        Operand::Single(name, value, help) => option(alloc, name, help)
+            .value_name(value)
+            .action(ArgAction::Set),
+        Operand::Repeated(name, value, help) => option(alloc, name, help)
+            .value_name(value)
+            .action(ArgAction::Append),
     }
 }
 

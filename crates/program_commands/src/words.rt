@@ -1,5 +1,5 @@
 //! Reads a request from the words that the program was started with.
-ghost use Rattle.std.specs.Prelude.{◌≡◌, IfOk, codes, map, option_map, true};
+ghost use Rattle.std.specs.Prelude.{◌≡◌, ◌≢◌, IfOk, codes, map, option_map, true};
 ghost use Rattle.clap.specs.Words.{app_of, first_of, is_simple_and_free, subcommand_of, subcommand_rows_of};
 ghost use Rattle.program_commands.specs.Commands.{sfbank_app};
 ghost use Rattle.program_commands.specs.Words.{Number, Flag, is_neutral, owner_operands, operands_of};
@@ -7,13 +7,15 @@ ghost use Rattle.program_commands.specs.Words.{rows_in, AreGiven, AsksFor, Fails
 ghost use Rattle.program_commands.specs.Words.{IsParsedBy};
 
 use crate::commands::sfbank_command;
+use crate::plans::{KeepPaths, PlanPaths, read_keep, read_plan};
 use bank_changes::Owner;
 use clap::error::ErrorKind;
 use clap::{ArgMatches, Command, Error};
-use std::alloc::Global;
+use std::alloc::{AllocError, Global};
 use std::convert::AsStr;
 
 /// What the program was asked to do.
+#[derive(Drop)]
 pub enum Request<'a> {
     /// Run a script on a bank.
     Apply(ApplyPaths<'a>),
@@ -25,6 +27,8 @@ pub enum Request<'a> {
     Explain(u32),
     /// Add a recording to a bank.
     Import(ImportPaths<'a>),
+    /// Remove all that some presets don't need.
+    Keep(KeepPaths<'a>),
     /// Edit and play a bank live.
     Live(LivePaths<'a>),
     /// Draw the key and velocity ranges of a preset or an instrument.
@@ -37,6 +41,8 @@ pub enum Request<'a> {
     Script(ScriptPaths<'a>),
     /// List what a bank has.
     Show(ShowPaths<'a>),
+    /// Remove what a bank doesn't use, and change no sound.
+    Tidy(PlanPaths<'a>),
     /// Write a sample as a WAVE file.
     Wave(WavePaths<'a>),
 }
@@ -168,10 +174,11 @@ pub fn request_of<'a, S: AsStr>(alloc: Global, words: &'a [S]) -> Result<Request
     ensures fault { FailsByFault sfbank_app (map S.text words.entry.now) result }
 {
     let mut command = sfbank_command(alloc)?;
-    parse_request(&mut command, words)
+    parse_request(alloc, &mut command, words)
 }
 
 fn parse_request<'a, S: AsStr>(
+    alloc: Global,
     command: &mut Command<'a>,
     words: &'a [S],
 ) -> Result<Request<'a>, Error>
@@ -180,16 +187,57 @@ fn parse_request<'a, S: AsStr>(
         → FailsByFault (app_of command.old) (map S.text words.entry.now) result }
 {
     let matches = command.try_get_matches_from_mut(words)?;
-    match request_in(&matches) {
+    let found = request_in(alloc, &matches)?;
+    match found {
         Some(request) => Ok(request),
-        None => Err(command.error(ErrorKind::MissingSubcommand, "no command was given")?),
+        None => Err(command.error(ErrorKind::MissingSubcommand, no_request(&matches))?),
     }
 }
 
-fn request_in<'a>(matches: &ArgMatches<'a>) -> Option<Request<'a>>
-    ensures { FindsOne result (AsksFor (subcommand_rows_of matches.now)) }
+/// Returns the message for words in which clap finds no fault, but which make no request.
+fn no_request(matches: &ArgMatches<'_>) -> &'static str {
+    match matches.subcommand_name() {
+        Some("keep") => {
+            "keep needs either --notes NOTES or --preset BANK:NUMBER, such as --preset 0:24"
+        }
+        _ => "no command was given",
+    }
+}
+
+fn request_in<'a>(
+    alloc: Global,
+    matches: &ArgMatches<'a>,
+) -> Result<Option<Request<'a>>, AllocError>
+    ensures { IfOk result (λ found. FindsOne found (AsksFor (subcommand_rows_of matches.now))) }
 {
-    let (name, words) = matches.subcommand()?;
+    let Some((name, words)) = matches.subcommand() else {
+        return Ok(None);
+    };
+    if name == "keep" {
+        request_to_keep(alloc, words)
+    } else {
+        Ok(request_of_command(name, words))
+    }
+}
+
+fn request_to_keep<'a>(
+    alloc: Global,
+    words: &ArgMatches<'a>,
+) -> Result<Option<Request<'a>>, AllocError>
+    ensures { IfOk result (λ found. FindsOne found (AsksFor (Some (codes "keep", rows_in words.now)))) }
+{
+    let found = read_keep(alloc, words)?;
+    match found {
+        Some(keep) => Ok(Some(Request::Keep(keep))),
+        None => Ok(None),
+    }
+}
+
+/// Returns the request of a command other than `keep`.
+fn request_of_command<'a>(name: &str, words: &ArgMatches<'a>) -> Option<Request<'a>>
+    requires { name.now ≢ codes "keep" }
+    ensures { FindsOne result (AsksFor (Some (name.now, rows_in words.now))) }
+{
     Some(match name {
         "apply" => Request::Apply(read_apply(words)?),
         "canon" => Request::Canon(read_canon(words)?),
@@ -202,6 +250,7 @@ fn request_in<'a>(matches: &ArgMatches<'a>) -> Option<Request<'a>>
         "play" => Request::Play(read_play(words)?),
         "script" => Request::Script(read_script(words)?),
         "show" => Request::Show(read_show(words)?),
+        "tidy" => Request::Tidy(read_plan(words)?),
         "wave" => Request::Wave(read_wave(words)?),
         _ => return None,
     })
@@ -356,7 +405,7 @@ fn read_wave<'a>(matches: &ArgMatches<'a>) -> Option<WavePaths<'a>>
     })
 }
 
-fn read_word<'a>(matches: &ArgMatches<'a>, name: &str) -> Option<&'a str>
+pub(crate) fn read_word<'a>(matches: &ArgMatches<'a>, name: &str) -> Option<&'a str>
     ensures { option_map (λ word. word.now) result ≡ first_of name.now (rows_in matches.now) }
 {
     matches.get_str(name)
@@ -368,7 +417,7 @@ fn read_number(matches: &ArgMatches<'_>, name: &str) -> Option<u32>
     matches.get_one::<u32>(name)
 }
 
-fn read_flag(matches: &ArgMatches<'_>, name: &str) -> bool
+pub(crate) fn read_flag(matches: &ArgMatches<'_>, name: &str) -> bool
     ensures { IsGiven (rows_in matches.now) (Flag name.now result) }
 {
     matches.get_flag(name)

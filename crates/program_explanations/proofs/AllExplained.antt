@@ -17,7 +17,7 @@ use Rattle.edit_refusals.specs.declared.refusal.Refusal.TheVariants as refusal
 use Rattle.program_explanations.specs.declared.explanations.FaultCode.{FaultCode}
 use Rattle.program_explanations.specs.declared.explanations.FaultCode.TheVariants.{Reading, Script, Notes, Recording, Output}
 use Rattle.program_explanations.specs.declared.explanations.FaultCode.TheVariants.{Refused, NotNeutral, OtherVersion}
-use Rattle.program_explanations.specs.declared.explanations.FaultCode.TheVariants.{TooManyFrames}
+use Rattle.program_explanations.specs.declared.explanations.FaultCode.TheVariants.{TooManyFrames, PlanFailed}
 use Rattle.program_explanations.specs.declared.explanations.TheConstants.{ALL}
 use Rattle.program_explanations.specs.Explanations.{number_of}
 
@@ -108,6 +108,7 @@ of_code (Refused it) = of_refusal it
 of_code NotNeutral = refl
 of_code OtherVersion = refl
 of_code TooManyFrames = refl
+of_code PlanFailed = refl
 
 -- each fault and refusal is found by its number
 pub all_found : (code : FaultCode) (n : ℕ) → number_of code ≡ n → Found n

@@ -36,6 +36,8 @@ pub enum FaultCode {
     OtherVersion,
     /// More frames than a live session can write.
     TooManyFrames,
+    /// A plan that failed.
+    PlanFailed,
 }
 
 /// The explanation of a fault or refusal.
@@ -52,7 +54,7 @@ pub struct Explanation {
 }
 
 /// One fault or refusal for each number. The fields of a variant have any value.
-static ALL: [FaultCode; 61] = [
+static ALL: [FaultCode; 62] = [
     FaultCode::Reading(ReadFault::NotRiff),
     FaultCode::Reading(ReadFault::NotSfbk),
     FaultCode::Reading(ReadFault::Truncated),
@@ -114,6 +116,7 @@ static ALL: [FaultCode; 61] = [
     FaultCode::Recording(WaveFault::LoopOutside),
     FaultCode::Output(OutputFault::SameFile),
     FaultCode::Output(OutputFault::HoldsBank),
+    FaultCode::PlanFailed,
 ];
 
 impl FaultCode {
@@ -131,6 +134,7 @@ impl FaultCode {
             FaultCode::NotNeutral => 50,
             FaultCode::OtherVersion => 51,
             FaultCode::TooManyFrames => 52,
+            FaultCode::PlanFailed => 66,
         }
     }
 
@@ -148,6 +152,7 @@ impl FaultCode {
             FaultCode::NotNeutral => "NotNeutral",
             FaultCode::OtherVersion => "OtherVersion",
             FaultCode::TooManyFrames => "TooManyFrames",
+            FaultCode::PlanFailed => "PlanFailed",
         }
     }
 
@@ -171,6 +176,10 @@ impl FaultCode {
             FaultCode::TooManyFrames => (
                 "A live session writes at most 100,000,000 frames.",
                 "Save the bank, and start another session.",
+            ),
+            FaultCode::PlanFailed => (
+                "The edits of the command do not lead to what it promises: a defect of sfbank.",
+                "Report it, with the bank and the command; no file was changed.",
             ),
         }
     }

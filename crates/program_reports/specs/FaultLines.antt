@@ -20,7 +20,8 @@ use Rattle.file_host.specs.InputFaults.{reason_of}
 use Rattle.program_reports.specs.declared.run_fault.RunFault.{RunFault}
 use Rattle.program_reports.specs.declared.run_fault.RunFault.TheVariants.{Read, ReadFirst, ReadSecond, Script}
 use Rattle.program_reports.specs.declared.run_fault.RunFault.TheVariants.{Refused, NotNeutral, OtherVersion, Notes}
-use Rattle.program_reports.specs.declared.run_fault.RunFault.TheVariants.{Recording, NoMember, Write, Memory}
+use Rattle.program_reports.specs.declared.run_fault.RunFault.TheVariants.{Recording, NoMember, PlanFailed, Write}
+use Rattle.program_reports.specs.declared.run_fault.RunFault.TheVariants.{Memory}
 
 -- a line that ends with a number and a name
 abbrev pub named_line : List ℕ → ℕ → List ℕ → List ℕ
@@ -120,6 +121,7 @@ fault_line path OtherVersion = codes "sfbank: refused 51 OtherVersion\n"
 fault_line path (Notes fault) = notes_line fault
 fault_line path (Recording fault) = recording_line fault
 fault_line path (NoMember cause) = no_member_line cause
+fault_line path PlanFailed = codes "sfbank: plan fault 66 PlanFailed\n"
 fault_line path (Write which written) = write_line path written
 fault_line path Memory = codes "sfbank: out of memory\n"
 
@@ -137,3 +139,4 @@ status_of (Recording fault) = 2
 status_of (NoMember cause) = 4
 status_of (Write which written) = 5
 status_of Memory = 6
+status_of PlanFailed = 7

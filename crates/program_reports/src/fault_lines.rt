@@ -32,7 +32,7 @@ pub fn fault_text<W: Write>(fault: &RunFault, path: &str, out: &mut W) -> Result
 
 /// The exit status of a run's fault: 2 for a fault of a bank file or a WAVE file, 3 of a script or notes, 4 for a
 /// refused edit, a preset, instrument or sample that does not exist or banks of different versions, 5 for a write
-/// fault, and 6 for a failed allocation.
+/// fault, 6 for a failed allocation, and 7 for a plan that failed.
 pub fn exit_status(fault: &RunFault) -> u8
     ensures { result ≡ status_of fault.now }
 {
@@ -48,6 +48,7 @@ pub fn exit_status(fault: &RunFault) -> u8
         | RunFault::NoMember(_) => 4,
         RunFault::Write(_, _) => 5,
         RunFault::Memory => 6,
+        RunFault::PlanFailed => 7,
     }
 }
 
@@ -67,6 +68,7 @@ pub(crate) fn put_fault<W: Write>(fault: &RunFault, path: &str, output: &mut Out
         RunFault::OtherVersion => output.put(b"sfbank: refused 51 OtherVersion\n"),
         RunFault::Recording(fault) => put_recording_fault(*fault, output),
         RunFault::NoMember(cause) => put_no_member(*cause, output),
+        RunFault::PlanFailed => output.put(b"sfbank: plan fault 66 PlanFailed\n"),
         RunFault::Write(_, written) => put_write_fault(path, *written, output),
         RunFault::Memory => output.put(b"sfbank: out of memory\n"),
     }

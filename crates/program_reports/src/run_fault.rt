@@ -46,6 +46,9 @@ pub enum RunFault {
     /// The bank has no preset, instrument or sample of this number.
     #[error("{0}")]
     NoMember(Cause),
+    /// A plan's edits are refused, or don't lead to what the plan promises: a defect of the program.
+    #[error("the plan failed")]
+    PlanFailed,
     /// A writer accepted exactly this many bytes of its text, or all of them but failed to flush.
     #[error("write fault after {1} bytes")]
     Write(Which, u64),

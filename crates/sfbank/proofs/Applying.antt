@@ -12,3 +12,8 @@ pub record SoFar (first now : Parts) (lines rest : List Line) (inverses : List E
   pub refused : first_refused first lines ≡ first_refused now rest
   pub changed : after_all first (edits_of lines) ≡ after_all now (edits_of rest)
   pub undone : undo_list first (edits_of lines) ≡ undo_list now (edits_of rest) ++ reverse inverses
+
+-- the same of edits alone
+pub record EditsSoFar (first now : Parts) (edits rest : List Edit) (inverses : List Edit) : Type 0 where
+  pub changed : after_all first edits ≡ after_all now rest
+  pub undone : undo_list first edits ≡ undo_list now rest ++ reverse inverses

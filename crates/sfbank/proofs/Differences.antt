@@ -201,6 +201,7 @@ runs_difference old new a b text (Err (run.Write which n)) pair d g =
     writes_difference {U = Unit {0}} old new a b text (Err (run.Write which n)) pair d g
 runs_difference old new a b text (Err run.Memory) pair d g = absurd g
 runs_difference old new a b text (Err run.OtherVersion) pair d g = absurd g
+runs_difference old new a b text (Err run.PlanFailed) pair d g = absurd g
 runs_difference old new a b text (Err (run.Recording fault)) pair d g = absurd g
 runs_difference old new a b text (Err (run.NoMember cause)) pair d g = absurd g
 runs_difference old new a b text (Err (run.Read fault)) pair d g = absurd g
@@ -222,6 +223,7 @@ pub no_difference_runs : {X : Type 0} (view : X → List ℕ) (known : Option (L
     → FindsDifference view a b (Err why) → RunsDifference {U = Unit {0}} known known a b (Err why)
 no_difference_runs view known a b run.Memory h = Keeps-refl known
 no_difference_runs view known a b run.OtherVersion h = (h, Keeps-refl known)
+no_difference_runs view known a b run.PlanFailed h = (h, Keeps-refl known)
 no_difference_runs view known a b (run.Recording fault) h = (h, Keeps-refl known)
 no_difference_runs view known a b (run.NoMember cause) h = (h, Keeps-refl known)
 no_difference_runs view known a b (run.Read fault) h = (h, Keeps-refl known)

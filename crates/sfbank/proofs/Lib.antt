@@ -17,3 +17,5 @@ mod CommandLaws
 mod LiveLaws
 pub mod UndoneFiles
 pub mod ScriptFiles
+pub mod PlannedEdits
+mod FoundEdits

@@ -60,6 +60,7 @@ memory_stops p w planned old new (Err (Run (run.Script f) path)) h = absurd h
 memory_stops p w planned old new (Err (Run (run.Refused n f) path)) h = absurd h
 memory_stops p w planned old new (Err (Run (run.NotNeutral n) path)) h = absurd h
 memory_stops p w planned old new (Err (Run run.OtherVersion path)) h = absurd h
+memory_stops p w planned old new (Err (Run run.PlanFailed path)) h = absurd h
 memory_stops p w planned old new (Err (Run (run.Notes f) path)) h = absurd h
 memory_stops p w planned old new (Err (Run (run.Recording f) path)) h = absurd h
 memory_stops p w planned old new (Err (Run (run.NoMember f) path)) h = absurd h

@@ -17,10 +17,11 @@ use Rattle.program_reports.specs.declared.run_fault.RunFault.{RunFault}
 use Rattle.program_reports.specs.declared.run_fault.RunFault.TheVariants as run
 use Rattle.sfbank.specs.Outcome.{Done, after_reading}
 use Rattle.sfbank.specs.Written.{FailsBefore}
-use Rattle.sfbank.specs.Plans.{Action, Content, Why, Fails, SavesBoth, Prints, Text, Explanation, standard_output, put_at}
+use Rattle.sfbank.specs.Plans.{Action, Content, Texts, Known, Why, Fails, SavesBoth, Prints, Text, Explanation}
+use Rattle.sfbank.specs.Plans.{standard_output, put_at}
 use Rattle.sfbank.specs.Plans.{Difference, with_text, with_print, with_both, with_difference}
 use Rattle.sfbank.specs.Differences.{TwoBanks, FindsDifference, banks_in, two_banks_of}
-use Rattle.sfbank.specs.Ends.{Outside, IsContent, IsUnexplained, IsEarly, IsStopped, EndsAs, EndsFor}
+use Rattle.sfbank.specs.Ends.{Outside, AreTexts, IsContent, IsUnexplained, IsEarly, IsStopped, EndsAs, EndsFor}
 use Rattle.sfbank.specs.Meanings.{MeansPlan}
 use Rattle.sfbank.specs.Outputs.{FailsFirst, PrintsAt, PrintsOutcome, PrintsExplanation, SavesPairAt, path_of}
 use Rattle.sfbank.specs.Steps.{ReadsBank}
@@ -38,6 +39,7 @@ bank_fails view (run.Script f) file r h = absurd h
 bank_fails view (run.Refused n f) file r h = absurd h
 bank_fails view (run.NotNeutral n) file r h = absurd h
 bank_fails view run.OtherVersion file r h = absurd h
+bank_fails view run.PlanFailed file r h = absurd h
 bank_fails view (run.Notes f) file r h = absurd h
 bank_fails view (run.Recording f) file r h = absurd h
 bank_fails view (run.NoMember f) file r h = absurd h
@@ -59,6 +61,7 @@ run_fails w path planned (run.Script f) outcome law h = ap planned h ∙ law (ru
 run_fails w path planned (run.Refused n f) outcome law h = ap planned h ∙ law (run.Refused n f)
 run_fails w path planned (run.NotNeutral n) outcome law h = ap planned h ∙ law (run.NotNeutral n)
 run_fails w path planned run.OtherVersion outcome law h = ap planned h ∙ law run.OtherVersion
+run_fails w path planned run.PlanFailed outcome law h = inl (ap planned h ∙ law run.PlanFailed)
 run_fails w path planned (run.Notes f) outcome law h = ap planned h ∙ law (run.Notes f)
 run_fails w path planned (run.Recording f) outcome law h = ap planned h ∙ law (run.Recording f)
 run_fails w path planned (run.NoMember f) outcome law h = ap planned h ∙ law (run.NoMember f)
@@ -126,6 +129,7 @@ prints_end w path text content planned old new written (Err (Run (run.Script f) 
 prints_end w path text content planned old new written (Err (Run (run.Refused n f) p)) e is h = absurd h
 prints_end w path text content planned old new written (Err (Run (run.NotNeutral n) p)) e is h = absurd h
 prints_end w path text content planned old new written (Err (Run run.OtherVersion p)) e is h = absurd h
+prints_end w path text content planned old new written (Err (Run run.PlanFailed p)) e is h = absurd h
 prints_end w path text content planned old new written (Err (Run (run.Notes f) p)) e is h = absurd h
 prints_end w path text content planned old new written (Err (Run (run.Recording f) p)) e is h = absurd h
 prints_end w path text content planned old new written (Err (Run (run.NoMember f) p)) e is h = absurd h
@@ -194,58 +198,59 @@ explain_means number (Some w) old new written end h =
 
 -- ---- two texts that are saved
 
-both_stop : (w : World) (out undo : List ℕ) (done : Done) (planned : Result Action Why) (new : Option World)
+both_stop : (w : World) (out undo : List ℕ) (texts : Texts) (done : Done) (planned : Result Action Why) (new : Option World)
     (printed : Option (List ℕ)) (written n : ℕ) (some : Which) (at_path : List ℕ)
-    → planned ≡ Ok (SavesBoth out undo done) → at_path ≡ path_of some out undo → n ≡ written
+    → planned ≡ Ok (SavesBoth out undo texts) → AreTexts texts done → at_path ≡ path_of some out undo → n ≡ written
     → SpoilsPair (Some w) new undo done.undo out done.out
     → IsStopped planned some n at_path (at (Some w) printed) (at new printed) written
-both_stop w out undo done planned new printed written n Out at_path e p c h = record {
-  action = SavesBoth out undo done;
+both_stop w out undo texts done planned new printed written n Out at_path e are p c h = record {
+  action = SavesBoth out undo texts;
   is_planned = e;
   path = p;
-  stops = (c, record { files = h; printed = Keeps-refl printed });
+  stops = (c, record { done = done; are = are; files = h; printed = Keeps-refl printed });
 }
-both_stop w out undo done planned new printed written n Undo at_path e p c h = record {
-  action = SavesBoth out undo done;
+both_stop w out undo texts done planned new printed written n Undo at_path e are p c h = record {
+  action = SavesBoth out undo texts;
   is_planned = e;
   path = p;
-  stops = (c, record { files = h; printed = Keeps-refl printed });
+  stops = (c, record { done = done; are = are; files = h; printed = Keeps-refl printed });
 }
 
-both_end : (w : World) (out undo : List ℕ) (done : Done) (planned : Result Action Why) (new : Option World)
+pub both_end : (w : World) (out undo : List ℕ) (texts : Texts) (done : Done) (planned : Result Action Why) (new : Option World)
     (printed : Option (List ℕ)) (written : ℕ) (end : Result (Unit {0}) Fault)
-    → planned ≡ Ok (SavesBoth out undo done) → SavesPairAt out undo done (Some w) new written end
+    → planned ≡ Ok (SavesBoth out undo texts) → AreTexts texts done → SavesPairAt out undo done (Some w) new written end
     → EndsAs w planned (at (Some w) printed) (at new printed) written end
-both_end w out undo done planned new printed written (Ok u) e h = record {
-  action = SavesBoth out undo done;
+both_end w out undo texts done planned new printed written (Ok u) e are h = record {
+  action = SavesBoth out undo texts;
   is_planned = e;
-  does = (h, Keeps-refl printed);
+  does = record { done = done; are = are; files = h; printed = Keeps-refl printed };
 }
-both_end w out undo done planned new printed written (Err (Run (run.Write some n) p)) e h =
-    both_stop w out undo done planned new printed written n some p.now e h.0 h.1 h.2
-both_end w out undo done planned new printed written (Err (Run run.Memory p)) e h = (tt, untouched (Some w) new printed h)
-both_end w out undo done planned new printed written (Err PipeClosed) e h = record {
-  action = SavesBoth out undo done;
+both_end w out undo texts done planned new printed written (Err (Run (run.Write some n) p)) e are h =
+    both_stop w out undo texts done planned new printed written n some p.now e are h.0 h.1 h.2
+both_end w out undo texts done planned new printed written (Err (Run run.Memory p)) e are h = (tt, untouched (Some w) new printed h)
+both_end w out undo texts done planned new printed written (Err PipeClosed) e are h = record {
+  action = SavesBoth out undo texts;
   is_planned = e;
   some = Out;
   n = written;
-  stops = (refl, record { files = h; printed = Keeps-refl printed });
+  stops = (refl, record { done = done; are = are; files = h; printed = Keeps-refl printed });
 }
-both_end w out undo done planned new printed written (Err (Words x)) e h = absurd h
-both_end w out undo done planned new printed written (Err NotText) e h = absurd h
-both_end w out undo done planned new printed written (Err (Unexplained n)) e h = absurd h
-both_end w out undo done planned new printed written (Err (File p f)) e h = absurd h
-both_end w out undo done planned new printed written (Err (Output f p)) e h = absurd h
-both_end w out undo done planned new printed written (Err (Run (run.Read f) p)) e h = absurd h
-both_end w out undo done planned new printed written (Err (Run (run.ReadFirst f) p)) e h = absurd h
-both_end w out undo done planned new printed written (Err (Run (run.ReadSecond f) p)) e h = absurd h
-both_end w out undo done planned new printed written (Err (Run (run.Script f) p)) e h = absurd h
-both_end w out undo done planned new printed written (Err (Run (run.Refused n f) p)) e h = absurd h
-both_end w out undo done planned new printed written (Err (Run (run.NotNeutral n) p)) e h = absurd h
-both_end w out undo done planned new printed written (Err (Run run.OtherVersion p)) e h = absurd h
-both_end w out undo done planned new printed written (Err (Run (run.Notes f) p)) e h = absurd h
-both_end w out undo done planned new printed written (Err (Run (run.Recording f) p)) e h = absurd h
-both_end w out undo done planned new printed written (Err (Run (run.NoMember f) p)) e h = absurd h
+both_end w out undo texts done planned new printed written (Err (Words x)) e are h = absurd h
+both_end w out undo texts done planned new printed written (Err NotText) e are h = absurd h
+both_end w out undo texts done planned new printed written (Err (Unexplained n)) e are h = absurd h
+both_end w out undo texts done planned new printed written (Err (File p f)) e are h = absurd h
+both_end w out undo texts done planned new printed written (Err (Output f p)) e are h = absurd h
+both_end w out undo texts done planned new printed written (Err (Run (run.Read f) p)) e are h = absurd h
+both_end w out undo texts done planned new printed written (Err (Run (run.ReadFirst f) p)) e are h = absurd h
+both_end w out undo texts done planned new printed written (Err (Run (run.ReadSecond f) p)) e are h = absurd h
+both_end w out undo texts done planned new printed written (Err (Run (run.Script f) p)) e are h = absurd h
+both_end w out undo texts done planned new printed written (Err (Run (run.Refused n f) p)) e are h = absurd h
+both_end w out undo texts done planned new printed written (Err (Run (run.NotNeutral n) p)) e are h = absurd h
+both_end w out undo texts done planned new printed written (Err (Run run.OtherVersion p)) e are h = absurd h
+both_end w out undo texts done planned new printed written (Err (Run run.PlanFailed p)) e are h = absurd h
+both_end w out undo texts done planned new printed written (Err (Run (run.Notes f) p)) e are h = absurd h
+both_end w out undo texts done planned new printed written (Err (Run (run.Recording f) p)) e are h = absurd h
+both_end w out undo texts done planned new printed written (Err (Run (run.NoMember f) p)) e are h = absurd h
 
 pub both_saved : (files new : Option World) (out undo : List ℕ) (done : Done) (outcome : Result Done RunFault)
     (printed : Option (List ℕ)) (written : ℕ) (end : Result (Unit {0}) Fault)
@@ -253,7 +258,7 @@ pub both_saved : (files new : Option World) (out undo : List ℕ) (done : Done) 
     → EndsFor (λ w. with_both out undo outcome) (at files printed) (at new printed) written end
 both_saved None new out undo done outcome printed written end e h = tt
 both_saved (Some w) new out undo done outcome printed written end e h =
-    both_end w out undo done (with_both out undo outcome) new printed written end (ap (with_both out undo) e) h
+    both_end w out undo (Known done) done (with_both out undo outcome) new printed written end (ap (with_both out undo) e) refl h
 
 pub both_fail : (files : Option World) (printed : Option (List ℕ)) (written : ℕ) (out : Bor (List ℕ)) (undo : List ℕ)
     (why : RunFault) (outcome : Result Done RunFault) → FailsBefore why outcome
@@ -280,6 +285,7 @@ no_difference view a b (run.Script f) h = h
 no_difference view a b (run.Refused n f) h = h
 no_difference view a b (run.NotNeutral n) h = h
 no_difference view a b run.OtherVersion h = h
+no_difference view a b run.PlanFailed h = h
 no_difference view a b (run.Notes f) h = h
 no_difference view a b (run.Recording f) h = h
 no_difference view a b (run.NoMember f) h = h

@@ -22,14 +22,16 @@ use Rattle.program_commands.specs.declared.words.Forms.TheVariants.{Every, Neutr
 use Rattle.program_reports.specs.declared.run_fault.RunFault.{RunFault}
 use Rattle.sfbank.specs.Outcome.{Done, bank_in, edits_of, outcome, play_outcome}
 use Rattle.sfbank.specs.EditRuns.{after_lines, outcome_of}
-use Rattle.sfbank.specs.Plans.{Why, Rejected, SavesBoth, name_in, unless, with_both}
+use Rattle.sfbank.specs.Plans.{Why, Rejected, SavesBoth, Known, name_in, unless, with_both}
 use Rattle.sfbank.specs.UndoneFiles.{IsApplied, IsImported, ArePlaced, RunsOn, IsRestored}
-use Rattle.sfbank.specs.UndoneFiles.{UndoRestoresFiles, UndoRemovesRecordings, UndoEndsSessions}
+use Rattle.sfbank.specs.UndoneFiles.{UndoRestoresFiles, UndoRemovesRecordings, UndoRestoresPlans, UndoEndsSessions}
+use Rattle.sfbank.specs.PlannedEdits.{promise_of}
 use Rattle.sfbank.specs.SavedBanks.{SavedUndoRestores}
 use Rattle.sfbank.specs.Recordings.{import_outcome, edits_into}
 use Rattle.sfbank.proofs.Neutral.{of_every, of_neutral, neutrally_restores}
 use Rattle.sfbank.proofs.Restores.{restores, reading_done}
 use Rattle.sfbank.proofs.Recordings.{import_read, import_restores}
+use Rattle.sfbank.proofs.PlannedEdits.{no_fault, plan_is_undone}
 use Rattle.sfbank.proofs.RenderLaws.{played_on_canon}
 
 -- ---- files that were saved
@@ -86,7 +88,7 @@ unless_done true why rest x e = cc
 unless_done false why rest x e = e
 
 both_done : (out undo : List ℕ) (r : Result Done RunFault) (done : Done)
-    → with_both out undo r ≡ Ok (SavesBoth out undo done) → r ≡ Ok done
+    → with_both out undo r ≡ Ok (SavesBoth out undo (Known done)) → r ≡ Ok done
 both_done out undo (Ok x) done e = cc
 both_done out undo (Err fault) done e = cc
 
@@ -209,6 +211,16 @@ undo_removes_recordings first second old left now new file wave other_file other
     restored second now new file (texts_of (edits_into (bank_in file) name r)) other_file other_script back bytes
     (import_read file wave name done was) h.done
     (ok_same back _ (outcome done.out done.undo) gives (import_restores file wave name bytes wave_bytes name_bytes done r was records))
+
+pub undo_restores_plans : UndoRestoresPlans
+undo_restores_plans purpose out undo second old left now new file other_file other_script done back found bytes saved placed
+    every h =
+    let promise = promise_of purpose in
+    let gives =
+    every_gives second out undo old left now new other_file other_script done back saved placed every h in
+    restored second now new file (texts_of found.edits) other_file other_script back bytes
+    (no_fault promise file done found) h.done
+    (ok_same back _ (outcome done.out done.undo) gives (plan_is_undone promise file bytes done found))
 
 pub undo_ends_sessions : SavedUndoRestores → UndoEndsSessions
 undo_ends_sessions law file ts last c out undo second old left now new other_file other_script back bytes read turns history

@@ -17,8 +17,9 @@ use Rattle.program_reports.specs.declared.fault.Fault.TheVariants.{Unexplained, 
 use Rattle.program_reports.specs.declared.run_fault.RunFault.TheVariants as run
 use Rattle.sfbank.specs.Outcome.{Done, bank_in}
 use Rattle.sfbank.specs.Differences.{IsDifference}
-use Rattle.sfbank.specs.Plans.{Action, Content, Saves, SavesBoth, Prints, Plays}
-use Rattle.sfbank.specs.Plans.{Text, Difference, Explanation as Explains, Why, Rejected, Unread, Fails, standard_output}
+use Rattle.sfbank.specs.PlannedEdits.{IsPlanned, IsScript, promise_of}
+use Rattle.sfbank.specs.Plans.{Action, Content, Texts, Known, Found, Saves, SavesBoth, Prints, Plays}
+use Rattle.sfbank.specs.Plans.{Text, Difference, Edits, Explanation as Explains, Why, Rejected, Unread, Fails, standard_output}
 
 -- the world of files, and the bytes of the standard output
 pub record Outside : Type 0 where
@@ -36,8 +37,14 @@ pub record IsUntouched (old new : Outside) : Type 0 where
 abbrev pub IsContent : Content → List ℕ → Type 0
 IsContent (Text text) bytes = bytes ≡ text
 IsContent (Difference a b) bytes = IsDifference a b bytes × (bank_in a ≡ bank_in b → bytes ≡ [])
+IsContent (Edits purpose file) bytes = IsScript (promise_of purpose) file bytes
 IsContent (Explains number) bytes =
     (e : Explanation) × explanations.IsOfNumber number e.number e.name.now × (bytes ≡ explanations.explanation_text e)
+
+-- these are the texts of a bank's file and of its undo script
+abbrev pub AreTexts : Texts → Done → Type 0
+AreTexts (Known texts) done = done ≡ texts
+AreTexts (Found purpose file) done = IsPlanned (promise_of purpose) file done
 
 -- no fault and no refusal has this number
 abbrev pub IsUnexplained : ℕ → Type 0
@@ -52,6 +59,13 @@ pub record SavesFile (path : List ℕ) (content : Content) (old new : Outside) :
   pub files : new.files ≡ option_map (world.with_text path text) old.files
   pub printed : Keeps old.printed new.printed
 
+-- a bank's file and its undo script are saved whole, and all else is as it was
+pub record SavesPair (out undo : List ℕ) (texts : Texts) (old new : Outside) : Type 0 where
+  pub done : Done
+  pub are : AreTexts texts done
+  pub files : new.files ≡ option_map (with_pair undo done.undo out done.out) old.files
+  pub printed : Keeps old.printed new.printed
+
 -- a text is printed whole, and no file is changed
 pub record PrintsText (content : Content) (old new : Outside) : Type 0 where
   pub text : List ℕ
@@ -61,8 +75,7 @@ pub record PrintsText (content : Content) (old new : Outside) : Type 0 where
 
 abbrev pub Does : Action → Outside → Outside → Type 0
 Does (Saves path content) old new = SavesFile path content old new
-Does (SavesBoth out undo done) old new =
-    (new.files ≡ option_map (with_pair undo done.undo out done.out) old.files) × Keeps old.printed new.printed
+Does (SavesBoth out undo texts) old new = SavesPair out undo texts old new
 Does (Prints path content) old new = PrintsText content old new
 Does (Plays paths file) old new = ⊥
 
@@ -79,7 +92,9 @@ pub record StopsFile (path : List ℕ) (content : Content) (old new : Outside) :
   pub printed : Keeps old.printed new.printed
 
 -- both files are as they were, or whole
-pub record StopsPair (out undo : List ℕ) (done : Done) (old new : Outside) : Type 0 where
+pub record StopsPair (out undo : List ℕ) (texts : Texts) (old new : Outside) : Type 0 where
+  pub done : Done
+  pub are : AreTexts texts done
   pub files : SpoilsPair old.files new.files undo done.undo out done.out
   pub printed : Keeps old.printed new.printed
 
@@ -94,25 +109,32 @@ pub record StopsPrint (content : Content) (n : ℕ) (old new : Outside) : Type 0
 -- an action stops after so many bytes of a text, where the last failed save wrote `written` bytes
 abbrev pub StopsIn : Action → Which → ℕ → ℕ → Outside → Outside → Type 0
 StopsIn (Saves path content) which.Out n written old new = (n ≡ written) × StopsFile path content old new
-StopsIn (SavesBoth out undo done) some n written old new = (n ≡ written) × StopsPair out undo done old new
+StopsIn (SavesBoth out undo texts) some n written old new = (n ≡ written) × StopsPair out undo texts old new
 StopsIn (Prints path content) which.Out n written old new = StopsPrint content n old new
 StopsIn action other n written old new = ⊥
 
 -- the path of the text that an action writes
 abbrev pub path_in : Action → Which → List ℕ
 path_in (Saves path content) some = path
-path_in (SavesBoth out undo done) which.Out = out
-path_in (SavesBoth out undo done) which.Undo = undo
+path_in (SavesBoth out undo texts) which.Out = out
+path_in (SavesBoth out undo texts) which.Undo = undo
 path_in (Prints path content) some = path
 path_in (Plays paths file) some = paths.pcm.now
 
 -- ---- a request
 
--- The fault of a request that does nothing is the plan's. It may be out of memory in place of any answer, and an output
--- that can't be read to its end may be rejected as a bank.
+-- edits have to be found
+abbrev pub FindsEdits : Result Action Why → Type 0
+FindsEdits (Ok (SavesBoth out undo (Found purpose file))) = ⊤
+FindsEdits (Ok (Prints path (Edits purpose file))) = ⊤
+FindsEdits other = ⊥
+
+-- The fault of a request that does nothing is the plan's. It may be out of memory in place of any answer, `PlanFailed`
+-- where edits have to be found, and an output that can't be read to its end may be rejected as a bank.
 abbrev pub IsEarly : World → Result Action Why → Fault → Type 0
 IsEarly w planned (Run run.Memory path) = ⊤
 IsEarly w planned (Run (run.Write which n) path) = ⊥
+IsEarly w planned (Run run.PlanFailed path) = (planned ≡ Err (Fails path.now run.PlanFailed)) ⊎ FindsEdits planned
 IsEarly w planned (Run fault path) = planned ≡ Err (Fails path.now fault)
 IsEarly w planned (File path fault) = planned ≡ Err (Unread path.now fault)
 IsEarly w planned (Output HoldsBank path) = (planned ≡ Err (Rejected path.now HoldsBank)) ⊎ IsUnreadable w path.now

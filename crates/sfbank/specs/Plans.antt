@@ -12,18 +12,25 @@ use Rattle.script_of_bank.specs.declared.samples.SamplePoints.{SamplePoints}
 use Rattle.script_of_bank.specs.declared.samples.SamplePoints.TheVariants.{Kept, LeftOut}
 use Rattle.show_listing.specs.declared.listing.Details.{Details}
 use Rattle.program_commands.specs.declared.words.Request.{Request}
-use Rattle.program_commands.specs.declared.words.Request.TheVariants.{Apply, Canon, Diff, Explain, Import, Live, Map}
-use Rattle.program_commands.specs.declared.words.Request.TheVariants.{New, Play, Script, Show, Wave}
+use Rattle.program_commands.specs.declared.words.Request.TheVariants.{Apply, Canon, Diff, Explain, Import, Keep, Live}
+use Rattle.program_commands.specs.declared.words.Request.TheVariants.{Map, New, Play, Script, Show, Tidy, Wave}
+use Rattle.program_commands.specs.declared.plans.Kept as kept
+use Rattle.program_commands.specs.declared.plans.Kept.TheVariants.{Notes, Presets}
 use Rattle.program_commands.specs.declared.words.LivePaths.{LivePaths}
+use Rattle.program_commands.specs.declared.plans.PlanPaths.{PlanPaths}
 use Rattle.program_commands.specs.declared.words.ShowPaths.{ShowPaths}
 use Rattle.program_reports.specs.declared.run_fault.RunFault.{RunFault}
-use Rattle.sfbank.specs.Outcome.{Done, canon_outcome, show_outcome, show_details_outcome, play_outcome}
+use Rattle.bank_format.specs.ReadChecks.{fault_of}
+use Rattle.script_notes.specs.Notes.{notes_of}
+use Rattle.sfbank.specs.Outcome.{Done, after_reading, bank_in, canon_outcome, show_outcome, show_details_outcome}
+use Rattle.sfbank.specs.Outcome.{play_outcome}
 use Rattle.sfbank.specs.EditRuns.{outcome_of}
 use Rattle.sfbank.specs.BankScripts.{script_outcome}
 use Rattle.sfbank.specs.Differences.{TwoBanks, two_banks_of}
 use Rattle.sfbank.specs.NewBanks.{new_outcome}
 use Rattle.sfbank.specs.Maps.{map_outcome}
 use Rattle.sfbank.specs.Recordings.{import_outcome, wave_outcome}
+use Rattle.sfbank.specs.PlannedEdits.{Purpose, Tidying, keeping_listed, keeping_notes}
 
 -- the text of a path
 abbrev pub Path : Type 0
@@ -33,16 +40,23 @@ Path = List ℕ
 abbrev pub standard_output : Path
 standard_output = codes "-"
 
--- What is written: these bytes, a script that is found between two files, or the explanation of a number.
+-- What is written: these bytes, a script that is found between two files or for the bank of a file, or the explanation
+-- of a number.
 pub data Content : Type 0 where
   Text : List ℕ → Content
   Difference : List ℕ → List ℕ → Content
+  Edits : Purpose → List ℕ → Content
   Explanation : ℕ → Content
+
+-- A bank's file and an undo script: these texts, or those of edits that are found for the bank of a file.
+pub data Texts : Type 0 where
+  Known : Done → Texts
+  Found : Purpose → List ℕ → Texts
 
 -- What a request does: it saves a file, or a bank with its undo script, it prints, or it begins a session on a file.
 pub data Action : Type 0 where
   Saves : Path → Content → Action
-  SavesBoth : Path → Path → Done → Action
+  SavesBoth : Path → Path → Texts → Action
   Prints : Path → Content → Action
   Plays : LivePaths → List ℕ → Action
 
@@ -66,18 +80,26 @@ first_input (Canon paths) = Some paths.input.now
 first_input (Diff paths) = Some paths.first.now
 first_input (Explain number) = None
 first_input (Import paths) = Some paths.input.now
+first_input (Keep keep) = Some keep.paths.input.now
 first_input (Live paths) = Some paths.input.now
 first_input (Map paths) = Some paths.input.now
 first_input (New bank) = None
 first_input (Play paths) = Some paths.input.now
 first_input (Script paths) = Some paths.input.now
 first_input (Show paths) = Some paths.input.now
+first_input (Tidy paths) = Some paths.input.now
 first_input (Wave paths) = Some paths.input.now
+
+-- the notes whose presets are kept
+abbrev pub notes_in : kept.Kept → Option Path
+notes_in (Notes path) = Some path.now
+notes_in (Presets list) = None
 
 abbrev pub second_input : Request → Option Path
 second_input (Apply paths) = Some paths.script.now
 second_input (Diff paths) = Some paths.second.now
 second_input (Import paths) = Some paths.wave.now
+second_input (Keep keep) = notes_in keep.kept
 second_input (Play paths) = Some paths.notes.now
 second_input other = None
 
@@ -126,13 +148,33 @@ with_print (Err fault) = Err (Fails standard_output fault)
 
 -- the outcome of a run with an undo script, at two paths
 abbrev pub with_both : Path → Path → Result Done RunFault → Result Action Why
-with_both out undo (Ok done) = Ok (SavesBoth out undo done)
+with_both out undo (Ok done) = Ok (SavesBoth out undo (Known done))
 with_both out undo (Err fault) = Err (Fails out fault)
 
 -- a difference of two files whose banks are of one version
 abbrev pub with_difference : World → Path → List ℕ → List ℕ → Result TwoBanks RunFault → Result Action Why
 with_difference world path a b (Ok banks) = Ok (put_at world path (Difference a b))
 with_difference world path a b (Err fault) = Err (Fails path fault)
+
+-- edits that are found for a bank: their script is printed, or both texts are saved
+abbrev pub edits_at : PlanPaths → Purpose → List ℕ → Action
+edits_at p purpose file =
+    if p.dry_run then Prints standard_output (Edits purpose file) else SavesBoth p.out.now p.undo.now (Found purpose file)
+
+-- the same for the bank of a file, if it is one, and for a purpose, if there is one
+abbrev pub with_edits : PlanPaths → List ℕ → Result Purpose RunFault → Result Action Why
+with_edits p file (Ok purpose) = Ok (edits_at p purpose file)
+with_edits p file (Err fault) = Err (Fails p.out.now fault)
+
+-- the checks of the undo script, where the bank is the only input
+abbrev pub undo_apart : {X : Type 0} → World → PlanPaths → Result X Why → Result X Why
+undo_apart world p rest = apart world p.undo.now (p.input.now ∷ p.out.now ∷ []) (no_bank world p.undo.now p.force rest)
+
+-- the checks of both outputs, where there is another input
+abbrev pub both_apart : {X : Type 0} → World → PlanPaths → Path → Result X Why → Result X Why
+both_apart world p other rest =
+    apart world p.out.now (other ∷ [])
+    (apart world p.undo.now (p.input.now ∷ other ∷ p.out.now ∷ []) (no_bank world p.undo.now p.force rest))
 
 -- a listing with details, if one is asked for
 abbrev pub details_of : ShowPaths → Details
@@ -150,6 +192,18 @@ abbrev pub name_in : List ℕ → List ℕ
 name_in path = unwrap_or (path_file_stem path) []
 
 -- ---- the plan
+
+-- what `keep` does: it keeps the presets that notes play, or those with these numbers
+abbrev pub keep_plan : PlanPaths → kept.Kept → World → Inputs → Result Action Why
+keep_plan p (Notes notes) world inputs =
+    both_apart world p notes.now
+    (with_input p.input.now inputs.first
+    (λ file. with_input notes.now inputs.second
+    (λ text. with_edits p file (after_reading (fault_of file) (keeping_notes (notes_of text))))))
+keep_plan p (Presets list) world inputs =
+    undo_apart world p
+    (with_input p.input.now inputs.first
+    (λ file. with_edits p file (after_reading (fault_of file) (keeping_listed (bank_in file) list.items))))
 
 -- what a request does, or why it does nothing
 abbrev pub plan : Request → World → Inputs → Result Action Why
@@ -172,6 +226,7 @@ plan (Import p) world inputs =
     (with_input p.input.now inputs.first
     (λ file. with_input p.wave.now inputs.second
     (λ wave. with_both p.out.now p.undo.now (import_outcome file wave (name_in p.wave.now)))))))
+plan (Keep keep) world inputs = keep_plan keep.paths keep.kept world inputs
 plan (Live p) world inputs =
     apart world p.pcm.now (p.input.now ∷ [])
     (no_bank world p.pcm.now p.force (with_input p.input.now inputs.first (λ file. Ok (Plays p file))))
@@ -188,6 +243,9 @@ plan (Script p) world inputs =
     no_bank world p.out.now p.force
     (with_input p.input.now inputs.first (λ file. with_text world p.out.now (script_outcome (points_of p.no_points) file)))
 plan (Show p) world inputs = with_input p.input.now inputs.first (λ file. with_print (listing_outcome p file))
+plan (Tidy p) world inputs =
+    undo_apart world p
+    (with_input p.input.now inputs.first (λ file. with_edits p file (after_reading (fault_of file) (Ok Tidying))))
 plan (Wave p) world inputs =
     no_bank world p.out.now p.force
     (with_input p.input.now inputs.first (λ file. with_text world p.out.now (wave_outcome file p.sample)))

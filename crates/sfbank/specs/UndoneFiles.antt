@@ -20,14 +20,15 @@ use Rattle.program_commands.specs.declared.words.ImportPaths.{ImportPaths}
 use Rattle.program_commands.specs.declared.words.Request.TheVariants.{Apply, Import}
 use Rattle.sfbank.specs.Outcome.{Done, bank_in, edits_of, play_outcome}
 use Rattle.sfbank.specs.Recordings.{edits_into}
-use Rattle.sfbank.specs.Plans.{SavesBoth, name_in, plan}
+use Rattle.sfbank.specs.PlannedEdits.{IsPlanned, Purpose, promise_of}
+use Rattle.sfbank.specs.Plans.{SavesBoth, Known, name_in, plan}
 
 -- `apply` of these paths was done on files: it read two files, planned to save two texts, and saved them.
 pub record IsApplied (paths : ApplyPaths) (old new : World) (file script : List ℕ) (done : Done) : Type 0 where
   pub read : file_at old paths.input.now ≡ Ok file
   pub read_script : file_at old paths.script.now ≡ Ok script
   pub planned : plan (Apply paths) old (record { first = Ok file; second = Ok script })
-      ≡ Ok (SavesBoth paths.out.now paths.undo.now done)
+      ≡ Ok (SavesBoth paths.out.now paths.undo.now (Known done))
   pub files : new ≡ with_pair paths.undo.now done.undo paths.out.now done.out old
 
 -- the same of `import`
@@ -35,7 +36,7 @@ pub record IsImported (paths : ImportPaths) (old new : World) (file wave : List 
   pub read : file_at old paths.input.now ≡ Ok file
   pub read_wave : file_at old paths.wave.now ≡ Ok wave
   pub planned : plan (Import paths) old (record { first = Ok file; second = Ok wave })
-      ≡ Ok (SavesBoth paths.out.now paths.undo.now done)
+      ≡ Ok (SavesBoth paths.out.now paths.undo.now (Known done))
   pub files : new ≡ with_pair paths.undo.now done.undo paths.out.now done.out old
 
 -- A bank and its undo script are regular files, or will be, at two places.
@@ -82,6 +83,16 @@ UndoRemovesRecordings =
     → ArePlaced old first.out.now first.undo.now → second.forms ≡ Every
     → RunsOn second first.out.now first.undo.now left now new other_file other_script back
     → IsRestored second now new file (texts_of (edits_into (bank_in file) (name_in first.wave.now) r)) back
+
+-- the same for edits that were found: they are on the last undo script
+abbrev pub UndoRestoresPlans : Type 0
+UndoRestoresPlans =
+    (purpose : Purpose) (out undo : List ℕ) (second : ApplyPaths) (old left now new : World)
+    (file other_file other_script : List ℕ) (done back : Done) (found : IsPlanned (promise_of purpose) file done)
+    → AreBytes file → left ≡ with_pair undo done.undo out done.out old
+    → ArePlaced old out undo → second.forms ≡ Every
+    → RunsOn second out undo left now new other_file other_script back
+    → IsRestored second now new file (texts_of found.edits) back
 
 -- The same for what a live session saves at any time: it leads to the bank with which the session began.
 abbrev pub UndoEndsSessions : Type 0

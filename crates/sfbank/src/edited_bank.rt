@@ -1,12 +1,14 @@
 //! The edited bank and the undo list of a run, before anything is written.
 ghost use Rattle.std.specs.Prelude.{◌≡◌, ◌∷◌, List, reverse, Ok, MatchResult, IfOk, IfErr};
 ghost use Rattle.bank_edits.specs.EditChanges.{IsDone};
+ghost use Rattle.bank_edits.specs.Runs.{AllAccepted};
 ghost use Rattle.edit_script.specs.declared.parsing.Line.{Line};
 ghost use Rattle.script_tokens.specs.Pool.{pool_bytes};
 ghost use Rattle.edit_script.specs.Script.{script_of};
-ghost use Rattle.sfbank.specs.Outcome.{first_not_neutral, first_refused};
+ghost use Rattle.sfbank.specs.Outcome.{both_texts, first_not_neutral, first_refused};
 ghost use Rattle.sfbank.specs.Written.{Prepared};
 ghost use Rattle.sfbank.specs.EditRuns.{AllApplied, AllOf, StopsAtLine, after_lines, first_other};
+ghost use Rattle.sfbank.specs.PlannedEdits.{of_plan};
 ghost use Rattle.sfbank.specs.Prepared.{texts_of_bank};
 ghost use Rattle.sfbank.specs.Steps.{ReadsScript};
 
@@ -17,8 +19,10 @@ use base_progress::{Progress, Work};
 use edit_forms::Edit;
 use edit_refusals::Refusal;
 use edit_script::{Line, parse, pool_of};
+use plan_edits::PlanFault;
 use program_commands::Forms;
 use program_reports::RunFault;
+use sf_base::OutOfMemory;
 use sound_neutral_edits::is_neutral;
 use std::alloc::Global;
 
@@ -139,5 +143,51 @@ fn apply_line<'a>(alloc: Global, bank: &mut Bank<'a>, line: Line<'a>) -> Result<
         Ok(back) => Ok(back),
         Err((Refusal::OutOfMemory, _edit)) => Err(RunFault::Memory),
         Err((why, _edit)) => Err(RunFault::Refused(number, why)),
+    }
+}
+
+// ---- edits of a plan
+
+/// Applies edits, each of which the bank accepts in its turn. Writes nothing.
+pub(crate) fn apply_accepted<'a>(
+    alloc: Global,
+    mut bank: Bank<'a>,
+    edits: Vec<Edit<'a>>,
+) -> Result<EditedBank<'a>, OutOfMemory>
+    requires { AllAccepted bank edits.items }
+    ensures { IfOk result (λ edited. texts_of_bank edited ≡ both_texts bank.entry edits.entry.items) }
+{
+    let mut undo = Vec::new(alloc);
+    for edit in edits {
+        undo.push(apply_one(alloc, &mut bank, edit)?)?;
+    }
+    undo.as_mut_slice().reverse();
+    Ok(EditedBank { bank, undo })
+}
+
+// Applies an edit that the bank accepts, and returns its inverse. A function of its own, so that the loop drops no edit.
+fn apply_one<'a>(
+    alloc: Global,
+    bank: &mut Bank<'a>,
+    edit: Edit<'a>,
+) -> Result<Edit<'a>, OutOfMemory>
+    ensures { IfOk result (λ back. IsDone bank.old bank.new edit.entry back) }
+{
+    match apply(alloc, bank, edit) {
+        Ok(back) => Ok(back),
+        Err((_why, edit)) => {
+            drop(edit);
+            Err(OutOfMemory)
+        }
+    }
+}
+
+/// The run's fault for a plan without edits.
+pub(crate) fn of_plan(fault: PlanFault) -> RunFault
+    ensures { result ≡ of_plan fault }
+{
+    match fault {
+        PlanFault::Defect => RunFault::PlanFailed,
+        PlanFault::OutOfMemory => RunFault::Memory,
     }
 }

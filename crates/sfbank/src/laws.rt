@@ -1,8 +1,9 @@
 //! Laws of whole runs.
 ghost use Rattle.sfbank.specs.BankScripts.{RemadeRendersSame, ScriptsDistinguish};
+ghost use Rattle.sfbank.specs.PlannedEdits.{PlayedRendersSame};
 ghost use Rattle.sfbank.specs.SavedBanks.{SavedUndoRestores};
 ghost use Rattle.sfbank.specs.ScriptFiles.{DifferencesLead, ScriptsLead};
-ghost use Rattle.sfbank.specs.UndoneFiles.{UndoEndsSessions, UndoRemovesRecordings, UndoRestoresFiles};
+ghost use Rattle.sfbank.specs.UndoneFiles.{UndoEndsSessions, UndoRemovesRecordings, UndoRestoresFiles, UndoRestoresPlans};
 
 use live_sessions::saved_undo_leads_back;
 
@@ -16,6 +17,12 @@ pub fn remade_banks_render_same()
     ensures { RemadeRendersSame }
 {}
 
+/// Where `keep` keeps the presets that a note list plays, the list renders identically on the written file and on the
+/// first file.
+pub fn kept_notes_render_same()
+    ensures { PlayedRendersSame }
+{}
+
 /// On files, `apply` on a bank and an undo script that were saved, with other files changed meanwhile, restores the first
 /// bank in its canonical file, on which all notes sound as on the first file.
 pub fn undo_restores_files()
@@ -23,6 +30,8 @@ pub fn undo_restores_files()
     ensures apply { UndoRestoresFiles }
     // They were saved by `import`: the last undo script has the edits that add the recording.
     ensures import { UndoRemovesRecordings }
+    // They were saved by a command that found edits: the last undo script has these edits.
+    ensures plans { UndoRestoresPlans }
     // They were saved by a live session, at any time.
     ensures live { UndoEndsSessions }
 {

@@ -13,6 +13,7 @@ mod import;
 mod laws;
 mod map;
 mod new;
+mod planned;
 mod play;
 mod program;
 mod reading;
@@ -29,11 +30,13 @@ pub use edit::{edit_run, edit_run_with_progress, neutral_run};
 pub use file_host::Which;
 pub use import::import_run;
 pub use laws::{
-    remade_banks_render_same, saved_scripts_lead, saved_undo_restores, scripts_distinguish_banks,
-    undo_restores_files,
+    kept_notes_render_same, remade_banks_render_same, saved_scripts_lead, saved_undo_restores,
+    scripts_distinguish_banks, undo_restores_files,
 };
 pub use map::map_run;
 pub use new::new_run;
+pub use plan_edits::PresetNumbers;
+pub use planned::{keep_run, tidy_run};
 pub use play::{play_run, play_run_with_progress};
 pub use program::{run, run_with_arguments};
 pub use program_reports::{ProgressMeter, Prompted, RunFault, fault_text};

@@ -10,13 +10,16 @@ mod diff;
 mod explain;
 mod import;
 mod inputs;
+mod keep;
 mod live;
 mod map;
 mod new;
 mod outputs;
+mod planned;
 mod play;
 mod script;
 mod show;
+mod tidy;
 mod wave;
 
 use apply::apply;
@@ -28,6 +31,7 @@ use explain::explain;
 use file_disk::{Disk, System};
 use file_host::Host;
 use import::import;
+use keep::keep;
 use live::live;
 use map::map;
 use new::new;
@@ -43,6 +47,7 @@ use std::env::Env;
 use std::io::{Read, Write};
 use std::rt::Files;
 use std::{env, io};
+use tidy::tidy;
 use wave::wave;
 
 /// Runs the program on its arguments and on the files of a runtime, and returns its exit status.
@@ -92,6 +97,7 @@ fn arguments<R: Env + AllocGlobal>(rt: &R) -> Result<Vec<String>, Fault<'static>
 /// | 4 | an edit is refused, a preset, instrument or sample does not exist, or the versions of two banks differ |
 /// | 5 | an input can't be read or is too long, or an output is rejected or can't be written |
 /// | 6 | an allocation failed |
+/// | 7 | a plan failed: a defect of the program |
 ///
 /// `live` reads its lines from `input`. The texts of `show` and `explain`, the answers of `live`, help and the version
 /// are written to `output`. `apply` and `play` report to `base_progress`.
@@ -153,12 +159,14 @@ fn serve<'a, H: Host, I: Read, O: Write + ClosedPipe, P: Progress>(
         Request::Diff(paths) => diff(host, alloc, paths, output),
         Request::Explain(number) => explain(number, output),
         Request::Import(paths) => import(host, alloc, paths),
+        Request::Keep(paths) => keep(host, alloc, paths, output),
         Request::Live(paths) => live(host, alloc, paths, input, output),
         Request::Map(paths) => map(host, alloc, paths, output),
         Request::New(bank) => new(host, alloc, bank, output),
         Request::Play(paths) => play(host, alloc, paths, output, progress),
         Request::Script(paths) => script(host, alloc, paths, output),
         Request::Show(paths) => show(host, alloc, paths, output),
+        Request::Tidy(paths) => tidy(host, alloc, paths, output),
         Request::Wave(paths) => wave(host, alloc, paths, output),
     }
 }

@@ -1,5 +1,5 @@
 //! Tests of banks and files that no run of the program can make: getters of `Bank`, banks built from parts and from
-//! flat lists, the lower crates, writers that fail, and progress on a terminal. Runs of the program are tested by
+//! flat lists, the lower crates, plans, writers that fail, and progress on a terminal. Runs of the program are tested by
 //! `checks/rows`.
 #![tactic(auto)]
 
@@ -12,5 +12,7 @@ mod imports;
 mod lists;
 #[cfg(test)]
 mod long_work;
+#[cfg(test)]
+mod plan_runs;
 #[cfg(test)]
 mod writers;

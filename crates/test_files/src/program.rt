@@ -86,13 +86,15 @@ fn a_terminal_has_the_reason_of_a_file_fault(rt: HostRuntime) {
 const MOST_CALLS: u64 = 600;
 
 /// Commands on the files of `device_with`.
-const COMMANDS: [&str; 6] = [
+const COMMANDS: [&str; 8] = [
     "sfbank apply bank script bank undo",
     "sfbank apply bank script out undo",
     "sfbank apply --neutral bank script bank new",
     "sfbank canon bank bank",
+    "sfbank keep --preset 0:0 bank bank undo",
     "sfbank new --force bank",
     "sfbank script bank out",
+    "sfbank tidy bank out new",
 ];
 
 /// A bank, a script and an old undo script on a device with one call that fails.

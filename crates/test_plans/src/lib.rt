@@ -2,4 +2,8 @@
 #![tactic(auto)]
 
 #[cfg(test)]
+mod edited_banks;
+#[cfg(test)]
 mod plans;
+#[cfg(test)]
+mod taken_presets;

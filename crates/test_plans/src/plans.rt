@@ -2,83 +2,37 @@
 ghost use Rattle.std.specs.Prelude.{◌≡◌, Ok};
 ghost use Rattle.script_tokens.specs.Pool.{pool_bytes};
 
-use bank_core::Bank;
-use bank_edits::apply;
-use edit_forms::Edit;
-use edit_script::{Line, parse, pool_of, print};
-use plan_keep::{PlanFault, PresetNumbers, keep_edits};
-use plan_tidy::tidy_edits;
-use sf_reader::read;
+use crate::edited_banks::{edited, print_edits};
+use edit_script::pool_of;
+use plan_edits::{Keep, Plan, Tidy};
+use plan_presets::PresetNumbers;
 use std::alloc::Global;
 use std::test::Fail;
 use test_inputs::tone;
 
-/// What the edits of a plan are found for.
-#[derive(Clone, Copy, Drop)]
-enum Plan<'k> {
-    Keep(&'k [PresetNumbers]),
-    Tidy,
-}
-
-fn apply_line<'a>(alloc: Global, bank: &mut Bank<'a>, line: Line<'a>) -> bool {
-    apply(alloc, bank, line.into_edit()).is_ok()
-}
-
-fn apply_lines<'a>(alloc: Global, bank: &mut Bank<'a>, lines: Vec<Line<'a>>) -> bool {
-    for line in lines {
-        if !apply_line(alloc, bank, line) {
-            return false;
-        }
-    }
-    true
-}
-
-fn print_edits(alloc: Global, edits: &[Edit<'_>]) -> Vec<u8> {
-    let mut text = Vec::new(alloc);
-    for edit in edits {
-        let _ = print(edit, &mut text);
-    }
-    text
-}
-
-fn edits_of<'a>(
-    alloc: Global,
-    bank: &Bank<'a>,
-    plan: &Plan<'_>,
-) -> Result<Vec<Edit<'a>>, PlanFault> {
-    match plan {
-        Plan::Keep(kept) => keep_edits(alloc, bank, kept),
-        Plan::Tidy => tidy_edits(alloc, bank),
-    }
-}
-
 /// The edits of a plan, for the bank of a file after a script, as a text. `pool` has the script's literals.
-fn text_of_plan<'a>(
+fn text_of_plan<'a, P: Plan>(
     alloc: Global,
     file: &'a [u8],
     script: &[u8],
     pool: &'a [u8],
-    plan: &Plan<'_>,
+    plan: &P,
 ) -> Result<Vec<u8>, Fail>
     requires { pool_bytes script.now ≡ Ok pool.now }
 {
-    let (mut bank, _counts) = read(alloc, file)?;
-    let lines = parse(alloc, script, pool)?;
-    if !apply_lines(alloc, &mut bank, lines) {
-        return Ok(Vec::new(alloc));
-    }
-    match edits_of(alloc, &bank, plan) {
+    let bank = edited(alloc, file, script, pool)?;
+    match plan.edits(alloc, &bank) {
         Ok(edits) => Ok(print_edits(alloc, edits.as_slice())),
         Err(_) => Ok(Vec::new(alloc)),
     }
 }
 
 /// Whether the edits of a plan, for the bank of a file after a script, are these.
-fn is_planned(
+fn is_planned<P: Plan>(
     alloc: Global,
     file: &[u8],
     script: &[u8],
-    plan: &Plan<'_>,
+    plan: &P,
     wanted: &[u8],
 ) -> Result<bool, Fail> {
     let pool = pool_of(alloc, script)?;
@@ -115,7 +69,15 @@ fn a_preset_is_kept(rt: HostRuntime) -> Result<(), Fail> {
             b"remove-preset 1\nremove-preset 0\nremove-inst 2\nremove-inst 1\nremove-inst 0\nset-kind 1 mono\nset-kind 2 mono\nremove-sample 2\nremove-sample 1\nremove-sample 0\n",
         ),
     ] {
-        assert!(rt; is_planned(rt.alloc(), tone().bytes(), SIDES, &Plan::Keep(kept), wanted)?);
+        assert!(rt;
+            is_planned(
+                rt.alloc(),
+                tone().bytes(),
+                SIDES,
+                &Keep { presets: kept },
+                wanted
+            )?
+        );
     }
     Ok(())
 }
@@ -130,6 +92,10 @@ fn a_bank_is_tidied(rt: HostRuntime) -> Result<(), Fail> {
             b"join-zone inst 0 1 key keep\njoin-zone inst 0 0 key bare\n",
         ),
         (
+            b"split-zone inst 0 0 key 60\nsplit-zone inst 0 1 vel 64\nsplit-zone inst 0 0 vel 64\n",
+            b"join-zone inst 0 2 vel bare\njoin-zone inst 0 0 vel bare\njoin-zone inst 0 0 key bare\n",
+        ),
+        (
             b"add-sample 1 \"r\" 44100 60 0 mono noloop x0200\nadd-zone inst 0 1 { 1 }\nset-kind 0 left 1\n",
             b"set-kind 1 right 0\n",
         ),
@@ -138,7 +104,7 @@ fn a_bank_is_tidied(rt: HostRuntime) -> Result<(), Fail> {
             b"set-kind 0 mono\n",
         ),
     ] {
-        assert!(rt; is_planned(rt.alloc(), tone().bytes(), script, &Plan::Tidy, wanted)?);
+        assert!(rt; is_planned(rt.alloc(), tone().bytes(), script, &Tidy, wanted)?);
     }
     Ok(())
 }

@@ -1,11 +1,12 @@
 //! Checks of output paths, before anything is read.
 ghost use Rattle.std.specs.Prelude.{◌≡◌, ◌||◌, map};
 ghost use Rattle.file_host.specs.Checks.{is_one_file};
-ghost use Rattle.sfbank.specs.Plans.{apart, no_bank};
+ghost use Rattle.sfbank.specs.Plans.{apart, no_bank, undo_apart};
 ghost use Rattle.sfbank.specs.Steps.{Passes, edit_part, undo_part, fault_of_check};
 
 use base_outputs::OutputFault;
 use file_host::{Host, check_apart, check_no_bank};
+use program_commands::PlanPaths;
 use program_reports::{Fault, RunFault};
 use sf_base::Failure;
 
@@ -81,7 +82,20 @@ fn reject_undo<'a, H: Host>(host: &mut H, paths: EditPaths<'a>) -> Result<(), Fa
     }
 }
 
-/// The paths of an edit of a bank by another input: a script or a WAVE file.
+/// Rejects the undo script of a plan whose only input is the bank: it may be neither the bank nor its output.
+pub(super) fn reject_undo_of_plan<'a, H: Host>(
+    host: &mut H,
+    paths: PlanPaths<'a>,
+) -> Result<(), Fault<'a>>
+    ensures { Passes (λ w rest. undo_apart w paths.entry rest) (H.world host.old) (H.world host.new) result }
+{
+    match reject_same_file(host, paths.undo, &[paths.input, paths.out]) {
+        Ok(()) => reject_bank(host, paths.undo, paths.force),
+        Err(fault) => Err(fault),
+    }
+}
+
+/// The paths of an edit of a bank by another input: a script, a WAVE file or a note list.
 #[derive(Clone, Copy)]
 pub(super) struct EditPaths<'a> {
     pub(super) input: &'a str,

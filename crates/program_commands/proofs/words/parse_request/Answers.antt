@@ -7,4 +7,4 @@ use Rattle.program_commands.proofs.words.parse_request.Goals as goal
 pub returns-clause-fault : goal.returns-clause-fault
 returns-clause-fault g c free =
     inr (none_asked (app_of c.args.command.now) (map g.S.AsStr.text c.args.words.now) c.in_ok-matches.matches
-    c.request_in.result c.in_ok-matches.ensures.ok.2 free c.request_in.ensures c.in-None.is)
+    c.in_ok-found.found c.in_ok-matches.ensures.ok.2 free c.in_ok-found.ensures c.in-None.is)

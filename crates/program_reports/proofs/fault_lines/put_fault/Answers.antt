@@ -48,3 +48,7 @@ returns-in-Write g c = rw c.in-Write.is c.put_write_fault.ensures
 pub returns-in-Memory : goal.returns-in-Memory
 unfolding fault_line
 returns-in-Memory g c = rw c.in-Memory.is c.put-in-Memory.ensures
+
+pub returns-in-PlanFailed : goal.returns-in-PlanFailed
+unfolding fault_line
+returns-in-PlanFailed g c = rw c.in-PlanFailed.is c.put-in-PlanFailed.ensures

@@ -1,0 +1,4 @@
+mod UseLaws
+mod PresetSearch
+pub mod AlikeSteps
+pub mod PresetLaws

@@ -1,0 +1,88 @@
+//! Presets that are not kept.
+ghost use Rattle.std.specs.Prelude.{◌≡◌, ◌==◌, ◌&&◌, true};
+ghost use Rattle.plan_edits.specs.Keeping.{has_preset, has_presets, KeepsNotes, OnlyKept};
+
+use crate::listed::is_listed;
+use bank_core::{Bank, List};
+use bank_parts::Head;
+use edit_drafts::{Draft, Stop};
+use edit_forms::{PresetStep, Step};
+use plan_presets::PresetNumbers;
+use std::alloc::Global;
+
+/// Removes all presets whose numbers are not in the list. Each note of the others has the same voices before and after.
+pub(crate) fn remove_other_presets(
+    alloc: Global,
+    draft: &mut Draft<'_, '_>,
+    kept: &[PresetNumbers],
+) -> Result<(), Stop>
+    ensures first { draft.new.first ≡ draft.old.first }
+    ensures keeps { KeepsNotes kept.now draft.old.bank draft.new.bank }
+{
+    for preset in (0..preset_count(draft.bank())).rev() {
+        remove_other_preset(alloc, draft, kept, preset)?;
+    }
+    Ok(())
+}
+
+fn preset_count(bank: &Bank<'_>) -> u32 {
+    bank.soundness();
+    bank.count(List::Presets) as u32
+}
+
+// Removes a preset, unless it is kept.
+fn remove_other_preset(
+    alloc: Global,
+    draft: &mut Draft<'_, '_>,
+    kept: &[PresetNumbers],
+    preset: u32,
+) -> Result<(), Stop>
+    ensures first { draft.new.first ≡ draft.old.first }
+    ensures keeps { KeepsNotes kept.now draft.old.bank draft.new.bank }
+{
+    match draft.bank().head(preset) {
+        Some(head) if !is_listed(kept, head.bank, head.number) => {
+            draft.edit(alloc, Step::Preset(PresetStep::RemovePreset { preset }))
+        }
+        _ => Ok(()),
+    }
+}
+
+/// Whether the bank has a preset for each of these numbers.
+pub fn has_presets(bank: &Bank<'_>, list: &[PresetNumbers]) -> bool
+    ensures { result ≡ has_presets bank.now list.now }
+{
+    list.iter().all(|numbers| has_preset(bank, *numbers))
+}
+
+fn has_preset(bank: &Bank<'_>, numbers: PresetNumbers) -> bool
+    ensures { result ≡ has_preset bank.now numbers }
+{
+    let presets = bank.presets();
+    for preset in 0..presets.len() {
+        if are_numbers_of(*presets.head(preset), numbers) {
+            return true;
+        }
+    }
+    false
+}
+
+fn are_numbers_of(head: Head, numbers: PresetNumbers) -> bool
+    ensures { result ≡ (head.bank == numbers.bank && head.number == numbers.number) }
+{
+    head.bank == numbers.bank && head.number == numbers.number
+}
+
+/// Whether all presets are kept.
+pub(crate) fn are_kept(bank: &Bank<'_>, kept: &[PresetNumbers]) -> bool
+    ensures { result ≡ true → OnlyKept kept.now bank.now }
+{
+    let presets = bank.presets();
+    for preset in 0..presets.len() {
+        let head = presets.head(preset);
+        if !is_listed(kept, head.bank, head.number) {
+            return false;
+        }
+    }
+    true
+}

@@ -1,9 +1,0 @@
-use Rattle.std.proofs.Common.{◌≡◌}
-use Rattle.plan_keep.specs.Keeping.{KeepsNotes}
-use Rattle.plan_keep.proofs.presets.remove_other_presets.Given as goal
-
-abbrev pub invariant-loop-preset : goal.invariant-loop-preset
-invariant-loop-preset l = record {
-  first : l.draft.first ≡ l.fn.draft.first;
-  keeps : KeepsNotes l.fn.kept l.fn.draft.bank l.draft.bank;
-}

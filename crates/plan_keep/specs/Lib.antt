@@ -1,2 +1,0 @@
-pub use Rattle.zone_select.specs.Alike
-pub mod Keeping

@@ -1,0 +1,8 @@
+//! The MIDI numbers of presets.
+
+/// The two numbers by which MIDI selects a preset (SoundFont 2.04, section 7.2).
+#[derive(Debug, Drop, Clone, Copy, PartialEq, Eq)]
+pub struct PresetNumbers {
+    pub bank: u16,
+    pub number: u16,
+}

@@ -1,0 +1,9 @@
+use Rattle.std.proofs.Common.{◌≡◌, ℕ, ◌<◌, Some, slice_get}
+use Rattle.plan_take.specs.declared.taken_preset.TakenPreset.{TakenPreset}
+use Rattle.plan_take.specs.Taking.{IsTakeable}
+use Rattle.plan_take.proofs.checks.check_presets.Given as goal
+
+-- the presets so far can be taken
+abbrev pub invariant-loop-k : goal.invariant-loop-k
+invariant-loop-k l =
+    (m : ℕ) → m < l.k → (p : TakenPreset) → slice_get l.fn.presets m ≡ Some p → IsTakeable l.fn.from l.fn.bank p

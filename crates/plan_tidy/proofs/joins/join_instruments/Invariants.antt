@@ -1,5 +1,0 @@
-use Rattle.plan_tidy.specs.NeutralRuns.{AddsNeutralEdits}
-use Rattle.plan_tidy.proofs.joins.join_instruments.Given as goal
-
-abbrev pub invariant-loop-instrument : goal.invariant-loop-instrument
-invariant-loop-instrument l = AddsNeutralEdits l.fn.draft l.draft

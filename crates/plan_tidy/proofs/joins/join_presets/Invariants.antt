@@ -1,5 +1,0 @@
-use Rattle.plan_tidy.specs.NeutralRuns.{AddsNeutralEdits}
-use Rattle.plan_tidy.proofs.joins.join_presets.Given as goal
-
-abbrev pub invariant-loop-preset : goal.invariant-loop-preset
-invariant-loop-preset l = AddsNeutralEdits l.fn.draft l.draft

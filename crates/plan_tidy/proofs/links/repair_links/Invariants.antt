@@ -1,5 +1,0 @@
-use Rattle.plan_tidy.specs.NeutralRuns.{AddsNeutralEdits}
-use Rattle.plan_tidy.proofs.links.repair_links.Given as goal
-
-abbrev pub invariant-loop-number : goal.invariant-loop-number
-invariant-loop-number l = AddsNeutralEdits l.fn.draft l.draft

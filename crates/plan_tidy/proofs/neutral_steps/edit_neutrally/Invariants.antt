@@ -1,5 +1,0 @@
-use Rattle.plan_tidy.specs.NeutralRuns.{AddsNeutralEdits}
-use Rattle.plan_tidy.proofs.neutral_steps.edit_neutrally.Given as goal
-
-abbrev pub invariant-loop-step : goal.invariant-loop-step
-invariant-loop-step l = AddsNeutralEdits l.fn.draft l.draft

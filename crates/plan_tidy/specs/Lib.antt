@@ -1,3 +1,0 @@
-pub use Rattle.zone_select.specs.Alike
-pub mod NeutralRuns
-pub mod Tidying

@@ -1,5 +1,0 @@
-use Rattle.plan_uses.specs.Uses.{OnlyTargetsMarked}
-use Rattle.plan_uses.proofs.uses.mark_targets.Given as goal
-
-abbrev pub invariant-loop-k : goal.invariant-loop-k
-invariant-loop-k g l = OnlyTargetsMarked l.owners l.initial.marks → OnlyTargetsMarked l.owners l.marks

@@ -1,0 +1,61 @@
+use Rattle.std.proofs.Common.{Some, codes, refl}
+use Rattle.program_commands.specs.Words.{AsksFor, IsGiven, Number, rows_in}
+use Rattle.program_commands.proofs.GetterLaws.{none_found}
+use Rattle.program_commands.proofs.RequestLaws.{asks, explained}
+use Rattle.program_commands.proofs.words.request_of_command.Goals as goal
+use Rattle.program_commands.proofs.words.request_of_command.Goals.{in-apply+in_ok-read_apply-in-apply}
+use Rattle.program_commands.proofs.words.request_of_command.Goals.{in-canon+in_ok-read_canon-in-canon}
+use Rattle.program_commands.proofs.words.request_of_command.Goals.{in-diff+in_ok-read_diff-in-diff}
+use Rattle.program_commands.proofs.words.request_of_command.Goals.{in-explain+in_ok-read_number-in-explain}
+use Rattle.program_commands.proofs.words.request_of_command.Goals.{in-import+in_ok-read_import-in-import}
+use Rattle.program_commands.proofs.words.request_of_command.Goals.{in-live+in_ok-read_live-in-live}
+use Rattle.program_commands.proofs.words.request_of_command.Goals.{in-map+in_ok-read_map-in-map}
+use Rattle.program_commands.proofs.words.request_of_command.Goals.{in-new+in_ok-read_new-in-new}
+use Rattle.program_commands.proofs.words.request_of_command.Goals.{in-play+in_ok-read_play-in-play}
+use Rattle.program_commands.proofs.words.request_of_command.Goals.{in-script+in_ok-read_script-in-script}
+use Rattle.program_commands.proofs.words.request_of_command.Goals.{in-show+in_ok-read_show-in-show}
+use Rattle.program_commands.proofs.words.request_of_command.Goals.{in-tidy+in_ok-read_plan-in-tidy}
+use Rattle.program_commands.proofs.words.request_of_command.Goals.{in-wave+in_ok-read_wave-in-wave}
+
+-- No request of `explain` is asked for without a number.
+pub returns-in_err-read_number-in-explain : goal.returns-in_err-read_number-in-explain
+returns-in_err-read_number-in-explain c =
+    none_found (AsksFor (Some (c.args.name.now, rows_in c.args.words.now)))
+    (λ n. IsGiven (rows_in c.args.words.now) (Number (codes "N") 32 n))
+    c.from_residual-in_err-read_number-in-explain.result c.read_number.result
+    c.from_residual-in_err-read_number-in-explain.ensures c.in_err-read_number-in-explain.was c.read_number.ensures
+    (explained (rows_in c.args.words.now) c.in-explain.is)
+
+-- Each arm reads the operands of its own command.
+pub returns : goal.returns
+returns c = let rows = rows_in c.args.words.now in (
+  elim c.match-name.branch [
+    | in-apply+in_ok-read_apply-in-apply w ↦
+        asks rows w.result-is w.in-apply.is w.in_ok-read_apply-in-apply.ensures.0
+    | in-canon+in_ok-read_canon-in-canon w ↦
+        asks rows w.result-is w.in-canon.is w.in_ok-read_canon-in-canon.ensures.0
+    | in-diff+in_ok-read_diff-in-diff w ↦
+        asks rows w.result-is w.in-diff.is w.in_ok-read_diff-in-diff.ensures.0
+    | in-explain+in_ok-read_number-in-explain w ↦
+        asks rows w.result-is w.in-explain.is (w.in_ok-read_number-in-explain.ensures.0, tt)
+    | in-import+in_ok-read_import-in-import w ↦
+        asks rows w.result-is w.in-import.is w.in_ok-read_import-in-import.ensures.0
+    | in-live+in_ok-read_live-in-live w ↦
+        asks rows w.result-is w.in-live.is w.in_ok-read_live-in-live.ensures.0
+    | in-map+in_ok-read_map-in-map w ↦
+        asks rows w.result-is w.in-map.is w.in_ok-read_map-in-map.ensures.0
+    | in-new+in_ok-read_new-in-new w ↦
+        asks rows w.result-is w.in-new.is w.in_ok-read_new-in-new.ensures.0
+    | in-play+in_ok-read_play-in-play w ↦
+        asks rows w.result-is w.in-play.is w.in_ok-read_play-in-play.ensures.0
+    | in-script+in_ok-read_script-in-script w ↦
+        asks rows w.result-is w.in-script.is w.in_ok-read_script-in-script.ensures.0
+    | in-show+in_ok-read_show-in-show w ↦
+        asks rows w.result-is w.in-show.is w.in_ok-read_show-in-show.ensures.0
+    | in-tidy+in_ok-read_plan-in-tidy w ↦
+        asks rows w.result-is w.in-tidy.is w.in_ok-read_plan-in-tidy.ensures.0
+    | in-wave+in_ok-read_wave-in-wave w ↦
+        asks rows w.result-is w.in-wave.is w.in_ok-read_wave-in-wave.ensures.0
+  ],
+  λ request asked. refl,
+)

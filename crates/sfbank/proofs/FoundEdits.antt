@@ -1,0 +1,122 @@
+-- How edits that are found make the end of a request.
+use Rattle.std.proofs.Common.{◌≡◌, ℕ, List, Option, Some, None, Result, Ok, Err, Bool, true, false, refl, sym, ap, subst, inr, ◌∙◌}
+use Rattle.std.specs.Prelude.{if◌then◌else◌}
+use Rattle.std.specs.Borrow.{Bor}
+use Rattle.bank_parts.specs.declared.parts.Parts.{Parts}
+use Rattle.bank_format.specs.Reading.{Content}
+use Rattle.bank_format.specs.ReadChecks.{fault_of}
+use Rattle.bank_format.specs.declared.fault.ReadFault.{ReadFault}
+use Rattle.edit_forms.specs.declared.cause.Cause.TheVariants.{NoSuchPreset}
+use Rattle.edit_forms.specs.declared.edit.Edit.{Edit}
+use Rattle.bank_edits.specs.Runs.{AllAccepted}
+use Rattle.edit_script.specs.Printing.{texts_of}
+use Rattle.file_host.specs.World.{World}
+use Rattle.plan_edits.specs.declared.fault.PlanFault.{PlanFault}
+use Rattle.plan_presets.specs.declared.numbers.PresetNumbers.{PresetNumbers}
+use Rattle.plan_edits.specs.Keeping.{has_presets}
+use Rattle.plan_edits.specs.declared.fault.PlanFault.TheVariants.{Defect, OutOfMemory}
+use Rattle.program_commands.specs.declared.plans.PlanPaths.{PlanPaths}
+use Rattle.program_reports.specs.declared.fault.Fault.{Fault}
+use Rattle.program_reports.specs.declared.fault.Fault.TheVariants.{Run}
+use Rattle.program_reports.specs.declared.run_fault.RunFault.{RunFault}
+use Rattle.program_reports.specs.declared.run_fault.RunFault.TheVariants as run
+use Rattle.sfbank.specs.Outcome.{Done, after_reading, bank_in, both_texts}
+use Rattle.sfbank.specs.Written.{FailsBefore}
+use Rattle.sfbank.specs.PlannedEdits.{IsPlanned, IsScript, Keeping, Purpose, keeping_listed, of_plan, promise_of}
+use Rattle.sfbank.specs.Plans.{Action, Why, Edits, Found, Prints, SavesBoth, edits_at, standard_output, with_edits}
+use Rattle.sfbank.specs.Ends.{FindsEdits, Outside, EndsFor}
+use Rattle.sfbank.specs.Outputs.{PrintsAt, SavesPairAt}
+use Rattle.sfbank.specs.Steps.{IsReadAs}
+use Rattle.sfbank.proofs.PlanLaws.{at, untouched}
+use Rattle.sfbank.proofs.OutcomeLaws.{both_end, outcome_fails, prints_end}
+use Rattle.sfbank.proofs.PlannedEdits.{planned}
+
+-- the action, printed or saved
+abbrev chosen : PlanPaths → Purpose → List ℕ → Bool → Result Action Why
+chosen p purpose file dry_run =
+    Ok (if dry_run then Prints standard_output (Edits purpose file) else SavesBoth p.out.now p.undo.now (Found purpose file))
+
+-- the edits that are found are the script's
+pub is_script : (purpose : Purpose) (file : List ℕ) (b : Parts) (edits : List Edit) → IsReadAs file b
+    → promise_of purpose b edits → AllAccepted b edits → IsScript (promise_of purpose) file (texts_of edits)
+is_script purpose file b edits r promised accepted =
+    let same : b ≡ bank_in file = sym (ap (λ (c : Content). c.bank) r.1.1) in
+    record {
+      edits = edits;
+      promised = subst (λ (x : Parts). promise_of purpose x edits) same promised;
+      is_accepted = subst (λ (x : Parts). AllAccepted x edits) same accepted;
+      is_text = refl;
+    }
+
+-- and their texts are those of the edited bank
+pub is_planned : (purpose : Purpose) (file : List ℕ) (b : Parts) (edits : List Edit) (done : Done) → IsReadAs file b
+    → promise_of purpose b edits → AllAccepted b edits → done ≡ both_texts b edits
+    → IsPlanned (promise_of purpose) file done
+is_planned purpose file b edits done r promised accepted texts =
+    planned (promise_of purpose) file b r.0 done r.1
+    (record { edits = edits; promised = promised; is_accepted = accepted; texts = texts })
+
+-- their script is printed
+pub edits_print : (files : Option World) (p : PlanPaths) (purpose : Purpose) (file text : List ℕ)
+    (old new : Option (List ℕ)) (written : ℕ) (end : Result (Unit {0}) Fault) → p.dry_run ≡ true
+    → IsScript (promise_of purpose) file text → PrintsAt standard_output text old new end
+    → EndsFor (λ w. Ok (edits_at p purpose file)) (at files old) (at files new) written end
+edits_print None p purpose file text old new written end dry is h = tt
+edits_print (Some w) p purpose file text old new written end dry is h =
+    prints_end w standard_output text (Edits purpose file) (Ok (edits_at p purpose file)) old new written end
+    (ap (chosen p purpose file) dry) is h
+
+-- both texts are saved
+pub edits_saved : (files new : Option World) (p : PlanPaths) (purpose : Purpose) (file : List ℕ) (done : Done)
+    (printed : Option (List ℕ)) (written : ℕ) (end : Result (Unit {0}) Fault) → p.dry_run ≡ false
+    → IsPlanned (promise_of purpose) file done → SavesPairAt p.out.now p.undo.now done files new written end
+    → EndsFor (λ w. Ok (edits_at p purpose file)) (at files printed) (at new printed) written end
+edits_saved None new p purpose file done printed written end saves is h = tt
+edits_saved (Some w) new p purpose file done printed written end saves is h =
+    both_end w p.out.now p.undo.now (Found purpose file) done (Ok (edits_at p purpose file)) new printed written end
+    (ap (chosen p purpose file) saves) is h
+
+finds_edits : (p : PlanPaths) (purpose : Purpose) (file : List ℕ) (dry_run : Bool)
+    → FindsEdits (chosen p purpose file dry_run)
+finds_edits p purpose file true = tt
+finds_edits p purpose file false = tt
+
+-- none are found, or an allocation failed
+pub no_edits : (files : Option World) (printed : Option (List ℕ)) (written : ℕ) (p : PlanPaths) (purpose : Purpose)
+    (file : List ℕ) (path : Bor (List ℕ)) (fault : PlanFault)
+    → EndsFor {U = Unit {0}} (λ w. Ok (edits_at p purpose file)) (at files printed) (at files printed) written
+    (Err (Run (of_plan fault) path))
+no_edits None printed written p purpose file path fault = tt
+no_edits (Some w) printed written p purpose file path Defect =
+    (inr (finds_edits p purpose file p.dry_run), untouched (Some w) (Some w) printed refl)
+no_edits (Some w) printed written p purpose file path OutOfMemory = (tt, untouched (Some w) (Some w) printed refl)
+
+-- ---- for a file and a purpose
+
+pub edits_put : (p : PlanPaths) (purpose : Purpose) (file : List ℕ) (outcome : Result Purpose RunFault)
+    (old new : Outside) (written : ℕ) (end : Result (Unit {0}) Fault) → outcome ≡ Ok purpose
+    → EndsFor (λ w. Ok (edits_at p purpose file)) old new written end
+    → EndsFor (λ w. with_edits p file outcome) old new written end
+edits_put p purpose file outcome old new written end e h =
+    subst (λ (r : Result Purpose RunFault). EndsFor (λ w. with_edits p file r) old new written end) (sym e) h
+
+pub edits_fail : (files : Option World) (printed : Option (List ℕ)) (written : ℕ) (p : PlanPaths) (file : List ℕ)
+    (why : RunFault) (outcome : Result Purpose RunFault) → FailsBefore why outcome
+    → EndsFor {U = Unit {0}} (λ w. with_edits p file outcome) (at files printed) (at files printed) written (Err (Run why p.out))
+edits_fail files printed written p file why outcome h =
+    outcome_fails files printed written p.out (λ w r. with_edits p file r) why outcome (λ w fault. refl) h
+
+-- the outcome of a file that is a bank
+pub at_read : (file : List ℕ) (b : Parts) (outcome : Result Purpose RunFault) → IsReadAs file b
+    → after_reading (fault_of file) outcome ≡ outcome
+at_read file b outcome r = ap (λ (o : Option ReadFault). after_reading o outcome) r.1.0
+
+-- the same for presets that are listed
+pub listed_at : (file : List ℕ) (b : Parts) (list : List PresetNumbers) (there : Bool) → IsReadAs file b
+    → there ≡ has_presets b list
+    → after_reading (fault_of file) (keeping_listed (bank_in file) list)
+    ≡ (if there then Ok (Keeping list) else Err (run.NoMember NoSuchPreset))
+listed_at file b list there r e =
+    at_read file b (keeping_listed (bank_in file) list) r
+    ∙ ap (λ (x : Parts). keeping_listed x list) (ap (λ (c : Content). c.bank) r.1.1)
+    ∙ ap (λ (x : Bool). if x then Ok (Keeping list) else Err (run.NoMember NoSuchPreset)) (sym e)

@@ -1,0 +1,86 @@
+//! Commands whose edits a plan finds.
+ghost use Rattle.std.specs.Prelude.{Ok, List, ℕ};
+ghost use Rattle.bank_edits.specs.Runs.{AllAccepted};
+ghost use Rattle.bank_format.specs.ReadChecks.{fault_of};
+ghost use Rattle.sfbank.specs.Outcome.{after_reading};
+ghost use Rattle.sfbank.specs.PlannedEdits.{Purpose, Serves, promise_of};
+ghost use Rattle.sfbank.specs.Plans.{edits_at, with_edits};
+ghost use Rattle.sfbank.specs.Ends.{EndsFor};
+ghost use Rattle.sfbank.specs.Steps.{IsReadAs};
+
+use super::outputs::{print, save_both};
+use crate::edited_bank::{apply_accepted, of_plan};
+use crate::reading::read_bank;
+use bank_core::Bank;
+use edit_forms::Edit;
+use edit_script::EditLines;
+use file_host::Host;
+use plan_edits::Plan;
+use program_commands::PlanPaths;
+use program_reports::{ClosedPipe, Fault, RunFault};
+use sf_base::OutOfMemory;
+use std::alloc::Global;
+use std::io::Write;
+
+/// Reads a file as a bank, and does what `put_edits` does.
+pub(super) fn put_planned<'a, H: Host, P: Plan, O: Write + ClosedPipe>(
+    host: &mut H,
+    alloc: Global,
+    paths: PlanPaths<'a>,
+    file: &[u8],
+    plan: &P,
+    output: &mut O,
+) -> Result<(), Fault<'a>>
+    ensures { (purpose : Purpose) → Serves (P.promise plan.now) purpose
+        → EndsFor (λ w. with_edits paths.entry file.now (after_reading (fault_of file.now) (Ok purpose)))
+        (record { files = H.world host.old; printed = O.contents output.old })
+        (record { files = H.world host.new; printed = O.contents output.new }) (H.written host.new) result }
+{
+    match read_bank(alloc, file) {
+        Ok((bank, _counts)) => put_edits(host, alloc, paths, bank, plan, output),
+        Err(fault) => Err(Fault::Run(fault, paths.out)),
+    }
+}
+
+/// Finds the edits of a plan for a bank. Prints their script, or saves the edited bank with its undo script.
+pub(super) fn put_edits<'a, H: Host, P: Plan, O: Write + ClosedPipe>(
+    host: &mut H,
+    alloc: Global,
+    paths: PlanPaths<'a>,
+    bank: Bank<'_>,
+    plan: &P,
+    output: &mut O,
+) -> Result<(), Fault<'a>>
+    ensures { (purpose : Purpose) (file : List ℕ) → Serves (P.promise plan.now) purpose → IsReadAs file bank.entry
+        → EndsFor (λ w. Ok (edits_at paths.entry purpose file))
+        (record { files = H.world host.old; printed = O.contents output.old })
+        (record { files = H.world host.new; printed = O.contents output.new }) (H.written host.new) result }
+{
+    match plan.edits(alloc, &bank) {
+        Ok(edits) => put_found(host, alloc, paths, bank, edits, output),
+        Err(fault) => Err(Fault::Run(of_plan(fault), paths.out)),
+    }
+}
+
+fn put_found<'a, 'b, H: Host, O: Write + ClosedPipe>(
+    host: &mut H,
+    alloc: Global,
+    paths: PlanPaths<'a>,
+    bank: Bank<'b>,
+    edits: Vec<Edit<'b>>,
+    output: &mut O,
+) -> Result<(), Fault<'a>>
+    requires { AllAccepted bank edits.items }
+    ensures { (purpose : Purpose) (file : List ℕ) → promise_of purpose bank.entry edits.entry.items → IsReadAs file bank.entry
+        → EndsFor (λ w. Ok (edits_at paths.entry purpose file))
+        (record { files = H.world host.old; printed = O.contents output.old })
+        (record { files = H.world host.new; printed = O.contents output.new }) (H.written host.new) result }
+{
+    if paths.dry_run {
+        return print(&EditLines(edits.as_slice()), output);
+    }
+    match apply_accepted(alloc, bank, edits) {
+        Ok(edited_bank) => save_both(host, paths.out, paths.undo, &edited_bank),
+        Err(OutOfMemory) => Err(Fault::Run(RunFault::Memory, paths.out)),
+    }
+}
