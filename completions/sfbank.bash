@@ -5,9 +5,11 @@ _sfbank_options() {
   case $1 in
     apply) echo --force --neutral --help ;;
     diff | import | live | map | play | wave) echo --force --help ;;
+    keep) echo --dry-run --force --notes --preset --help ;;
     new) echo --force --minor --help ;;
     script) echo --force --no-points --help ;;
     show) echo --zones --uses --help ;;
+    tidy) echo --dry-run --force --help ;;
     canon | explain) echo --help ;;
     '') echo --help --version ;;
   esac
@@ -21,6 +23,7 @@ _sfbank_endings() {
     diff) echo sf2 sf2 txt ;;
     explain) echo - ;;
     import) echo sf2 wav sf2 txt ;;
+    keep | tidy) echo sf2 sf2 txt ;;
     live) echo sf2 pcm ;;
     map) echo sf2 preset/inst - svg ;;
     new | show) echo sf2 ;;
@@ -30,14 +33,16 @@ _sfbank_endings() {
   esac
 }
 
-# Prints the command and then the files before the cursor, without options and their values.
+# Prints the command and then the files before the cursor, without options and their values. The two numbers of a
+# preset are words of their own, around a colon.
 _sfbank_given() {
   local i
   for ((i = 1; i < COMP_CWORD; i++)); do
     case ${COMP_WORDS[i]} in
-      --minor)
+      --minor | --notes | --preset)
         [ "${COMP_WORDS[i + 1]}" = = ] && ((i++))
         ((i++))
+        [ "${COMP_WORDS[i + 1]}" = : ] && ((i += 2))
         ;;
       -*) ;;
       *) echo "${COMP_WORDS[i]}" ;;
@@ -64,11 +69,13 @@ _sfbank_files() {
 
 _sfbank() {
   local word=${COMP_WORDS[COMP_CWORD]} before=${COMP_WORDS[COMP_CWORD - 1]}
-  local commands="apply canon diff explain help import live map new play script show wave" given endings
+  local commands="apply canon diff explain help import keep live map new play script show tidy wave" given endings
   COMPREPLY=()
   mapfile -t given < <(_sfbank_given)
   read -ra endings < <(_sfbank_endings "${given[0]}")
-  if [[ $before == --minor || $before == = ]]; then
+  if [[ $before == --notes || $before == = && ${COMP_WORDS[COMP_CWORD - 2]} == --notes ]]; then
+    _sfbank_files txt "${word#=}"
+  elif [[ $before == --minor || $before == --preset || $before == = || $before == : || $word == : ]]; then
     return
   elif [[ $word == -* ]]; then
     mapfile -t COMPREPLY < <(compgen -W "$(_sfbank_options "${given[0]}")" -- "$word")
