@@ -5,10 +5,12 @@ _sfbank_options() {
   case $1 in
     apply) echo --force --neutral --help ;;
     diff | import | live | map | play | wave) echo --force --help ;;
-    keep) echo --dry-run --force --notes --preset --help ;;
+    keep) echo --dry-run --force --notes --preset --zones --help ;;
+    merge) echo --dry-run --force --shift --help ;;
     new) echo --force --minor --help ;;
     script) echo --force --no-points --help ;;
     show) echo --zones --uses --help ;;
+    take) echo --dry-run --force --preset --help ;;
     tidy) echo --dry-run --force --help ;;
     canon | explain) echo --help ;;
     '') echo --help --version ;;
@@ -26,6 +28,7 @@ _sfbank_endings() {
     keep | tidy) echo sf2 sf2 txt ;;
     live) echo sf2 pcm ;;
     map) echo sf2 preset/inst - svg ;;
+    merge | take) echo sf2 sf2 sf2 txt ;;
     new | show) echo sf2 ;;
     play) echo sf2 txt wav ;;
     script) echo sf2 txt ;;
@@ -33,16 +36,16 @@ _sfbank_endings() {
   esac
 }
 
-# Prints the command and then the files before the cursor, without options and their values. The two numbers of a
-# preset are words of their own, around a colon.
+# Prints the command and then the files before the cursor, without options and their values. The numbers of presets
+# are words of their own, around a colon or an equals sign.
 _sfbank_given() {
   local i
   for ((i = 1; i < COMP_CWORD; i++)); do
     case ${COMP_WORDS[i]} in
-      --minor | --notes | --preset)
+      --minor | --notes | --preset | --shift)
         [ "${COMP_WORDS[i + 1]}" = = ] && ((i++))
         ((i++))
-        [ "${COMP_WORDS[i + 1]}" = : ] && ((i += 2))
+        while [[ ${COMP_WORDS[i + 1]} == [:=] ]]; do ((i += 2)); done
         ;;
       -*) ;;
       *) echo "${COMP_WORDS[i]}" ;;
@@ -69,13 +72,14 @@ _sfbank_files() {
 
 _sfbank() {
   local word=${COMP_WORDS[COMP_CWORD]} before=${COMP_WORDS[COMP_CWORD - 1]}
-  local commands="apply canon diff explain help import keep live map new play script show tidy wave" given endings
+  local given endings
+  local commands="apply canon diff explain help import keep live map merge new play script show take tidy wave"
   COMPREPLY=()
   mapfile -t given < <(_sfbank_given)
   read -ra endings < <(_sfbank_endings "${given[0]}")
   if [[ $before == --notes || $before == = && ${COMP_WORDS[COMP_CWORD - 2]} == --notes ]]; then
     _sfbank_files txt "${word#=}"
-  elif [[ $before == --minor || $before == --preset || $before == = || $before == : || $word == : ]]; then
+  elif [[ $before == --@(minor|preset|shift) || $before == [:=] || $word == [:=] ]]; then
     return
   elif [[ $word == -* ]]; then
     mapfile -t COMPREPLY < <(compgen -W "$(_sfbank_options "${given[0]}")" -- "$word")

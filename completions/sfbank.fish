@@ -6,7 +6,7 @@ function __sfbank_given
     for word in (commandline -opc)[2..]
         if test $is_value = yes
             set is_value no
-        else if contains -- "$word" --minor --notes --preset
+        else if contains -- "$word" --minor --notes --preset --shift
             set is_value yes
         else if not string match -q -- '-*' $word
             echo $word
@@ -46,6 +46,8 @@ function __sfbank_files
             set endings sf2 pcm
         case map
             set endings sf2 preset/inst - svg
+        case merge take
+            set endings sf2 sf2 sf2 txt
         case new show
             set endings sf2
         case play
@@ -66,7 +68,7 @@ function __sfbank_files
     end
 end
 
-set -l commands apply canon diff explain import keep live map new play script show tidy wave
+set -l commands apply canon diff explain import keep live map merge new play script show take tidy wave
 
 complete -c sfbank -f
 complete -c sfbank -n __sfbank_is_bare -a apply -d 'Run a script of edits on a bank, and write its undo script'
@@ -78,10 +80,12 @@ complete -c sfbank -n __sfbank_is_bare -a import -d 'Add a recording to a bank a
 complete -c sfbank -n __sfbank_is_bare -a keep -d 'Keep some presets of a bank, and remove what they do not need'
 complete -c sfbank -n __sfbank_is_bare -a live -d 'Edit and play a bank live, by the lines of the standard input'
 complete -c sfbank -n __sfbank_is_bare -a map -d 'Draw the ranges of a preset or an instrument as an SVG picture'
+complete -c sfbank -n __sfbank_is_bare -a merge -d 'Add all that another bank has after what a bank has'
 complete -c sfbank -n __sfbank_is_bare -a new -d 'Write an empty bank'
 complete -c sfbank -n __sfbank_is_bare -a play -d 'Play notes on a bank into a WAVE file'
 complete -c sfbank -n __sfbank_is_bare -a script -d 'Write a script that makes the bank from the empty bank'
 complete -c sfbank -n __sfbank_is_bare -a show -d 'List what a bank has, and what was dropped or repaired in reading it'
+complete -c sfbank -n __sfbank_is_bare -a take -d 'Copy presets of another bank into a bank, with what they need'
 complete -c sfbank -n __sfbank_is_bare -a tidy -d 'Remove what a bank does not use, and change no sound'
 complete -c sfbank -n __sfbank_is_bare -a wave -d 'Write a sample of a bank as a WAVE file'
 complete -c sfbank -n 'test "$(__sfbank_given)" = help' -a "$commands"
@@ -95,15 +99,22 @@ complete -c sfbank -n '__sfbank_is import' -l force -d 'Write UNDO even if a ban
 complete -c sfbank -n '__sfbank_is keep' -l force -d 'Write UNDO even if a bank is there'
 complete -c sfbank -n '__sfbank_is live' -l force -d 'Write PCM, and UNDO of each save, even if a bank is there'
 complete -c sfbank -n '__sfbank_is map' -l force -d 'Write OUT even if a bank is there'
+complete -c sfbank -n '__sfbank_is merge' -l force -d 'Write UNDO even if a bank is there'
 complete -c sfbank -n '__sfbank_is new' -l force -d 'Write OUT even if a bank is there'
 complete -c sfbank -n '__sfbank_is play' -l force -d 'Write OUT even if a bank is there'
 complete -c sfbank -n '__sfbank_is script' -l force -d 'Write OUT even if a bank is there'
+complete -c sfbank -n '__sfbank_is take' -l force -d 'Write UNDO even if a bank is there'
 complete -c sfbank -n '__sfbank_is tidy' -l force -d 'Write UNDO even if a bank is there'
 complete -c sfbank -n '__sfbank_is wave' -l force -d 'Write OUT even if a bank is there'
 complete -c sfbank -n '__sfbank_is apply' -l neutral -d 'Accept only edits of the thirteen neutral forms'
 complete -c sfbank -n '__sfbank_is keep' -l dry-run -d 'Print the script of edits, and save nothing'
 complete -c sfbank -n '__sfbank_is keep' -l notes -r -k -a '(__fish_complete_suffix .txt)' -d 'Keep the presets of these notes'
 complete -c sfbank -n '__sfbank_is keep' -l preset -x -d 'Keep the presets with these numbers, BANK:NUMBER'
+complete -c sfbank -n '__sfbank_is keep' -l zones -d 'Remove zones too that none of these notes selects'
+complete -c sfbank -n '__sfbank_is merge' -l dry-run -d 'Print the script of edits, and save nothing'
+complete -c sfbank -n '__sfbank_is merge' -l shift -x -d 'Add this to the bank number of each preset of FROM'
+complete -c sfbank -n '__sfbank_is take' -l dry-run -d 'Print the script of edits, and save nothing'
+complete -c sfbank -n '__sfbank_is take' -l preset -x -d 'Copy the preset with these numbers, BANK:NUMBER or FROM=TO'
 complete -c sfbank -n '__sfbank_is tidy' -l dry-run -d 'Print the script of edits, and save nothing'
 complete -c sfbank -n '__sfbank_is new' -l minor -x -d 'The minor version, 4 by default'
 complete -c sfbank -n '__sfbank_is script' -l no-points -d 'Leave the points of the samples out'

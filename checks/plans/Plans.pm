@@ -1,4 +1,4 @@
-# Tests `tidy` and `keep` on a bank.
+# Tests `tidy` and `keep` on a bank, and has what tests of other plans need.
 package Plans;
 use strict;
 use warnings;
@@ -6,7 +6,7 @@ use Banks;
 use Listed;
 use Runs;
 use Exporter 'import';
-our @EXPORT = qw(try_plans);
+our @EXPORT = qw(try_plans below chance note_lines play wrong_of_plan wrong_of_sound wrong_of_canon count_edits count_sound);
 
 # How many scripts had each form of edit, and how many note lists sounded.
 our %count;
@@ -17,7 +17,7 @@ sub chance { my ($percent) = @_; return below(100) < $percent; }
 # Returns what is wrong with a run that must be done, or undef.
 sub done { my ($run) = @_; return $run->{wrong} // ($run->{status} ? $run->{line} : undef); }
 
-# Returns the words of a run on a bank; the options of `keep` are before or after its files.
+# Returns the words of a run on files; the options are before or after these.
 sub words_of {
     my ($plan, @files) = @_;
     my ($command, @options) = @$plan;
@@ -26,32 +26,33 @@ sub words_of {
 
 # Writes the edits of a plan as `edits` by a dry run, which must save nothing. Returns what is wrong, or undef.
 sub wrong_of_dry_run {
-    my ($plan, $bank) = @_;
+    my ($plan, @inputs) = @_;
     write_bytes($_, "before\n") for qw(out undo);
-    my $run = run(words_of([@$plan, '--dry-run'], $bank, 'out', 'undo'), 'edits');
-    my $wrong = is_right($run, -s $bank) // ($run->{status} ? $run->{line} : undef);
+    my $run = run(words_of([@$plan, '--dry-run'], @inputs, 'out', 'undo'), 'edits');
+    my $wrong = is_right($run, -s $inputs[0]) // ($run->{status} ? $run->{line} : undef);
     return $wrong // (join('', map { read_bytes($_) } qw(out undo)) eq "before\n" x 2 ? undef : 'a dry run saves a file');
 }
 
 # Returns what is wrong with the run that replaces the bank itself, or undef.
 sub wrong_of_replacement {
-    my ($plan, $bank) = @_;
+    my ($plan, $bank, @others) = @_;
     write_bytes('over', read_bytes($bank));
-    my $wrong = done(run_command(words_of($plan, 'over', 'over', 'over.undo'), 'over.undo'));
+    my $wrong = done(run_command(words_of($plan, 'over', @others, 'over', 'over.undo'), 'over.undo'));
     return $wrong // (same('over', 'out') && same('over.undo', 'undo') ? undef : 'another bank, or another undo script, where OUT is IN');
 }
 
-# Returns what is wrong with a plan on a bank, or undef. It leaves `out`, `undo` and `edits`; `canonical` is the canonical
-# file of the bank.
+# Returns what is wrong with a plan on a bank, which may have other inputs, or undef. It leaves `out`, `undo` and `edits`;
+# `canonical` is the canonical file of the bank.
 sub wrong_of_plan {
-    my ($plan, $bank) = @_;
-    my $wrong = wrong_of_dry_run($plan, $bank) // done(run_command(words_of($plan, $bank, 'out', 'undo'), 'out', 'undo'));
+    my ($plan, $bank, @others) = @_;
+    my $wrong = wrong_of_dry_run($plan, $bank, @others);
+    $wrong //= done(run_command(words_of($plan, $bank, @others, 'out', 'undo'), 'out', 'undo'));
     $wrong //= done(apply('out', 'undo', 'back', 'redo'));
     $wrong //= same('back', 'canonical') ? undef : 'is not undone';
     $wrong //= same('redo', 'edits') ? undef : 'has another script than its dry run';
     $wrong //= done(apply($bank, 'edits', 'again', 'again.undo'));
     $wrong //= same('again', 'out') && same('again.undo', 'undo') ? undef : 'its script does something else';
-    return $wrong // wrong_of_replacement($plan, $bank);
+    return $wrong // wrong_of_replacement($plan, $bank, @others);
 }
 
 # Counts the forms of the edits in `edits`.
@@ -78,12 +79,21 @@ sub note_of {
 
 sub play { my ($bank, $wave) = @_; return done(run_command(['play', $bank, 'notes', $wave], $wave)); }
 
+# Counts a note list if it sounds in `wave`.
+sub count_sound {
+    my ($command) = @_;
+    $count{"$command sounds"}++ if substr(read_bytes('wave'), 44) =~ /[^\0]/;
+}
+
+# Makes `canonical` of a bank, and returns what is wrong, or undef.
+sub wrong_of_canon { my ($bank) = @_; return done(canon($bank, 'canonical')); }
+
 # Returns what is wrong with `notes`, which must render identically on a bank and on `out`, or undef.
 sub wrong_of_sound {
     my ($command, $bank) = @_;
     my $wrong = play($bank, 'wave') // play('out', 'out.wave');
     return $wrong if defined $wrong;
-    $count{"$command sounds"}++ if substr(read_bytes('wave'), 44) =~ /[^\0]/;
+    count_sound($command);
     return same('wave', 'out.wave') ? undef : 'notes render otherwise';
 }
 
@@ -165,7 +175,7 @@ sub wrong_of_keep_by_numbers {
 sub wrong_of_missing {
     my ($bank, @numbers) = @_;
     my $run = run_command([keep_words(@numbers), $bank, 'again', 'again.undo'], 'again', 'again.undo');
-    return $run->{wrong} // ($run->{line} eq "sfbank: refused 20 NoSuchPreset\n" ? undef : "'$run->{line}' for a missing preset");
+    return $run->{wrong} // ($run->{line} eq "sfbank: refused 67 NoSuchNumbers $missing\n" ? undef : "'$run->{line}' for a missing preset");
 }
 
 # The same by a list of notes, which may be of missing presets. It must do what it does by their numbers.
@@ -180,14 +190,39 @@ sub wrong_of_keep_by_notes {
     return $wrong // (same('again', 'out') && same('again.undo', 'undo') ? undef : 'does something else by numbers');
 }
 
+# The same with `--zones`. No preset is left that isn't played, and each zone that is left has a note.
+sub wrong_of_keep_zones {
+    my ($bank, $in) = @_;
+    my @numbers = some_numbers($in);
+    write_bytes('notes', note_lines(@numbers + below(12), @numbers));
+    my $wrong = wrong_of_plan(['keep', '--zones', '--notes', 'notes'], $bank);
+    return $wrong if defined $wrong;
+    count_edits('zones');
+    my $out = listed('out');
+    my %is_played = map { $_ => 1 } @numbers;
+    my @unused = unused_in($out);
+    my ($other) = grep { !$is_played{$_} } numbers_of($out);
+    $wrong = $out->{wrong} // (@unused ? "$unused[0] is unused" : defined $other ? "$other is left" : undef);
+    return $wrong // wrong_of_sound('zones', $bank) // wrong_of_second_zones();
+}
+
+# Returns what is wrong with a second run, which must find nothing to do, or undef.
+sub wrong_of_second_zones {
+    my $run = run(['keep', '--zones', '--notes', 'notes', '--dry-run', 'out', 'none', 'none.undo'], 'edits');
+    my $wrong = is_right($run, -s 'out') // ($run->{status} ? $run->{line} : undef);
+    my ($more) = split /\n/, read_bytes('edits');
+    return $wrong // (defined $more ? "$more is found later" : undef);
+}
+
 sub try_plans {
     my ($name, $bank) = @_;
     my $in = listed($bank);
-    my $wrong = $in->{wrong} // done(canon($bank, 'canonical'));
+    my $wrong = $in->{wrong} // wrong_of_canon($bank);
     return report($name, $wrong) if defined $wrong;
     report("$name: tidy", wrong_of_tidy($bank, $in));
     report("$name: keep by numbers", wrong_of_keep_by_numbers($bank, $in));
     report("$name: keep by notes", wrong_of_keep_by_notes($bank, $in));
+    report("$name: keep by zones", wrong_of_keep_zones($bank, $in));
 }
 
 1;

@@ -6,7 +6,8 @@ ghost use Rattle.edit_drafts.specs.Drafts.{IsStepResult};
 
 use bank_core::Bank;
 use bank_edits::apply;
-use edit_forms::{Edit, Step};
+use bank_validity::Limit;
+use edit_forms::{Cause, Edit, Step};
 use edit_refusals::Refusal;
 use sf_base::OutOfMemory;
 use std::alloc::{AllocError, Global};
@@ -14,8 +15,10 @@ use std::alloc::{AllocError, Global};
 /// Why a step is not applied.
 #[derive(Debug, Drop, Clone, Copy, PartialEq, Eq)]
 pub enum Stop {
-    /// The bank refuses the step.
+    /// The bank refuses the step for another cause than a limit.
     Refused,
+    /// The step would break this limit.
+    Full(Limit),
     OutOfMemory,
 }
 
@@ -66,10 +69,11 @@ fn apply_edit<'a>(alloc: Global, bank: &mut Bank<'a>, edit: Edit<'a>) -> Result<
 }
 
 fn stop_of(why: Refusal) -> Stop {
-    if why == Refusal::OutOfMemory {
-        return Stop::OutOfMemory;
+    match why {
+        Refusal::OutOfMemory => Stop::OutOfMemory,
+        Refusal::Of(Cause::Full(limit)) => Stop::Full(limit),
+        _ => Stop::Refused,
     }
-    Stop::Refused
 }
 
 // Appends an edit to a list with spare capacity.

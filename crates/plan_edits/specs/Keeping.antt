@@ -1,6 +1,6 @@
 -- What remains of a bank of which some presets are kept.
-use Rattle.std.specs.Prelude.{◌≡◌, ◌==◌, ◌&&◌, ℕ, Bool, true, List, Some, slice_get}
-use Rattle.std.specs.List.{AllByRecursion, list_all, list_any}
+use Rattle.std.specs.Prelude.{◌≡◌, ◌==◌, ◌&&◌, ℕ, Bool, true, not, List, Option, Some, slice_get}
+use Rattle.std.specs.List.{AllByRecursion, find, list_any}
 use Rattle.std.specs.List.Sorted.{IsPermutation}
 use Rattle.bank_parts.specs.declared.parts.Head.{Head}
 use Rattle.bank_parts.specs.declared.parts.ZoneOwner.{ZoneOwner}
@@ -17,13 +17,17 @@ use Rattle.plan_presets.specs.declared.numbers.PresetNumbers.{PresetNumbers}
 abbrev pub is_listed : List PresetNumbers → ℕ → ℕ → Bool
 is_listed list bank number = list_any (λ (k : PresetNumbers). k.bank == bank && k.number == number) list
 
+-- the same numbers are in both lists
+abbrev pub HaveSameNumbers : List PresetNumbers → List PresetNumbers → Type 0
+HaveSameNumbers xs ys = (bank number : ℕ) → is_listed xs bank number ≡ is_listed ys bank number
+
 -- the bank has a preset with these numbers
 abbrev pub has_preset : Parts → PresetNumbers → Bool
 has_preset b k = list_any (λ (p : ZoneOwner Head). p.head.bank == k.bank && p.head.number == k.number) b.presets
 
--- it has one for each of these
-abbrev pub has_presets : Parts → List PresetNumbers → Bool
-has_presets b list = list_all (has_preset b) list
+-- the first of these that no preset of the bank has
+abbrev pub first_missing : Parts → List PresetNumbers → Option PresetNumbers
+first_missing b list = find (λ (k : PresetNumbers). not (has_preset b k)) list
 
 -- a preset that is kept
 abbrev pub is_kept : List PresetNumbers → ZoneOwner Head → Bool

@@ -4,3 +4,5 @@ pub mod Uses
 pub mod NeutralRuns
 pub mod Tidying
 pub mod Keeping
+pub mod ZoneSets
+pub mod Playing

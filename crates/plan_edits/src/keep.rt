@@ -3,6 +3,7 @@ ghost use Rattle.std.specs.Prelude.{IfOk};
 ghost use Rattle.plan_edits.specs.Keeping.{IsKeeping};
 
 use crate::fault::PlanFault;
+use crate::listed::set_of;
 use crate::plan::Plan;
 use crate::presets::{are_kept, remove_other_presets};
 use crate::unused::remove_unused;
@@ -22,10 +23,10 @@ pub struct Keep<'k> {
     pub presets: &'k [PresetNumbers],
 }
 
-impl Plan for Keep<'_> {
+impl<'a> Plan<'a> for Keep<'_> {
     ghost promise = { λ keep. IsKeeping keep.presets.now };
 
-    fn edits<'a>(&self, alloc: Global, bank: &Bank<'a>) -> Result<Vec<Edit<'a>>, PlanFault> {
+    fn edits(&self, alloc: Global, bank: &Bank<'a>) -> Result<Vec<Edit<'a>>, PlanFault> {
         keep_edits(alloc, bank, self.presets)
     }
 }
@@ -37,10 +38,11 @@ fn keep_edits<'a>(
 ) -> Result<Vec<Edit<'a>>, PlanFault>
     ensures { IfOk result (λ edits. IsKeeping kept.now bank.now edits.items) }
 {
+    let set = set_of(alloc, kept)?;
     let mut draft = Draft::new(alloc, bank)?;
-    remove_other_presets(alloc, &mut draft, kept)?;
+    remove_other_presets(alloc, &mut draft, &set)?;
     remove_unused(alloc, &mut draft)?;
-    if !are_kept(draft.bank(), kept) || !has_no_unused(alloc, draft.bank())? {
+    if !are_kept(draft.bank(), &set) || !has_no_unused(alloc, draft.bank())? {
         return Err(PlanFault::Defect);
     }
     Ok(draft.into_edits())

@@ -1,13 +1,26 @@
-//! Lists of presets by their MIDI numbers.
-ghost use Rattle.std.specs.Prelude.{◌≡◌};
-ghost use Rattle.plan_edits.specs.Keeping.{is_listed};
+//! Sets of presets by their MIDI numbers.
+ghost use Rattle.std.specs.Prelude.{◌≡◌, IfOk};
+ghost use Rattle.plan_edits.specs.Keeping.{is_listed, HaveSameNumbers};
 
 use plan_presets::PresetNumbers;
+use sf_base::OutOfMemory;
+use std::alloc::Global;
+use std::collections::BTreeSet;
 
-/// Whether the numbers are in a list.
-pub(crate) fn is_listed(list: &[PresetNumbers], bank: u16, number: u16) -> bool
-    ensures { result ≡ is_listed list.now bank number }
+/// The presets of a list, as a set.
+pub(crate) fn set_of(
+    alloc: Global,
+    list: &[PresetNumbers],
+) -> Result<BTreeSet<PresetNumbers>, OutOfMemory>
+    ensures { IfOk result (λ set. HaveSameNumbers set.keys list.now) }
 {
-    list.iter()
-        .any(|numbers| numbers.bank == bank && numbers.number == number)
+    let set: BTreeSet<PresetNumbers> = list.iter().copied().collect(alloc)?;
+    Ok(set)
+}
+
+/// Whether the numbers are in a set.
+pub(crate) fn is_listed(set: &BTreeSet<PresetNumbers>, bank: u16, number: u16) -> bool
+    ensures { result ≡ is_listed set.now.keys bank number }
+{
+    set.contains(&PresetNumbers { bank, number })
 }

@@ -1,23 +1,25 @@
 //! Presets that are not kept.
-ghost use Rattle.std.specs.Prelude.{◌≡◌, ◌==◌, ◌&&◌, true};
-ghost use Rattle.plan_edits.specs.Keeping.{has_preset, has_presets, KeepsNotes, OnlyKept};
+ghost use Rattle.std.specs.Prelude.{◌≡◌, ◌==◌, ◌&&◌, true, MatchResult};
+ghost use Rattle.std.specs.Option.{option_map};
+ghost use Rattle.plan_edits.specs.Keeping.{has_preset, first_missing, KeepsNotes, OnlyKept};
 
 use crate::listed::is_listed;
 use bank_core::{Bank, List};
 use bank_parts::Head;
 use edit_drafts::{Draft, Stop};
 use edit_forms::{PresetStep, Step};
-use plan_presets::PresetNumbers;
+use plan_presets::{PresetFault, PresetNumbers};
 use std::alloc::Global;
+use std::collections::BTreeSet;
 
-/// Removes all presets whose numbers are not in the list. Each note of the others has the same voices before and after.
+/// Removes all presets whose numbers are not in the set. Each note of the others has the same voices before and after.
 pub(crate) fn remove_other_presets(
     alloc: Global,
     draft: &mut Draft<'_, '_>,
-    kept: &[PresetNumbers],
+    kept: &BTreeSet<PresetNumbers>,
 ) -> Result<(), Stop>
     ensures first { draft.new.first ≡ draft.old.first }
-    ensures keeps { KeepsNotes kept.now draft.old.bank draft.new.bank }
+    ensures keeps { KeepsNotes kept.now.keys draft.old.bank draft.new.bank }
 {
     for preset in (0..preset_count(draft.bank())).rev() {
         remove_other_preset(alloc, draft, kept, preset)?;
@@ -34,11 +36,11 @@ fn preset_count(bank: &Bank<'_>) -> u32 {
 fn remove_other_preset(
     alloc: Global,
     draft: &mut Draft<'_, '_>,
-    kept: &[PresetNumbers],
+    kept: &BTreeSet<PresetNumbers>,
     preset: u32,
 ) -> Result<(), Stop>
     ensures first { draft.new.first ≡ draft.old.first }
-    ensures keeps { KeepsNotes kept.now draft.old.bank draft.new.bank }
+    ensures keeps { KeepsNotes kept.now.keys draft.old.bank draft.new.bank }
 {
     match draft.bank().head(preset) {
         Some(head) if !is_listed(kept, head.bank, head.number) => {
@@ -48,11 +50,22 @@ fn remove_other_preset(
     }
 }
 
-/// Whether the bank has a preset for each of these numbers.
-pub fn has_presets(bank: &Bank<'_>, list: &[PresetNumbers]) -> bool
-    ensures { result ≡ has_presets bank.now list.now }
+/// Whether the bank has a preset for each of these numbers; if not, the fault names the first that is missing.
+pub fn check_presets(bank: &Bank<'_>, list: &[PresetNumbers]) -> Result<(), PresetFault>
+    ensures { MatchResult result (λ _. first_missing bank.now list.now ≡ None) (λ fault. option_map PresetFault.Missing (first_missing bank.now list.now) ≡ Some fault) }
 {
-    list.iter().all(|numbers| has_preset(bank, *numbers))
+    match first_missing(bank, list) {
+        None => Ok(()),
+        Some(missing) => Err(PresetFault::Missing(missing)),
+    }
+}
+
+fn first_missing(bank: &Bank<'_>, list: &[PresetNumbers]) -> Option<PresetNumbers>
+    ensures { result ≡ first_missing bank.now list.now }
+{
+    list.iter()
+        .copied()
+        .find(|numbers| !has_preset(bank, *numbers))
 }
 
 fn has_preset(bank: &Bank<'_>, numbers: PresetNumbers) -> bool
@@ -74,8 +87,8 @@ fn are_numbers_of(head: Head, numbers: PresetNumbers) -> bool
 }
 
 /// Whether all presets are kept.
-pub(crate) fn are_kept(bank: &Bank<'_>, kept: &[PresetNumbers]) -> bool
-    ensures { result ≡ true → OnlyKept kept.now bank.now }
+pub(crate) fn are_kept(bank: &Bank<'_>, kept: &BTreeSet<PresetNumbers>) -> bool
+    ensures { result ≡ true → OnlyKept kept.now.keys bank.now }
 {
     let presets = bank.presets();
     for preset in 0..presets.len() {

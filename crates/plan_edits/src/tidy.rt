@@ -20,10 +20,10 @@ use std::alloc::Global;
 #[derive(Drop, Clone, Copy)]
 pub struct Tidy;
 
-impl Plan for Tidy {
+impl<'a> Plan<'a> for Tidy {
     ghost promise = { λ _. IsTidying };
 
-    fn edits<'a>(&self, alloc: Global, bank: &Bank<'a>) -> Result<Vec<Edit<'a>>, PlanFault> {
+    fn edits(&self, alloc: Global, bank: &Bank<'a>) -> Result<Vec<Edit<'a>>, PlanFault> {
         tidy_edits(alloc, bank)
     }
 }

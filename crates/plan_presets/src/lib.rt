@@ -1,6 +1,8 @@
 //! The MIDI numbers of presets.
 #![tactic(auto)]
 
+mod fault;
 mod numbers;
 
-pub use numbers::PresetNumbers;
+pub use fault::PresetFault;
+pub use numbers::{PresetNumbers, TakenPreset};

@@ -1,8 +1,15 @@
 //! The MIDI numbers of presets.
 
 /// The two numbers by which MIDI selects a preset (SoundFont 2.04, section 7.2).
-#[derive(Debug, Drop, Clone, Copy, PartialEq, Eq)]
+#[derive(Debug, Drop, Clone, Copy, PartialEq, Eq, PartialOrd, Ord)]
 pub struct PresetNumbers {
     pub bank: u16,
     pub number: u16,
+}
+
+/// A preset of another bank: its numbers there, and those that its copy gets.
+#[derive(Debug, Drop, Clone, Copy, PartialEq, Eq)]
+pub struct TakenPreset {
+    pub from: PresetNumbers,
+    pub to: PresetNumbers,
 }

@@ -28,7 +28,7 @@ use Rattle.mixer.proofs.AlikeLaws.{AreAlike-refl, AreAlike-trans, alike_notes_re
 use Rattle.bank_edits.specs.Runs.{after_all}
 use Rattle.script_of_bank.specs.LeadsTo.{Leads}
 use Rattle.plan_presets.specs.declared.numbers.PresetNumbers.{PresetNumbers}
-use Rattle.plan_take.specs.declared.taken_preset.TakenPreset.{TakenPreset}
+use Rattle.plan_presets.specs.declared.numbers.TakenPreset.{TakenPreset}
 use Rattle.plan_take.specs.Taking.{is_on, is_taken, OfEach, IsTakeable, IsCopied, CopyRenders, IsTaking}
 use Rattle.plan_take.proofs.SearchLaws.{get_some}
 use Rattle.plan_take.proofs.RenderLaws.{same_render}

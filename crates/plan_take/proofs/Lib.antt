@@ -1,5 +1,10 @@
 pub mod SearchLaws
+pub mod FaultLaws
+pub mod SortedLaws
+pub mod ShiftLaws
 pub mod VoiceLaws
 pub mod MatchLaws
 pub mod RenderLaws
+pub mod JoinLaws
 pub mod AdditionLaws
+pub mod MergeLaws

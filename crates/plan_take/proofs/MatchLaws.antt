@@ -8,11 +8,11 @@ use Rattle.bank_parts.specs.declared.parts.Parts.{Parts}
 use Rattle.bank_parts.specs.declared.owners.ZonePlace.TheVariants as place
 use Rattle.bank_parts.specs.Owners.{zone_at, target_at}
 use Rattle.bank_parts.specs.Settings.{settings_of_zone, settings_in, settings_at}
-use Rattle.plan_take.specs.declared.taken_preset.TakenPreset.{TakenPreset}
+use Rattle.plan_presets.specs.declared.numbers.TakenPreset.{TakenPreset}
 use Rattle.plan_take.specs.Taking.{preset_with, OfEach, IsCopied}
-use Rattle.plan_take.specs.Matches.{AreBoth, AllMatch, SamplesMatch, ZonesMatch, OwnersMatch, Renumbered}
+use Rattle.plan_take.specs.Matches.{AreBoth, HasNumber, AllMatch, SamplesMatch, ZonesMatch, OwnersMatch, Renumbered}
 use Rattle.plan_take.specs.Matches.{PresetsMatch}
-use Rattle.plan_take.proofs.VoiceLaws.{same_selected}
+use Rattle.plan_take.proofs.VoiceLaws.{related, same_selected}
 
 some_same : {X : Type 0} (x y : X) → Some x ≡ Some y → x ≡ y
 some_same x y e = cc
@@ -96,4 +96,8 @@ pub copied : (from b : Parts) (presets : List TakenPreset) (samples instruments 
     → AllMatch (Renumbered samples) instruments from.instruments b.instruments
     → OfEach (PresetsMatch instruments from b) presets → OfEach (IsCopied from b) presets
 copied from b presets samples instruments heard played match i p at n =
-    sym (same_selected n p.from p.to from b samples instruments heard played (match i p at))
+    sym
+    (same_selected n p.from p.to from b (HasNumber samples) (HasNumber instruments)
+    (λ j k h. related SamplesMatch (slice_get from.samples j) (slice_get b.samples k) (heard j k h))
+    (λ j k h. related (Renumbered samples) (slice_get from.instruments j) (slice_get b.instruments k) (played j k h))
+    (related (Renumbered instruments) (preset_with from.presets p.from) (preset_with b.presets p.to) (match i p at)))

@@ -17,16 +17,33 @@ use Rattle.zone_select.specs.Select.{Voice, voice_of, voices_of, sample_voices, 
 use Rattle.zone_select.specs.Select.{preset_voices, has_preset_numbers, selected}
 use Rattle.plan_presets.specs.declared.numbers.PresetNumbers.{PresetNumbers}
 use Rattle.plan_take.specs.Taking.{on_preset, preset_with}
-use Rattle.plan_take.specs.Matches.{AreBoth, HasNumber, AllMatch, SamplesMatch, ZonesMatch, Renumbered}
+use Rattle.plan_take.specs.Matches.{AreBoth, SamplesMatch, ZonesMatch, OwnersMatch}
 
 -- ---- lists and options
 
+-- both exist and R relates them, or neither exists
+abbrev pub AreRelated : {X Y : Type 0} → (X → Y → Type 0) → Option X → Option Y → Type 0
+AreRelated R None None = Unit {0}
+AreRelated R None (Some y) = ⊥
+AreRelated R (Some x) None = ⊥
+AreRelated R (Some x) (Some y) = R x y
+
+pub related : {X Y : Type 0} (R : X → Y → Type 0) (o : Option X) (p : Option Y) → AreBoth R o p → AreRelated R o p
+related R None p h = absurd h
+related R (Some x) None h = h
+related R (Some x) (Some y) h = h
+
 both_or : {X Y Z : Type 0} (R : X → Y → Type 0) (f : X → Z) (g : Y → Z) (d : Z)
-    → ((x : X) (y : Y) → R x y → f x ≡ g y) → (o : Option X) (p : Option Y) → AreBoth R o p
+    → ((x : X) (y : Y) → R x y → f x ≡ g y) → (o : Option X) (p : Option Y) → AreRelated R o p
     → option_map_or f o d ≡ option_map_or g p d
-both_or R f g d e None p h = absurd h
+both_or R f g d e None None h = refl
+both_or R f g d e None (Some y) h = absurd h
 both_or R f g d e (Some x) None h = absurd h
 both_or R f g d e (Some x) (Some y) h = e x y h
+
+-- members of two lists with related numbers are related
+abbrev pub AllRelated : {X Y : Type 0} → (X → Y → Type 0) → (ℕ → ℕ → Type 0) → List X → List Y → Type 0
+AllRelated R T xs ys = (i j : ℕ) → T i j → AreRelated R (slice_get xs i) (slice_get ys j)
 
 flat_map-matched : {X Y Z : Type 0} (R : X → Y → Type 0) (f : X → List Z) (g : Y → List Z)
     → ((x : X) (y : Y) → R x y → f x ≡ g y) → (xs : List X) (ys : List Y) → length xs ≡ length ys
@@ -93,10 +110,9 @@ module _ (n : Numbers) (k l : PresetNumbers) where
 
   -- ---- members of two banks that match
 
-  module _ (from b : Parts) (samples instruments : List (Option ℕ))
-      (heard : AllMatch SamplesMatch samples from.samples b.samples)
-      (played : AllMatch (Renumbered samples) instruments from.instruments b.instruments) where
-    same_samples : (u v : ZoneSettings) (s t : ℕ) → HasNumber samples s t
+  module _ (from b : Parts) (S I : ℕ → ℕ → Type 0) (heard : AllRelated SamplesMatch S from.samples b.samples)
+      (played : AllRelated (OwnersMatch S) I from.instruments b.instruments) where
+    same_samples : (u v : ZoneSettings) (s t : ℕ) → S s t
         → sample_voices from old u v s ≡ sample_voices b new u v t
     unfolding sample_voices
     same_samples u v s t h =
@@ -104,29 +120,29 @@ module _ (n : Numbers) (k l : PresetNumbers) where
         (λ x y e. ap (λ (r : Voice). r ∷ []) (same_voice u v x y e)) (slice_get from.samples s) (slice_get b.samples t)
         (heard s t h)
 
-    same_instrument : (u : ZoneSettings) (x y : ZoneOwner (List ℕ)) → Renumbered samples x y
+    same_instrument : (u : ZoneSettings) (x y : ZoneOwner (List ℕ)) → OwnersMatch S x y
         → instrument_voices from old u x ≡ instrument_voices b new u y
     unfolding instrument_voices
     same_instrument u x y m =
-        same_zones (HasNumber samples) x.global y.global m.global (sample_voices from old u) (sample_voices b new u)
+        same_zones S x.global y.global m.global (sample_voices from old u) (sample_voices b new u)
         (same_samples u) x.zones y.zones m.count m.zones
 
-    same_instruments : (u : ZoneSettings) (i j : ℕ) → HasNumber instruments i j
+    same_instruments : (u : ZoneSettings) (i j : ℕ) → I i j
         → number_voices from old u i ≡ number_voices b new u j
     unfolding number_voices
     same_instruments u i j h =
-        both_or (Renumbered samples) (instrument_voices from old u) (instrument_voices b new u) [] (same_instrument u)
+        both_or (OwnersMatch S) (instrument_voices from old u) (instrument_voices b new u) [] (same_instrument u)
         (slice_get from.instruments i) (slice_get b.instruments j) (played i j h)
 
-    same_preset : (x y : ZoneOwner Head) → Renumbered instruments x y → preset_voices from old x ≡ preset_voices b new y
+    same_preset : (x y : ZoneOwner Head) → OwnersMatch I x y → preset_voices from old x ≡ preset_voices b new y
     unfolding preset_voices
     same_preset x y m =
-        same_zones (HasNumber instruments) x.global y.global m.global (number_voices from old) (number_voices b new)
+        same_zones I x.global y.global m.global (number_voices from old) (number_voices b new)
         same_instruments x.zones y.zones m.count m.zones
 
-    pub same_selected : AreBoth (Renumbered instruments) (preset_with from.presets k) (preset_with b.presets l)
+    pub same_selected : AreRelated (OwnersMatch I) (preset_with from.presets k) (preset_with b.presets l)
         → selected from old ≡ selected b new
     unfolding selected has_preset_numbers
     same_selected h =
-        both_or (Renumbered instruments) (preset_voices from old) (preset_voices b new) [] same_preset
+        both_or (OwnersMatch I) (preset_voices from old) (preset_voices b new) [] same_preset
         (preset_with from.presets k) (preset_with b.presets l) h

@@ -7,7 +7,7 @@ use Rattle.zone_select.specs.Select.{selected}
 use Rattle.zone_select.specs.Alike.{AreAlike}
 use Rattle.edit_drafts.specs.Drafts.{Drafted}
 use Rattle.plan_presets.specs.declared.numbers.PresetNumbers.{PresetNumbers}
-use Rattle.plan_take.specs.declared.taken_preset.TakenPreset.{TakenPreset}
+use Rattle.plan_presets.specs.declared.numbers.TakenPreset.{TakenPreset}
 use Rattle.plan_take.specs.Taking.{is_on, is_taken}
 
 -- each note on another preset has the same voices in both banks, in some order

@@ -4,3 +4,6 @@ pub mod Taking
 pub mod TakeFaults
 pub mod Matches
 pub mod Additions
+pub mod Sorted
+pub mod Shifted
+pub mod Merging

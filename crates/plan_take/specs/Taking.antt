@@ -11,7 +11,7 @@ use Rattle.mixer.specs.Render.{render}
 use Rattle.edit_forms.specs.declared.edit.Edit.{Edit}
 use Rattle.bank_edits.specs.Runs.{AllAccepted, after_all}
 use Rattle.plan_presets.specs.declared.numbers.PresetNumbers.{PresetNumbers}
-use Rattle.plan_take.specs.declared.taken_preset.TakenPreset.{TakenPreset}
+use Rattle.plan_presets.specs.declared.numbers.TakenPreset.{TakenPreset}
 
 -- ---- presets and notes by numbers
 

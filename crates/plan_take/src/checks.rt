@@ -1,72 +1,51 @@
 //! Whether presets can be taken.
-ghost use Rattle.std.specs.Prelude.{◌≡◌, ◌<◌, length, true, Some, OnOk, IfErr, MatchOption, slice_get};
-ghost use Rattle.plan_take.specs.declared.taken_preset.TakenPreset.{TakenPreset};
-ghost use Rattle.plan_take.specs.Taking.{OfEach, IsTakeable};
-ghost use Rattle.plan_take.specs.TakeFaults.{new_numbers, AreTwice, IsTakeFault};
+ghost use Rattle.std.specs.Prelude.{◌≡◌, ◌==◌, ◌&&◌, ◌++◌, None, Some, MatchResult};
+ghost use Rattle.std.specs.List.{list_any};
+ghost use Rattle.plan_presets.specs.declared.numbers.TakenPreset.{TakenPreset};
+ghost use Rattle.plan_take.specs.TakeFaults.{numbers_in, new_numbers, fault_of, preset_fault};
 
-use crate::fault::TakeFault;
 use crate::preset_search::has_preset;
-use crate::taken_preset::TakenPreset;
 use bank_core::Bank;
+use plan_presets::{PresetFault, PresetNumbers, TakenPreset};
 
-/// Whether all presets of a list can be taken: else why the first that can't be.
-pub(crate) fn check_presets(
+/// Whether all presets of a list can be taken: else why the first that can't be. Each preset must be in the other bank,
+/// and its new numbers must not be in use, neither in the bank nor by a preset before it in the list.
+pub fn check_presets(
     bank: &Bank<'_>,
     from: &Bank<'_>,
     presets: &[TakenPreset],
-) -> Result<(), TakeFault>
-    ensures ok { OnOk result (OfEach (IsTakeable from.now bank.now) presets.now) }
-    ensures fault { IfErr result (IsTakeFault from.now presets.now bank.now) }
+) -> Result<(), PresetFault>
+    ensures { MatchResult result (λ _. preset_fault from.now bank.now presets.now ≡ None) (λ fault. preset_fault from.now bank.now presets.now ≡ Some fault) }
 {
     for k in 0..presets.len() {
-        if let Some(fault) = fault_of(bank, from, presets, k) {
+        if let Some(fault) = fault_of(bank, from, &presets[..k], presets[k]) {
             return Err(fault);
         }
     }
     Ok(())
 }
 
-// Why preset k of the list can't be taken.
+// Why a preset can't be taken after others.
 fn fault_of(
     bank: &Bank<'_>,
     from: &Bank<'_>,
-    presets: &[TakenPreset],
-    k: usize,
-) -> Option<TakeFault>
-    requires { k < length presets.now }
-    ensures { MatchOption result ((p : TakenPreset) → slice_get presets.now k ≡ Some p → IsTakeable from.now bank.now p) (IsTakeFault from.now presets.now bank.now) }
+    others: &[TakenPreset],
+    taken: TakenPreset,
+) -> Option<PresetFault>
+    ensures { result ≡ fault_of from.now (numbers_in bank.now.presets ++ new_numbers others.now) taken }
 {
-    let taken = presets[k];
     if !has_preset(from.presets(), taken.from) {
-        return Some(TakeFault::NoSuchPreset(taken.from));
+        return Some(PresetFault::Missing(taken.from));
     }
-    if has_preset(bank.presets(), taken.to) {
-        return Some(TakeFault::NumbersInUse(taken.to));
-    }
-    if is_second(presets, k) {
-        return Some(TakeFault::NumbersTwice(taken.to));
+    if has_preset(bank.presets(), taken.to) || are_given(others, taken.to) {
+        return Some(PresetFault::InUse(taken.to));
     }
     None
 }
 
-// Whether a preset before preset k gets the same numbers.
-fn is_second(presets: &[TakenPreset], k: usize) -> bool
-    requires { k < length presets.now }
-    ensures { (p : TakenPreset) → slice_get presets.now k ≡ Some p → result ≡ true → AreTwice presets.now p.to }
+// Whether a preset of the list gets these numbers.
+fn are_given(presets: &[TakenPreset], numbers: PresetNumbers) -> bool
+    ensures { result ≡ list_any (λ (p : TakenPreset). p.to.bank == numbers.bank && p.to.number == numbers.number) presets.now }
 {
-    for i in 0..k {
-        if are_equal(presets, i, k) {
-            return true;
-        }
-    }
-    false
-}
-
-// Whether presets i and k of the list get the same numbers.
-fn are_equal(presets: &[TakenPreset], i: usize, k: usize) -> bool
-    requires first { i < length presets.now }
-    requires second { k < length presets.now }
-    ensures { result ≡ true → new_numbers presets.now i ≡ new_numbers presets.now k }
-{
-    presets[i].to == presets[k].to
+    presets.iter().any(|taken| taken.to.bank == numbers.bank && taken.to.number == numbers.number)
 }

@@ -1,14 +1,14 @@
 //! Whether members of a bank match those of the other bank of which they are copies.
 ghost use Rattle.std.specs.Prelude.{◌≡◌, ◌<◌, ℕ, length, true, Some, slice_get};
-ghost use Rattle.plan_take.specs.declared.taken_preset.TakenPreset.{TakenPreset};
+ghost use Rattle.plan_presets.specs.declared.numbers.TakenPreset.{TakenPreset};
 ghost use Rattle.plan_take.specs.Taking.{OfEach, IsCopied};
 ghost use Rattle.plan_take.specs.Matches.{AreBoth, AllMatch, Renumbered, PresetsMatch};
 
 use crate::preset_search::find_preset;
 use crate::sample_matches::samples_match;
-use crate::taken_preset::TakenPreset;
 use crate::zone_matches::is_renumbered;
 use bank_core::{Bank, Owners};
+use plan_presets::TakenPreset;
 use sf_base::Name20;
 
 /// Whether each note has the same voices on each taken preset as on the original, given the numbers that samples and

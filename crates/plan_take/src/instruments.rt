@@ -28,6 +28,22 @@ pub(crate) fn add_instruments(
     Ok(numbers)
 }
 
+/// Adds copies of all instruments. Returns their numbers.
+pub(crate) fn add_all_instruments(
+    alloc: Global,
+    draft: &mut Draft<'_, '_>,
+    from: &Owners<Name20>,
+    samples: &[Option<u16>],
+) -> Result<Vec<Option<u16>>, Stop>
+    ensures { AddsMembers draft.old draft.new }
+{
+    let needed = vec![in alloc; true; from.len()]?;
+    let mut numbers = vec![in alloc; None; from.len()]?;
+    let marks = needed.as_slice();
+    add_missing(alloc, draft, from, marks, samples, numbers.as_mut_slice())?;
+    Ok(numbers)
+}
+
 fn add_missing(
     alloc: Global,
     draft: &mut Draft<'_, '_>,

@@ -1,13 +1,16 @@
-//! Edits that take presets of another bank, with their instruments and samples.
+//! Plans that add presets of another bank, with their instruments and samples: some of them, or all.
 #![tactic(auto)]
 
 mod checks;
 mod comparisons;
 mod existing_instruments;
 mod existing_samples;
-mod fault;
 mod instruments;
+mod joined_owners;
+mod joined_samples;
 mod member_index;
+mod merge;
+mod merge_checks;
 mod needed;
 mod neutral_steps;
 mod numbers;
@@ -16,10 +19,12 @@ mod preset_search;
 mod presets;
 mod sample_matches;
 mod samples;
+mod sorted_numbers;
 mod take;
-mod taken_preset;
 mod zone_matches;
 
-pub use fault::TakeFault;
+pub use checks::check_presets;
+pub use merge::Merge;
+pub use merge_checks::check_merge;
+pub use plan_presets::TakenPreset;
 pub use take::Take;
-pub use taken_preset::TakenPreset;

@@ -1,8 +1,8 @@
 //! The instruments and samples that presets need.
 use crate::preset_search::find_preset;
-use crate::taken_preset::TakenPreset;
 use bank_core::{Bank, List};
 use bank_parts::{OwnerHead, Owners};
+use plan_presets::TakenPreset;
 use sf_base::OutOfMemory;
 use std::alloc::Global;
 

@@ -28,6 +28,28 @@ pub(crate) fn add_samples<'a>(
     Ok(numbers)
 }
 
+/// Adds copies of all samples, with the links among them. Returns their numbers.
+pub(crate) fn add_all_samples<'a>(
+    alloc: Global,
+    draft: &mut Draft<'_, 'a>,
+    samples: &[Sample<'a>],
+) -> Result<Vec<Option<u16>>, Stop>
+    ensures { AddsMembers draft.old draft.new }
+{
+    let count = draft.bank().samples().len();
+    let needed = vec![in alloc; true; samples.len()]?;
+    let mut numbers = vec![in alloc; None; samples.len()]?;
+    add_missing(
+        alloc,
+        draft,
+        samples,
+        needed.as_slice(),
+        numbers.as_mut_slice(),
+    )?;
+    set_links(alloc, draft, samples, count, numbers.as_slice())?;
+    Ok(numbers)
+}
+
 fn add_missing<'a>(
     alloc: Global,
     draft: &mut Draft<'_, 'a>,

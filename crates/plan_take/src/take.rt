@@ -1,21 +1,19 @@
 //! The plan that takes presets of another bank.
-ghost use Rattle.std.specs.Prelude.{IfOk, IfErr, IfSome};
-ghost use Rattle.bank_edits.specs.Runs.{AllAccepted};
+ghost use Rattle.std.specs.Prelude.{IfOk};
 ghost use Rattle.plan_take.specs.Taking.{OfEach, IsTakeable, IsTaking};
-ghost use Rattle.plan_take.specs.TakeFaults.{IsTakeFault};
 
 use crate::checks::check_presets;
 use crate::comparisons::are_copied;
-use crate::fault::TakeFault;
 use crate::instruments::add_instruments;
 use crate::needed::{needed_instruments, needed_samples};
 use crate::presets::add_presets;
 use crate::samples::add_samples;
-use crate::taken_preset::TakenPreset;
 use bank_core::Bank;
 use bank_equality::same_texts;
-use edit_drafts::{Draft, Stop};
+use edit_drafts::Draft;
 use edit_forms::Edit;
+use plan_edits::{Plan, PlanFault};
+use plan_presets::TakenPreset;
 use std::alloc::Global;
 
 /// Adds copies of presets of another bank to a bank, with their instruments and samples. An instrument or a sample that
@@ -24,19 +22,18 @@ use std::alloc::Global;
 ///
 /// Each note has the same voices on a taken preset as on the original. Notes on all other presets render as before, and
 /// the texts are the same.
+///
+/// `check_presets` reports presets that can't be taken; the plan has no edits for them.
 #[derive(Drop, Clone, Copy)]
 pub struct Take<'t, 'a> {
     pub from: &'t Bank<'a>,
     pub presets: &'t [TakenPreset],
 }
 
-impl<'t, 'a> Take<'t, 'a> {
-    /// Finds the edits for a bank. They borrow points of both banks.
-    pub fn edits(&self, alloc: Global, bank: &Bank<'a>) -> Result<Vec<Edit<'a>>, TakeFault>
-        ensures accepted { IfOk result (λ edits. AllAccepted bank.now edits.items) }
-        ensures promised { IfOk result (λ edits. IsTaking self.now.from.now self.now.presets.now bank.now edits.items) }
-        ensures fault { IfErr result (IsTakeFault self.now.from.now self.now.presets.now bank.now) }
-    {
+impl<'t, 'a> Plan<'a> for Take<'t, 'a> {
+    ghost promise = { λ take. IsTaking take.from.now take.presets.now };
+
+    fn edits(&self, alloc: Global, bank: &Bank<'a>) -> Result<Vec<Edit<'a>>, PlanFault> {
         take_edits(alloc, bank, self.from, self.presets)
     }
 }
@@ -46,30 +43,24 @@ fn take_edits<'a>(
     bank: &Bank<'a>,
     from: &Bank<'a>,
     presets: &[TakenPreset],
-) -> Result<Vec<Edit<'a>>, TakeFault>
-    ensures promised { IfOk result (λ edits. IsTaking from.now presets.now bank.now edits.items) }
-    ensures fault { IfErr result (IsTakeFault from.now presets.now bank.now) }
+) -> Result<Vec<Edit<'a>>, PlanFault>
+    ensures { IfOk result (λ edits. IsTaking from.now presets.now bank.now edits.items) }
 {
     match check_presets(bank, from, presets) {
-        Ok(()) => match found_edits(alloc, bank, from, presets) {
-            Ok(Some(edits)) => Ok(edits),
-            Ok(None) => Err(TakeFault::Defect),
-            Err(Stop::Refused) => Err(TakeFault::NoRoom),
-            Err(Stop::OutOfMemory) => Err(TakeFault::OutOfMemory),
-        },
-        Err(fault) => Err(fault),
+        Ok(()) => found_edits(alloc, bank, from, presets),
+        Err(_) => Err(PlanFault::Defect),
     }
 }
 
-// The edits for presets that can be taken; none if they don't lead to what is promised.
+// The edits for presets that can be taken.
 fn found_edits<'a>(
     alloc: Global,
     bank: &Bank<'a>,
     from: &Bank<'a>,
     presets: &[TakenPreset],
-) -> Result<Option<Vec<Edit<'a>>>, Stop>
+) -> Result<Vec<Edit<'a>>, PlanFault>
     requires { OfEach (IsTakeable from.now bank.now) presets.now }
-    ensures { IfOk result (λ found. IfSome found (λ edits. IsTaking from.now presets.now bank.now edits.items)) }
+    ensures { IfOk result (λ edits. IsTaking from.now presets.now bank.now edits.items) }
 {
     let used_instruments = needed_instruments(alloc, from, presets)?;
     let used_samples = needed_samples(alloc, from, used_instruments.as_slice())?;
@@ -91,7 +82,7 @@ fn found_edits<'a>(
         instruments.as_slice(),
     );
     if !copied || !same_texts(draft.bank(), bank) {
-        return Ok(None);
+        return Err(PlanFault::Defect);
     }
-    Ok(Some(draft.into_edits()))
+    Ok(draft.into_edits())
 }

@@ -1,9 +1,9 @@
 -- Words of some commands, with what they ask for.
-use Rattle.std.proofs.Common.{◌≡◌, ◌∷◌, List, [], None, Option, Some, codes, option_map, refl, rules}
+use Rattle.std.proofs.Common.{◌≡◌, ◌∷◌, List, [], None, Option, Some, codes, inl, inr, option_map, refl, rules}
 use Rattle.clap.specs.Words.{Text, all_of, fault_of, first_of, one_of, subcommand_of}
 use Rattle.clap.proofs.OnLiterals.{clap_on_literals}
 use Rattle.program_commands.specs.Commands.{sfbank_app}
-use Rattle.program_commands.specs.Words.{IsPreset}
+use Rattle.program_commands.specs.Words.{IsPreset, IsTakenPreset}
 
 abbrev pub explain_words : List Text
 explain_words = codes "sfbank" ∷ codes "explain" ∷ codes "41" ∷ []
@@ -20,7 +20,16 @@ keep_words =
 abbrev pub keep_notes_words : List Text
 keep_notes_words =
     codes "sfbank" ∷ codes "keep" ∷ codes "--dry-run" ∷ codes "in.sf2" ∷ codes "out.sf2" ∷ codes "undo.txt"
-    ∷ codes "--notes" ∷ codes "song.txt" ∷ []
+    ∷ codes "--notes" ∷ codes "song.txt" ∷ codes "--zones" ∷ []
+
+abbrev pub take_words : List Text
+take_words =
+    codes "sfbank" ∷ codes "take" ∷ codes "--preset" ∷ codes "0:24=8:25" ∷ codes "in.sf2" ∷ codes "from.sf2"
+    ∷ codes "out.sf2" ∷ codes "undo.txt" ∷ []
+
+abbrev pub merge_words : List Text
+merge_words =
+    codes "sfbank" ∷ codes "merge" ∷ codes "in.sf2" ∷ codes "from.sf2" ∷ codes "out.sf2" ∷ codes "undo.txt" ∷ []
 
 -- the command that words use
 abbrev pub command_used : List Text → Option Text
@@ -77,9 +86,46 @@ pub keep_no_presets : word_given keep_notes_words (codes "preset") ≡ Some None
 unfolding clap_on_literals
 keep_no_presets = refl
 
+pub keep_zones : value_given keep_notes_words (codes "zones") ≡ Some (Some (codes "true"))
+unfolding clap_on_literals
+keep_zones = refl
+
+pub keep_all_zones : word_given keep_words (codes "zones") ≡ Some (Some (codes "false"))
+unfolding clap_on_literals
+keep_all_zones = refl
+
 pub keep_dry_run : value_given keep_notes_words (codes "dry-run") ≡ Some (Some (codes "true"))
 unfolding clap_on_literals
 keep_dry_run = refl
+
+pub take_presets : words_given take_words (codes "preset") ≡ Some (Some (codes "0:24=8:25" ∷ []))
+unfolding clap_on_literals
+take_presets = refl
+
+pub take_from : word_given take_words (codes "FROM") ≡ Some (Some (codes "from.sf2"))
+unfolding clap_on_literals
+take_from = refl
+
+pub take_other_numbers :
+    IsTakenPreset (codes "0:24=8:25")
+    (record { from = record { bank = 0; number = 24 }; to = record { bank = 8; number = 25 } })
+take_other_numbers = inr (
+  codes "0:24",
+  codes "8:25",
+  refl,
+  (codes "0", codes "24", refl, search rules, search rules),
+  (codes "8", codes "25", refl, search rules, search rules),
+)
+
+pub take_same_numbers :
+    IsTakenPreset (codes "0:24")
+    (record { from = record { bank = 0; number = 24 }; to = record { bank = 0; number = 24 } })
+take_same_numbers = inl (keep_first_preset, refl)
+
+-- a number that is not given has its default
+pub merge_shift : value_given merge_words (codes "shift") ≡ Some (Some (codes "0"))
+unfolding clap_on_literals
+merge_shift = refl
 
 -- clap finds no fault in any of them
 pub explain_passes : fault_of sfbank_app explain_words ≡ []
@@ -97,3 +143,11 @@ keep_passes = refl
 pub keep_notes_passes : fault_of sfbank_app keep_notes_words ≡ []
 unfolding clap_on_literals
 keep_notes_passes = refl
+
+pub take_passes : fault_of sfbank_app take_words ≡ []
+unfolding clap_on_literals
+take_passes = refl
+
+pub merge_passes : fault_of sfbank_app merge_words ≡ []
+unfolding clap_on_literals
+merge_passes = refl

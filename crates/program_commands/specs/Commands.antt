@@ -9,14 +9,14 @@ use Rattle.program_commands.specs.declared.commands.Entry.{Entry}
 use Rattle.program_commands.specs.declared.commands.Operand as operand
 use Rattle.program_commands.specs.declared.commands.Operand.TheVariants as variant
 
--- an argument of a command with its name: a path, a number of 32 bits and a level are required; a flag, a minor
--- version, a word and words given one by one are options
+-- an argument of a command with its name: a path, a number of 32 bits and a level are required; a flag, a number of 16
+-- bits with its default, a word and words given one by one are options
 pub data Argument : Type 0 where
   Path : Text → Argument
   Number : Text → Argument
   Level : Text → Argument
   Flag : Text → Argument
-  Minor : Text → Argument
+  Small : Text → Text → Argument
   Single : Text → Argument
   Repeated : Text → Argument
 
@@ -52,6 +52,11 @@ neutral_flag = Flag (codes "neutral")
 abbrev pub plan_arguments : List Argument
 plan_arguments = Flag (codes "dry-run") ∷ force_flag ∷ input_path ∷ output_path ∷ undo_path ∷ []
 
+-- the arguments of one that copies from a second bank
+abbrev pub copy_arguments : List Argument
+copy_arguments =
+    Flag (codes "dry-run") ∷ force_flag ∷ input_path ∷ Path (codes "FROM") ∷ output_path ∷ undo_path ∷ []
+
 -- the commands, each with its arguments
 abbrev pub command_table : List (Text × List Argument)
 command_table =
@@ -60,20 +65,18 @@ command_table =
     ∷ (codes "diff", force_flag ∷ Path (codes "A") ∷ Path (codes "B") ∷ output_path ∷ [])
     ∷ (codes "explain", Number (codes "N") ∷ [])
     ∷ (codes "import", force_flag ∷ input_path ∷ Path (codes "WAVE") ∷ output_path ∷ undo_path ∷ [])
-    ∷ (codes "keep", Single (codes "notes") ∷ Repeated (codes "preset") ∷ plan_arguments)
+    ∷ (codes "keep", Single (codes "notes") ∷ Flag (codes "zones") ∷ Repeated (codes "preset") ∷ plan_arguments)
     ∷ (codes "live", force_flag ∷ input_path ∷ Path (codes "PCM") ∷ [])
     ∷ (codes "map", force_flag ∷ input_path ∷ Level (codes "LEVEL") ∷ Number (codes "N") ∷ output_path ∷ [])
-    ∷ (codes "new", force_flag ∷ Minor (codes "minor") ∷ output_path ∷ [])
+    ∷ (codes "merge", Small (codes "shift") (codes "0") ∷ copy_arguments)
+    ∷ (codes "new", force_flag ∷ Small (codes "minor") (codes "4") ∷ output_path ∷ [])
     ∷ (codes "play", force_flag ∷ input_path ∷ Path (codes "NOTES") ∷ output_path ∷ [])
     ∷ (codes "script", force_flag ∷ Flag (codes "no-points") ∷ input_path ∷ output_path ∷ [])
     ∷ (codes "show", Flag (codes "zones") ∷ Flag (codes "uses") ∷ input_path ∷ [])
+    ∷ (codes "take", Repeated (codes "preset") ∷ copy_arguments)
     ∷ (codes "tidy", plan_arguments)
     ∷ (codes "wave", force_flag ∷ input_path ∷ Number (codes "S") ∷ output_path ∷ [])
     ∷ []
-
--- the default minor version of an empty bank
-abbrev pub default_minor : Text
-default_minor = codes "4"
 
 -- the parser of unsigned numbers with this width in bits
 abbrev pub number_parser : ℕ → ValueParser
@@ -94,11 +97,11 @@ rule_for levels (Number name) =
     record (rule_for_required name) { parser = Some (number_parser 32) }
 rule_for levels (Level name) = record (rule_for_required name) { parser = Some levels }
 rule_for levels (Flag name) = record (rule_for_option name) { action = Some SetTrue }
-rule_for levels (Minor name) = record (rule_for_option name) {
+rule_for levels (Small name default) = record (rule_for_option name) {
   action = Some Set;
   value_names = 1;
   parser = Some (number_parser 16);
-  defaults = default_minor ∷ [];
+  defaults = default ∷ [];
 }
 rule_for levels (Single name) = record (rule_for_option name) { action = Some Set; value_names = 1 }
 rule_for levels (Repeated name) = record (rule_for_option name) { action = Some Append; value_names = 1 }
@@ -144,7 +147,7 @@ argument_of (variant.Path name help) = Path name.now
 argument_of (variant.Number name help) = Number name.now
 argument_of (variant.Level name help) = Level name.now
 argument_of (variant.Flag name help) = Flag name.now
-argument_of (variant.Minor name help) = Minor name.now
+argument_of (variant.Small name value default help) = Small name.now default.now
 argument_of (variant.Single name value help) = Single name.now
 argument_of (variant.Repeated name value help) = Repeated name.now
 

@@ -1,5 +1,5 @@
 -- The operands of each request, and when the words of a command ask for it.
-use Rattle.std.specs.Prelude.{◌≡◌, ◌<◌, ◌^◌, ℕ, Bool, true, false, List, [], ◌∷◌, ◌++◌, codes, length}
+use Rattle.std.specs.Prelude.{◌≡◌, ◌≢◌, ◌<◌, ◌^◌, ℕ, Bool, true, false, List, [], ◌∷◌, ◌++◌, codes, length}
 use Rattle.std.specs.Prelude.{◌⊎◌, MatchResult, Option, Result, Some, None, IfSome, IsSome}
 use Rattle.std.specs.List.{AllZip}
 use Rattle.std.specs.Str.Parse.{IsNumeral, digits_value, without_leading_plus}
@@ -10,24 +10,32 @@ use Rattle.clap.specs.declared.parser.matches.ArgMatches.{ArgMatches}
 use Rattle.bank_changes.specs.declared.members.Owner.{Owner}
 use Rattle.bank_changes.specs.declared.members.Owner.TheVariants.{Preset, Inst}
 use Rattle.plan_presets.specs.declared.numbers.PresetNumbers.{PresetNumbers}
+use Rattle.plan_presets.specs.declared.numbers.TakenPreset.{TakenPreset}
 use Rattle.program_commands.specs.declared.plans.KeepPaths.{KeepPaths}
 use Rattle.program_commands.specs.declared.plans.Kept.{Kept}
 use Rattle.program_commands.specs.declared.plans.Kept.TheVariants as choice
+use Rattle.program_commands.specs.declared.plans.MergePaths.{MergePaths}
 use Rattle.program_commands.specs.declared.plans.PlanPaths.{PlanPaths}
+use Rattle.program_commands.specs.declared.plans.TakePaths.{TakePaths}
+use Rattle.program_commands.specs.declared.plans.Zones.{Zones}
+use Rattle.program_commands.specs.declared.plans.Zones.TheVariants as zones
 use Rattle.program_commands.specs.declared.words.Request.{Request}
 use Rattle.program_commands.specs.declared.words.Request.TheVariants.{Apply, Canon, Diff, Explain, Import, Keep}
-use Rattle.program_commands.specs.declared.words.Request.TheVariants.{Live, Map, New, Play, Script, Show, Tidy, Wave}
+use Rattle.program_commands.specs.declared.words.Request.TheVariants.{Live, Map, Merge, New, Play, Script, Show}
+use Rattle.program_commands.specs.declared.words.Request.TheVariants.{Take, Tidy, Wave}
 use Rattle.program_commands.specs.declared.words.Forms.{Forms}
 use Rattle.program_commands.specs.declared.words.Forms.TheVariants.{Every, Neutral}
 
--- an operand of a request with its name and its value: a word, a number with its width in bits, a flag, an option that
--- is not used, or presets
+-- an operand of a request with its name and its value: a word, a number with its width in bits, a flag, a flag that
+-- is not given, an option that is not used, presets, or presets to copy
 pub data Operand : Type 0 where
   Word : Text → Text → Operand
   Number : Text → ℕ → ℕ → Operand
   Flag : Text → Bool → Operand
+  Unset : Text → Operand
   Absent : Text → Operand
   Presets : Text → List PresetNumbers → Operand
+  Taken : Text → List TakenPreset → Operand
 
 -- whether only neutral forms are accepted
 abbrev pub is_neutral : Forms → Bool
@@ -58,14 +66,31 @@ plan_operands paths =
     ∷ Flag (codes "force") paths.force
     ∷ []
 
--- the operands that name what is kept: exactly one of two options is used
+-- whether only the zones are kept that a note selects
+abbrev pub is_played : Zones → Bool
+is_played zones.All = false
+is_played zones.Played = true
+
+-- the operands that name what is kept: exactly one of two options is used, and the flag for zones only with notes
 abbrev pub kept_operands : Kept → List Operand
-kept_operands (choice.Notes path) = Word (codes "notes") path.now ∷ Absent (codes "preset") ∷ []
-kept_operands (choice.Presets presets) = Presets (codes "preset") presets.items ∷ Absent (codes "notes") ∷ []
+kept_operands (choice.Notes path kept) =
+    Word (codes "notes") path.now ∷ Absent (codes "preset") ∷ Flag (codes "zones") (is_played kept) ∷ []
+kept_operands (choice.Presets presets) =
+    Presets (codes "preset") presets.items ∷ Absent (codes "notes") ∷ Unset (codes "zones") ∷ []
 
 -- the operands of `keep`
 abbrev pub keep_operands : KeepPaths → List Operand
 keep_operands keep = plan_operands keep.paths ++ kept_operands keep.kept
+
+-- the operands of `merge`
+abbrev pub merge_operands : MergePaths → List Operand
+merge_operands merge =
+    plan_operands merge.paths ++ Word (codes "FROM") merge.from.now ∷ Number (codes "shift") 16 merge.shift ∷ []
+
+-- the operands of `take`
+abbrev pub take_operands : TakePaths → List Operand
+take_operands take =
+    plan_operands take.paths ++ Word (codes "FROM") take.from.now ∷ Taken (codes "preset") take.presets.items ∷ []
 
 -- the operands of each request
 abbrev pub operands_of : Request → List Operand
@@ -102,6 +127,7 @@ operands_of (Map paths) =
     ∷ Word (codes "OUT") paths.out.now
     ∷ Flag (codes "force") paths.force
     ∷ []
+operands_of (Merge merge) = merge_operands merge
 operands_of (New bank) =
     Word (codes "OUT") bank.out.now ∷ Number (codes "minor") 16 bank.minor ∷ Flag (codes "force") bank.force ∷ []
 operands_of (Play paths) =
@@ -118,6 +144,7 @@ operands_of (Script paths) =
     ∷ []
 operands_of (Show paths) =
     Word (codes "IN") paths.input.now ∷ Flag (codes "zones") paths.zones ∷ Flag (codes "uses") paths.uses ∷ []
+operands_of (Take take) = take_operands take
 operands_of (Tidy paths) = plan_operands paths
 operands_of (Wave paths) =
     Word (codes "IN") paths.input.now
@@ -136,10 +163,12 @@ command_of (Import paths) = codes "import"
 command_of (Keep keep) = codes "keep"
 command_of (Live paths) = codes "live"
 command_of (Map paths) = codes "map"
+command_of (Merge merge) = codes "merge"
 command_of (New bank) = codes "new"
 command_of (Play paths) = codes "play"
 command_of (Script paths) = codes "script"
 command_of (Show paths) = codes "show"
+command_of (Take take) = codes "take"
 command_of (Tidy paths) = codes "tidy"
 command_of (Wave paths) = codes "wave"
 
@@ -165,8 +194,26 @@ IsPreset text preset =
     × IsDecimal 16 bank preset.bank
     × IsDecimal 16 number preset.number
 
--- the words give the operand its value: a flag that is not given is false, and presets are the values of an option, of
--- which there is one or more
+-- the code of the equals sign
+abbrev pub equals : ℕ
+equals = 61
+
+-- the text is BANK:NUMBER of a preset whose copy gets the same numbers, or FROM=TO with both
+abbrev pub IsTakenPreset : Text → TakenPreset → Type 0
+IsTakenPreset text taken =
+    (IsPreset text taken.from × (taken.to ≡ taken.from))
+    ⊎ ((from : Text)
+    × (to : Text)
+    × (text ≡ from ++ equals ∷ to)
+    × IsPreset from taken.from
+    × IsPreset to taken.to)
+
+-- the option has one or more values, and each names a value of the list
+abbrev pub AreValues : {A : Type 0} → (Text → A → Type 0) → List Row → Text → List A → Type 0
+AreValues IsNamed rows name values =
+    (texts : List Text) × (all_of name rows ≡ Some texts) × (0 < length texts) × AllZip IsNamed texts values
+
+-- the words give the operand its value: a flag that is not given is false
 abbrev pub IsGiven : List Row → Operand → Type 0
 IsGiven rows (Word name text) = first_of name rows ≡ Some text
 IsGiven rows (Number name bits n) = (text : Text) × (one_of name rows ≡ Some text) × IsDecimal bits text n
@@ -174,9 +221,10 @@ IsGiven rows (Flag name value) =
     (one_of name rows ≡ Some (codes "true") → value ≡ true)
     × (one_of name rows ≡ Some (codes "false") → value ≡ false)
     × (one_of name rows ≡ None → value ≡ false)
+IsGiven rows (Unset name) = first_of name rows ≢ Some (codes "true")
 IsGiven rows (Absent name) = first_of name rows ≡ None
-IsGiven rows (Presets name presets) =
-    (texts : List Text) × (all_of name rows ≡ Some texts) × (0 < length texts) × AllZip IsPreset texts presets
+IsGiven rows (Presets name presets) = AreValues IsPreset rows name presets
+IsGiven rows (Taken name presets) = AreValues IsTakenPreset rows name presets
 
 -- the words give each operand its value
 abbrev pub AreGiven : List Row → List Operand → Type 0

@@ -14,6 +14,9 @@ const NAME: &str = "sfbank";
 /// The default minor version of an empty bank.
 const DEFAULT_MINOR: &str = "4";
 
+/// By how much `merge` shifts the bank numbers of presets by default.
+const DEFAULT_SHIFT: &str = "0";
+
 /// The names of the two levels.
 static LEVELS: [&str; 2] = ["preset", "inst"];
 
@@ -36,8 +39,8 @@ enum Operand {
     Level(&'static str, &'static str),
     /// `--NAME`, optional.
     Flag(&'static str, &'static str),
-    /// `--NAME N` with a 16-bit number, optional.
-    Minor(&'static str, &'static str),
+    /// `--NAME VALUE` with a 16-bit number, optional, with the name of its value, its default and its help text.
+    Small(&'static str, &'static str, &'static str, &'static str),
     /// `--NAME VALUE`, optional, with the name of its value and its help text.
     Single(&'static str, &'static str, &'static str),
     /// `--NAME VALUE`, any number of times, with the name of its value and its help text.
@@ -59,7 +62,7 @@ const LIVE_FORCE: Operand = Operand::Flag(
     "Writes PCM, and UNDO of each save, even if a bank is there",
 );
 
-static COMMANDS: [Entry; 14] = [
+static COMMANDS: [Entry; 16] = [
     Entry {
         name: "apply",
         about: "Runs a script of edits on a bank, and writes its undo script",
@@ -129,6 +132,10 @@ static COMMANDS: [Entry; 14] = [
                 "NOTES",
                 "Keeps the presets that this list of notes plays",
             ),
+            Operand::Flag(
+                "zones",
+                "Removes zones too that none of these notes selects; only with --notes",
+            ),
             Operand::Repeated(
                 "preset",
                 "BANK:NUMBER",
@@ -168,11 +175,35 @@ static COMMANDS: [Entry; 14] = [
         example: "Example: sfbank map organ.sf2 preset 0 organ.svg",
     },
     Entry {
+        name: "merge",
+        about: "Adds all that another bank has after what a bank has",
+        operands: &[
+            Operand::Small(
+                "shift",
+                "BANKS",
+                DEFAULT_SHIFT,
+                "Adds this to the bank number of each preset of FROM",
+            ),
+            DRY_RUN,
+            UNDO_FORCE,
+            Operand::Path("IN", "The bank to add to"),
+            Operand::Path("FROM", "The bank to add, of the same minor version"),
+            Operand::Path("OUT", "Where the larger bank is written; may be IN"),
+            Operand::Path("UNDO", "Where the undo script is written"),
+        ],
+        example: "Example: sfbank merge --shift 8 organ.sf2 strings.sf2 both.sf2 undo.txt",
+    },
+    Entry {
         name: "new",
         about: "Writes an empty bank",
         operands: &[
             FORCE,
-            Operand::Minor("minor", "The minor version of the format, from 0 to 65,535"),
+            Operand::Small(
+                "minor",
+                "N",
+                DEFAULT_MINOR,
+                "The minor version of the format, from 0 to 65,535",
+            ),
             Operand::Path("OUT", "Where the empty bank is written"),
         ],
         example: "Example: sfbank new empty.sf2",
@@ -214,6 +245,24 @@ static COMMANDS: [Entry; 14] = [
             Operand::Path("IN", "The bank to show"),
         ],
         example: "Example: sfbank show --zones organ.sf2",
+    },
+    Entry {
+        name: "take",
+        about: "Copies presets of another bank into a bank, with what they need",
+        operands: &[
+            Operand::Repeated(
+                "preset",
+                "BANK:NUMBER[=BANK:NUMBER]",
+                "Copies the preset with these numbers, to those after = if given; can be given several times",
+            ),
+            DRY_RUN,
+            UNDO_FORCE,
+            Operand::Path("IN", "The bank to copy into"),
+            Operand::Path("FROM", "The bank to copy from, of the same minor version"),
+            Operand::Path("OUT", "Where the larger bank is written; may be IN"),
+            Operand::Path("UNDO", "Where the undo script is written"),
+        ],
+        example: "Example: sfbank take --preset 0:24 --preset 0:25=8:25 organ.sf2 gm.sf2 larger.sf2 undo.txt",
     },
     Entry {
         name: "tidy",
@@ -300,11 +349,11 @@ fn arg_of<'a>(alloc: Global, operand: Operand, levels: ValueParser<'a>) -> Arg<'
         Operand::Number(name, help) => required(alloc, name, help).value_parser(value_parser!(u32)),
         Operand::Level(name, help) => required(alloc, name, help).value_parser(levels),
         Operand::Flag(name, help) => option(alloc, name, help).action(ArgAction::SetTrue),
-        Operand::Minor(name, help) => option(alloc, name, help)
-            .value_name("N")
+        Operand::Small(name, value, default, help) => option(alloc, name, help)
+            .value_name(value)
             .action(ArgAction::Set)
             .value_parser(value_parser!(u16))
-            .default_value(DEFAULT_MINOR),
+            .default_value(default),
         Operand::Single(name, value, help) => option(alloc, name, help)
             .value_name(value)
             .action(ArgAction::Set),

@@ -1,13 +1,14 @@
 //! The operands of the commands that find edits for a bank.
-ghost use Rattle.std.specs.Prelude.{◌≡◌, IfOk, codes, map};
-ghost use Rattle.std.specs.List.{AllZip};
+ghost use Rattle.std.specs.Prelude.{◌≡◌, IfOk, codes};
 ghost use Rattle.clap.specs.Words.{first_of};
-ghost use Rattle.program_commands.specs.Words.{keep_operands, kept_operands, plan_operands, rows_in};
-ghost use Rattle.program_commands.specs.Words.{AreGiven, FindsOne, IsDecimal, IsGiven, IsPreset, Presets};
+ghost use Rattle.program_commands.specs.Words.{is_played, keep_operands, kept_operands, merge_operands};
+ghost use Rattle.program_commands.specs.Words.{plan_operands, rows_in, take_operands, AreGiven, FindsOne, Flag};
+ghost use Rattle.program_commands.specs.Words.{IsGiven};
 
-use crate::words::{read_flag, read_word};
+use crate::presets::read_values;
+use crate::words::{is_set, read_flag, read_small, read_word};
 use clap::ArgMatches;
-use plan_presets::PresetNumbers;
+use plan_presets::{PresetNumbers, TakenPreset};
 use std::alloc::{AllocError, Global};
 
 /// The operands of a command that finds edits.
@@ -22,11 +23,19 @@ pub struct PlanPaths<'a> {
     pub force: bool,
 }
 
+/// The zones of the presets that notes play.
+#[derive(Clone, Copy)]
+pub enum Zones {
+    All,
+    /// Only those that one of the notes selects.
+    Played,
+}
+
 /// What `keep` keeps.
 #[derive(Drop)]
 pub enum Kept<'a> {
-    /// The presets that the notes of this list play.
-    Notes(&'a str),
+    /// The presets that the notes of this list play, with these zones.
+    Notes(&'a str, Zones),
     /// The presets with these numbers.
     Presets(Vec<PresetNumbers>),
 }
@@ -36,6 +45,25 @@ pub enum Kept<'a> {
 pub struct KeepPaths<'a> {
     pub paths: PlanPaths<'a>,
     pub kept: Kept<'a>,
+}
+
+/// The operands of `take`.
+#[derive(Drop)]
+pub struct TakePaths<'a> {
+    pub paths: PlanPaths<'a>,
+    /// The bank that the presets are copied from.
+    pub from: &'a str,
+    pub presets: Vec<TakenPreset>,
+}
+
+/// The operands of `merge`.
+#[derive(Clone, Copy)]
+pub struct MergePaths<'a> {
+    pub paths: PlanPaths<'a>,
+    /// The bank that is added.
+    pub from: &'a str,
+    /// What is added to the bank number of each of its presets.
+    pub shift: u16,
 }
 
 /// Returns the operands of a command that finds edits, if the words give them.
@@ -75,13 +103,24 @@ fn read_kept<'a>(alloc: Global, matches: &ArgMatches<'a>) -> Result<Option<Kept<
     let notes = read_word(matches, "notes");
     let preset = read_word(matches, "preset");
     match (notes, preset) {
-        (Some(notes), None) => Ok(Some(Kept::Notes(notes))),
+        (Some(notes), None) => Ok(Some(Kept::Notes(notes, read_zones(matches)))),
         (Some(_), Some(_)) => Ok(None),
         (None, _) => read_kept_presets(alloc, matches),
     }
 }
 
-// Returns the presets that are kept where no notes are given.
+// Returns the zones that are kept.
+fn read_zones(matches: &ArgMatches<'_>) -> Zones
+    ensures { IsGiven (rows_in matches.now) (Flag (codes "zones") (is_played result)) }
+{
+    if read_flag(matches, "zones") {
+        Zones::Played
+    } else {
+        Zones::All
+    }
+}
+
+// Returns the presets that are kept where no notes are given, nor the flag for their zones.
 fn read_kept_presets<'a>(
     alloc: Global,
     matches: &ArgMatches<'_>,
@@ -89,58 +128,47 @@ fn read_kept_presets<'a>(
     requires { first_of (codes "notes") (rows_in matches.now) ≡ None }
     ensures { IfOk result (λ found. FindsOne found (λ kept. AreGiven (rows_in matches.now) (kept_operands kept))) }
 {
-    let found = read_presets(alloc, matches)?;
+    if is_set(matches, "zones") {
+        return Ok(None);
+    }
+    let found = read_values(alloc, matches, "preset")?;
     match found {
         Some(presets) => Ok(Some(Kept::Presets(presets))),
         None => Ok(None),
     }
 }
 
-// Returns the presets of the option, which has one or more values.
-fn read_presets(
+/// Returns the operands of `take`, if the words give them.
+pub(crate) fn read_take<'a>(
     alloc: Global,
-    matches: &ArgMatches<'_>,
-) -> Result<Option<Vec<PresetNumbers>>, AllocError>
-    ensures { IfOk result (λ found. FindsOne found
-        (λ presets. IsGiven (rows_in matches.now) (Presets (codes "preset") presets.items))) }
+    matches: &ArgMatches<'a>,
+) -> Result<Option<TakePaths<'a>>, AllocError>
+    ensures { IfOk result (λ found. FindsOne found (λ take. AreGiven (rows_in matches.now) (take_operands take))) }
 {
-    let Some(texts) = matches.get_strs("preset") else {
+    let Some(paths) = read_plan(matches) else {
         return Ok(None);
     };
-    if texts.is_empty() {
+    let Some(from) = read_word(matches, "FROM") else {
         return Ok(None);
+    };
+    let named = read_values(alloc, matches, "preset")?;
+    match named {
+        Some(presets) => Ok(Some(TakePaths {
+            paths,
+            from,
+            presets,
+        })),
+        None => Ok(None),
     }
-    parse_presets(alloc, texts)
 }
 
-// Returns the presets of all texts.
-fn parse_presets(alloc: Global, texts: &[&str]) -> Result<Option<Vec<PresetNumbers>>, AllocError>
-    ensures { IfOk result (λ found. FindsOne found
-        (λ presets. AllZip IsPreset (map (λ text. text.now) texts.now) presets.items)) }
+/// Returns the operands of `merge`, if the words give them.
+pub(crate) fn read_merge<'a>(matches: &ArgMatches<'a>) -> Option<MergePaths<'a>>
+    ensures { FindsOne result (λ merge. AreGiven (rows_in matches.now) (merge_operands merge)) }
 {
-    let mut presets = Vec::new(alloc);
-    for text in texts {
-        let Some(preset) = parse_preset(text) else {
-            return Ok(None);
-        };
-        presets.push(preset)?;
-    }
-    Ok(Some(presets))
-}
-
-// Returns the preset of BANK:NUMBER.
-fn parse_preset(text: &str) -> Option<PresetNumbers>
-    ensures { FindsOne result (IsPreset text.now) }
-{
-    let (bank, number) = text.split_once(':')?;
-    Some(PresetNumbers {
-        bank: parse_decimal(bank)?,
-        number: parse_decimal(number)?,
+    Some(MergePaths {
+        paths: read_plan(matches)?,
+        from: read_word(matches, "FROM")?,
+        shift: read_small(matches, "shift")?,
     })
-}
-
-fn parse_decimal(text: &str) -> Option<u16>
-    ensures { FindsOne result (IsDecimal 16 text.now) }
-{
-    text.parse().ok()
 }

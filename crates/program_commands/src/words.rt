@@ -1,5 +1,5 @@
 //! Reads a request from the words that the program was started with.
-ghost use Rattle.std.specs.Prelude.{◌≡◌, ◌≢◌, IfOk, codes, map, option_map, true};
+ghost use Rattle.std.specs.Prelude.{◌≡◌, ◌≢◌, IfOk, codes, false, map, option_map, true};
 ghost use Rattle.clap.specs.Words.{app_of, first_of, is_simple_and_free, subcommand_of, subcommand_rows_of};
 ghost use Rattle.program_commands.specs.Commands.{sfbank_app};
 ghost use Rattle.program_commands.specs.Words.{Number, Flag, is_neutral, owner_operands, operands_of};
@@ -7,7 +7,9 @@ ghost use Rattle.program_commands.specs.Words.{rows_in, AreGiven, AsksFor, Fails
 ghost use Rattle.program_commands.specs.Words.{IsParsedBy};
 
 use crate::commands::sfbank_command;
-use crate::plans::{KeepPaths, PlanPaths, read_keep, read_plan};
+use crate::plans::{
+    KeepPaths, MergePaths, PlanPaths, TakePaths, read_keep, read_merge, read_plan, read_take,
+};
 use bank_changes::Owner;
 use clap::error::ErrorKind;
 use clap::{ArgMatches, Command, Error};
@@ -33,6 +35,8 @@ pub enum Request<'a> {
     Live(LivePaths<'a>),
     /// Draw the key and velocity ranges of a preset or an instrument.
     Map(MapPaths<'a>),
+    /// Add all that another bank has.
+    Merge(MergePaths<'a>),
     /// Write an empty bank.
     New(NewBank<'a>),
     /// Play notes on a bank into a WAVE file.
@@ -41,6 +45,8 @@ pub enum Request<'a> {
     Script(ScriptPaths<'a>),
     /// List what a bank has.
     Show(ShowPaths<'a>),
+    /// Copy presets of another bank into a bank.
+    Take(TakePaths<'a>),
     /// Remove what a bank doesn't use, and change no sound.
     Tidy(PlanPaths<'a>),
     /// Write a sample as a WAVE file.
@@ -198,7 +204,10 @@ fn parse_request<'a, S: AsStr>(
 fn no_request(matches: &ArgMatches<'_>) -> &'static str {
     match matches.subcommand_name() {
         Some("keep") => {
-            "keep needs either --notes NOTES or --preset BANK:NUMBER, such as --preset 0:24"
+            "keep needs either --notes NOTES, which --zones can follow, or --preset BANK:NUMBER, such as --preset 0:24"
+        }
+        Some("take") => {
+            "take needs --preset BANK:NUMBER[=BANK:NUMBER], such as --preset 0:24 or --preset 0:24=8:24"
         }
         _ => "no command was given",
     }
@@ -215,6 +224,8 @@ fn request_in<'a>(
     };
     if name == "keep" {
         request_to_keep(alloc, words)
+    } else if name == "take" {
+        request_to_take(alloc, words)
     } else {
         Ok(request_of_command(name, words))
     }
@@ -233,9 +244,23 @@ fn request_to_keep<'a>(
     }
 }
 
-/// Returns the request of a command other than `keep`.
+fn request_to_take<'a>(
+    alloc: Global,
+    words: &ArgMatches<'a>,
+) -> Result<Option<Request<'a>>, AllocError>
+    ensures { IfOk result (λ found. FindsOne found (AsksFor (Some (codes "take", rows_in words.now)))) }
+{
+    let found = read_take(alloc, words)?;
+    match found {
+        Some(take) => Ok(Some(Request::Take(take))),
+        None => Ok(None),
+    }
+}
+
+/// Returns the request of a command other than `keep` and `take`.
 fn request_of_command<'a>(name: &str, words: &ArgMatches<'a>) -> Option<Request<'a>>
-    requires { name.now ≢ codes "keep" }
+    requires not_keep { name.now ≢ codes "keep" }
+    requires not_take { name.now ≢ codes "take" }
     ensures { FindsOne result (AsksFor (Some (name.now, rows_in words.now))) }
 {
     Some(match name {
@@ -246,6 +271,7 @@ fn request_of_command<'a>(name: &str, words: &ArgMatches<'a>) -> Option<Request<
         "import" => Request::Import(read_import(words)?),
         "live" => Request::Live(read_live(words)?),
         "map" => Request::Map(read_map(words)?),
+        "merge" => Request::Merge(read_merge(words)?),
         "new" => Request::New(read_new(words)?),
         "play" => Request::Play(read_play(words)?),
         "script" => Request::Script(read_script(words)?),
@@ -351,15 +377,9 @@ fn read_new<'a>(matches: &ArgMatches<'a>) -> Option<NewBank<'a>>
 {
     Some(NewBank {
         out: read_word(matches, "OUT")?,
-        minor: read_minor(matches)?,
+        minor: read_small(matches, "minor")?,
         force: read_flag(matches, "force"),
     })
-}
-
-fn read_minor(matches: &ArgMatches<'_>) -> Option<u16>
-    ensures { FindsOne result (λ n. IsGiven (rows_in matches.now) (Number (codes "minor") 16 n)) }
-{
-    matches.get_one::<u16>("minor")
 }
 
 fn read_play<'a>(matches: &ArgMatches<'a>) -> Option<PlayPaths<'a>>
@@ -417,8 +437,25 @@ fn read_number(matches: &ArgMatches<'_>, name: &str) -> Option<u32>
     matches.get_one::<u32>(name)
 }
 
+pub(crate) fn read_small(matches: &ArgMatches<'_>, name: &str) -> Option<u16>
+    ensures { FindsOne result (λ n. IsGiven (rows_in matches.now) (Number name.now 16 n)) }
+{
+    matches.get_one::<u16>(name)
+}
+
 pub(crate) fn read_flag(matches: &ArgMatches<'_>, name: &str) -> bool
     ensures { IsGiven (rows_in matches.now) (Flag name.now result) }
 {
     matches.get_flag(name)
+}
+
+/// Whether the flag is given.
+pub(crate) fn is_set(matches: &ArgMatches<'_>, name: &str) -> bool
+    ensures given { result ≡ true → first_of name.now (rows_in matches.now) ≡ Some (codes "true") }
+    ensures absent { result ≡ false → first_of name.now (rows_in matches.now) ≢ Some (codes "true") }
+{
+    match read_word(matches, name) {
+        Some(word) => word == "true",
+        None => false,
+    }
 }

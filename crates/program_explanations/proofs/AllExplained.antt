@@ -14,10 +14,12 @@ use Rattle.edit_forms.specs.declared.cause.Cause.{Cause}
 use Rattle.edit_forms.specs.declared.cause.Cause.TheVariants as cause
 use Rattle.edit_refusals.specs.declared.refusal.Refusal.{Refusal}
 use Rattle.edit_refusals.specs.declared.refusal.Refusal.TheVariants as refusal
+use Rattle.plan_presets.specs.declared.fault.PresetFault.{PresetFault}
+use Rattle.plan_presets.specs.declared.fault.PresetFault.TheVariants as preset
 use Rattle.program_explanations.specs.declared.explanations.FaultCode.{FaultCode}
 use Rattle.program_explanations.specs.declared.explanations.FaultCode.TheVariants.{Reading, Script, Notes, Recording, Output}
 use Rattle.program_explanations.specs.declared.explanations.FaultCode.TheVariants.{Refused, NotNeutral, OtherVersion}
-use Rattle.program_explanations.specs.declared.explanations.FaultCode.TheVariants.{TooManyFrames, PlanFailed}
+use Rattle.program_explanations.specs.declared.explanations.FaultCode.TheVariants.{TooManyFrames, Presets, PlanFailed}
 use Rattle.program_explanations.specs.declared.explanations.TheConstants.{ALL}
 use Rattle.program_explanations.specs.Explanations.{number_of}
 
@@ -71,6 +73,11 @@ of_output : (it : OutputFault) → Found (number_of (Output it))
 of_output output.SameFile = refl
 of_output output.HoldsBank = refl
 
+of_presets : (it : PresetFault) → Found (number_of (Presets it))
+of_presets (preset.Missing numbers) = refl
+of_presets (preset.InUse numbers) = refl
+of_presets (preset.BankTooHigh numbers) = refl
+
 of_cause : (it : Cause) → Found (number_of (Refused (refusal.Of it)))
 of_cause cause.NoSuchPreset = refl
 of_cause cause.NoSuchInstrument = refl
@@ -108,6 +115,7 @@ of_code (Refused it) = of_refusal it
 of_code NotNeutral = refl
 of_code OtherVersion = refl
 of_code TooManyFrames = refl
+of_code (Presets it) = of_presets it
 of_code PlanFailed = refl
 
 -- each fault and refusal is found by its number

@@ -5,11 +5,12 @@ use Rattle.script_tokens.specs.Faults as scripts
 use Rattle.script_notes.specs.Faults as notes
 use Rattle.wave_file.specs.FaultNames as recordings
 use Rattle.base_outputs.specs.OutputFaults as outputs
+use Rattle.plan_presets.specs.PresetFaults as presets
 use Rattle.edit_refusals.specs.RefusalNames as refusals
 use Rattle.program_explanations.specs.declared.explanations.FaultCode.{FaultCode}
 use Rattle.program_explanations.specs.declared.explanations.FaultCode.TheVariants.{Reading, Script, Notes, Recording, Output}
 use Rattle.program_explanations.specs.declared.explanations.FaultCode.TheVariants.{Refused, NotNeutral, OtherVersion}
-use Rattle.program_explanations.specs.declared.explanations.FaultCode.TheVariants.{TooManyFrames, PlanFailed}
+use Rattle.program_explanations.specs.declared.explanations.FaultCode.TheVariants.{TooManyFrames, Presets, PlanFailed}
 use Rattle.program_explanations.specs.declared.explanations.Explanation.{Explanation}
 
 -- the number of each fault and refusal, as its own crate defines it
@@ -23,6 +24,7 @@ number_of (Refused why) = refusals.refusal_number why
 number_of NotNeutral = 50
 number_of OtherVersion = 51
 number_of TooManyFrames = 52
+number_of (Presets fault) = presets.number_of fault
 number_of PlanFailed = 66
 
 -- the name of each fault and refusal, as its own crate defines it
@@ -36,6 +38,7 @@ name_of (Refused why) = refusals.refusal_name why
 name_of NotNeutral = codes "NotNeutral"
 name_of OtherVersion = codes "OtherVersion"
 name_of TooManyFrames = codes "TooManyFrames"
+name_of (Presets fault) = presets.name_of fault
 name_of PlanFailed = codes "PlanFailed"
 
 -- some fault or refusal has the number that is asked for, and this number and name are its own

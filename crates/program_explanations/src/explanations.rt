@@ -10,6 +10,7 @@ use base_outputs::{Output, OutputFault};
 use base_texts::Text;
 use edit_refusals::{Cause, Refusal};
 use itoa::Buffer;
+use plan_presets::{PresetFault, PresetNumbers};
 use script_notes::NoteFault;
 use script_tokens::ScriptFault;
 use std::io::Write;
@@ -36,6 +37,8 @@ pub enum FaultCode {
     OtherVersion,
     /// More frames than a live session can write.
     TooManyFrames,
+    /// A preset that can't be kept or copied.
+    Presets(PresetFault),
     /// A plan that failed.
     PlanFailed,
 }
@@ -53,8 +56,11 @@ pub struct Explanation {
     pub what_to_do: &'static str,
 }
 
+/// Numbers of no special preset.
+const ANY_NUMBERS: PresetNumbers = PresetNumbers { bank: 0, number: 0 };
+
 /// One fault or refusal for each number. The fields of a variant have any value.
-static ALL: [FaultCode; 62] = [
+static ALL: [FaultCode; 65] = [
     FaultCode::Reading(ReadFault::NotRiff),
     FaultCode::Reading(ReadFault::NotSfbk),
     FaultCode::Reading(ReadFault::Truncated),
@@ -117,6 +123,9 @@ static ALL: [FaultCode; 62] = [
     FaultCode::Output(OutputFault::SameFile),
     FaultCode::Output(OutputFault::HoldsBank),
     FaultCode::PlanFailed,
+    FaultCode::Presets(PresetFault::Missing(ANY_NUMBERS)),
+    FaultCode::Presets(PresetFault::InUse(ANY_NUMBERS)),
+    FaultCode::Presets(PresetFault::BankTooHigh(ANY_NUMBERS)),
 ];
 
 impl FaultCode {
@@ -134,6 +143,7 @@ impl FaultCode {
             FaultCode::NotNeutral => 50,
             FaultCode::OtherVersion => 51,
             FaultCode::TooManyFrames => 52,
+            FaultCode::Presets(fault) => fault.number(),
             FaultCode::PlanFailed => 66,
         }
     }
@@ -152,6 +162,7 @@ impl FaultCode {
             FaultCode::NotNeutral => "NotNeutral",
             FaultCode::OtherVersion => "OtherVersion",
             FaultCode::TooManyFrames => "TooManyFrames",
+            FaultCode::Presets(fault) => fault.name(),
             FaultCode::PlanFailed => "PlanFailed",
         }
     }
@@ -177,9 +188,10 @@ impl FaultCode {
                 "A live session writes at most 100,000,000 frames.",
                 "Save the bank, and start another session.",
             ),
+            FaultCode::Presets(fault) => of_presets(fault),
             FaultCode::PlanFailed => (
-                "The edits of the command do not lead to what it promises: a defect of sfbank.",
-                "Report it, with the bank and the command; no file was changed.",
+                "The command found no edits that do what it promises: a defect.",
+                "Report the bank and the command; no file was changed.",
             ),
         }
     }
@@ -243,12 +255,12 @@ fn put_line<W: Write>(text: &str, output: &mut Output<'_, W>)
 fn of_reading(fault: ReadFault) -> (&'static str, &'static str) {
     match fault {
         ReadFault::NotRiff => (
-            "The file does not begin with RIFF, so it is not a SoundFont bank.",
-            "Check the path; unpack the file first if it is packed, such as .sfark.",
+            "The file does not begin with RIFF, as each bank does.",
+            "Check the path; unpack a packed file, such as .sfark.",
         ),
         ReadFault::NotSfbk => (
-            "The file is another kind of RIFF file, such as WAVE or DLS.",
-            "Give a SoundFont 2 bank; `sfbank import` adds a WAVE file to one.",
+            "It is another RIFF file, such as WAVE or DLS.",
+            "Give a SoundFont 2 bank; `sfbank import` adds WAVE files.",
         ),
         ReadFault::Truncated => (
             "A chunk ends after its container: the file is cut off, or a size is wrong.",
@@ -256,11 +268,11 @@ fn of_reading(fault: ReadFault) -> (&'static str, &'static str) {
         ),
         ReadFault::MissingList => (
             "One of the lists INFO, sdta and pdta is missing.",
-            "Get the file again, or export it again.",
+            "Get or export the file again.",
         ),
         ReadFault::MissingChunk => (
             "The version, or a list of presets, instruments or samples, is missing.",
-            "Get the file again, or export it again.",
+            "Get or export the file again.",
         ),
         ReadFault::Version => (
             "The major version of the bank is not 2.",
@@ -268,27 +280,27 @@ fn of_reading(fault: ReadFault) -> (&'static str, &'static str) {
         ),
         ReadFault::RecordSize => (
             "A list of presets, instruments or samples is not a whole number of records long.",
-            "Get the file again, or export it again.",
+            "Get or export the file again.",
         ),
         ReadFault::NoTerminal => (
             "A list of presets, instruments or samples lacks its terminal record.",
-            "Get the file again, or export it again.",
+            "Get or export the file again.",
         ),
         ReadFault::BagOrder => (
             "A preset, an instrument or a zone begins before the previous one.",
-            "Get the file again, or export it again.",
+            "Get or export the file again.",
         ),
         ReadFault::IndexOutside => (
             "A preset, an instrument or a zone begins after the end of its list.",
-            "Get the file again, or export it again.",
+            "Get or export the file again.",
         ),
         ReadFault::BadInstrument => (
             "A preset zone names an instrument that the bank does not have.",
-            "Correct the zone in the editor that made the bank.",
+            "Correct it in the editor that made the bank.",
         ),
         ReadFault::BadSample => (
             "An instrument zone names a sample that the bank does not have.",
-            "Correct the zone in the editor that made the bank.",
+            "Correct it in the editor that made the bank.",
         ),
         ReadFault::SampleRange => (
             "A sample ends before its start or after the data.",
@@ -300,14 +312,14 @@ fn of_reading(fault: ReadFault) -> (&'static str, &'static str) {
         ),
         ReadFault::RomSample => (
             "A sample is in the ROM of a sound card, not in the file.",
-            "Remove the sample in the editor that made the bank.",
+            "Remove it in the editor that made the bank.",
         ),
         ReadFault::OddSamples => (
             "The sample data has an odd number of bytes; each point has two.",
             "Get the file again; it may be cut off.",
         ),
         ReadFault::TooMany => (
-            "The bank has more records or points than a bank may have.",
+            "The bank has too many records or points.",
             "Split it into smaller banks.",
         ),
     }
@@ -321,7 +333,7 @@ fn of_script(fault: ScriptFault) -> (&'static str, &'static str) {
         ),
         ScriptFault::Number(_) => (
             "A number of the line is malformed, or out of range.",
-            "Compare the line with its form in SCRIPT.md, which has the ranges.",
+            "Compare the line with its form in SCRIPT.md.",
         ),
         ScriptFault::Literal(_) => (
             "A text in quotes or hex digits after x is malformed, or of a wrong length.",
@@ -338,11 +350,11 @@ fn of_notes(fault: NoteFault) -> (&'static str, &'static str) {
         ),
         NoteFault::TooManyNotes(_) => (
             "There are more than 65,535 notes.",
-            "Split the list, and play each part alone.",
+            "Split the list, and play each part.",
         ),
         NoteFault::TooLong(_) => (
             "The note ends after frame 100,000,000, about 37 minutes.",
-            "Split the list, and play each part alone.",
+            "Split the list, and play each part.",
         ),
     }
 }
@@ -351,27 +363,27 @@ fn of_recording(fault: WaveFault) -> (&'static str, &'static str) {
     match fault {
         WaveFault::NotWave => (
             "The file is not a RIFF file of the form WAVE.",
-            "Convert it, as by `sox IN -b 16 OUT.wav`.",
+            "Convert it: `sox IN -b 16 OUT.wav`.",
         ),
         WaveFault::Truncated => (
-            "A chunk ends after the file: the file is cut off, or a size is wrong.",
-            "Get the file again, or convert it, as by `sox IN -b 16 OUT.wav`.",
+            "A chunk ends after the file, which is cut off, or a size is wrong.",
+            "Get the file again, or convert it: `sox IN -b 16 OUT.wav`.",
         ),
         WaveFault::Compressed => (
             "The samples are compressed, or floating point.",
-            "Convert it, as by `sox IN -b 16 -e signed-integer OUT.wav`.",
+            "Convert it: `sox IN -b 16 -e signed-integer OUT.wav`.",
         ),
         WaveFault::NoFormat => (
             "The file has no format chunk of at least 16 bytes.",
-            "Convert it, as by `sox IN -b 16 OUT.wav`.",
+            "Convert it: `sox IN -b 16 OUT.wav`.",
         ),
         WaveFault::SampleBits => (
             "The samples do not have 16 bits.",
-            "Convert it, as by `sox IN -b 16 OUT.wav`.",
+            "Convert it: `sox IN -b 16 OUT.wav`.",
         ),
         WaveFault::ChannelCount => (
             "The file has neither one channel nor two.",
-            "Select two, as by `sox IN -b 16 OUT.wav remix 1 2`.",
+            "Select two: `sox IN -b 16 OUT.wav remix 1 2`.",
         ),
         WaveFault::NoData => (
             "The file has no data chunk, so no sound.",
@@ -379,19 +391,19 @@ fn of_recording(fault: WaveFault) -> (&'static str, &'static str) {
         ),
         WaveFault::HalfFrame => (
             "The data ends within a frame.",
-            "Convert it, as by `sox IN -b 16 OUT.wav`.",
+            "Convert it: `sox IN -b 16 OUT.wav`.",
         ),
         WaveFault::ShortSampler => (
             "The sampler chunk is too short for its loops.",
-            "Remove the chunk, as by `sox IN -b 16 OUT.wav`, and set key and loop by edits.",
+            "Remove the chunk: `sox IN -b 16 OUT.wav`; set key and loop by edits.",
         ),
         WaveFault::UnityNote => (
             "The unity note of the sampler chunk is above 127.",
-            "Remove the chunk, as by `sox IN -b 16 OUT.wav`, and set key and loop by edits.",
+            "Remove the chunk: `sox IN -b 16 OUT.wav`; set key and loop by edits.",
         ),
         WaveFault::LoopOutside => (
             "The loop of the sampler chunk is empty, or outside the data.",
-            "Remove the chunk, as by `sox IN -b 16 OUT.wav`, and set key and loop by edits.",
+            "Remove the chunk: `sox IN -b 16 OUT.wav`; set key and loop by edits.",
         ),
     }
 }
@@ -404,7 +416,24 @@ fn of_output(fault: OutputFault) -> (&'static str, &'static str) {
         ),
         OutputFault::HoldsBank => (
             "The path holds a bank, which the output would replace.",
-            "Give another path, or add --force to replace the bank.",
+            "Give another path, or add --force.",
+        ),
+    }
+}
+
+fn of_presets(fault: PresetFault) -> (&'static str, &'static str) {
+    match fault {
+        PresetFault::Missing(_) => (
+            "The bank has no preset with these numbers; `take` looks in FROM.",
+            "See `sfbank show`: after a preset's name it lists NUMBER, then BANK.",
+        ),
+        PresetFault::InUse(_) => (
+            "Another preset has these numbers, or two copies would get them.",
+            "Give other numbers by `--preset A:B=C:D` or `--shift`.",
+        ),
+        PresetFault::BankTooHigh(_) => (
+            "The bank number of this preset would be above 65,535.",
+            "Give a lower `--shift`.",
         ),
     }
 }
@@ -414,7 +443,7 @@ fn of_refusal(why: Refusal) -> (&'static str, &'static str) {
         Refusal::Of(cause) => of_cause(cause),
         Refusal::OutOfMemory => (
             "An allocation failed; nothing was changed.",
-            "Close other programs, or use a machine with more memory.",
+            "Close other programs, or add memory.",
         ),
         Refusal::NothingToUndo => (
             "All edits of the session are undone already.",
@@ -426,7 +455,7 @@ fn of_refusal(why: Refusal) -> (&'static str, &'static str) {
         ),
         Refusal::GroupRefused(..) => (
             "An edit of the group is refused, so none is made; its index, from 0, and its cause follow.",
-            "Look up the cause by its number, and correct that edit.",
+            "Look up the cause, and correct that edit.",
         ),
     }
 }
@@ -465,10 +494,7 @@ fn of_cause(cause: Cause) -> (&'static str, &'static str) {
             "The generator is not allowed there (SoundFont 2.04, section 8.1.2), or has its own edits.",
             "Use set-target for an instrument or a sample; FORMAT.md lists what each level allows.",
         ),
-        Cause::NotSet => (
-            "The generator is not set there.",
-            "Remove the line: there is nothing to clear.",
-        ),
+        Cause::NotSet => ("The generator is not set there.", "Remove the line."),
         Cause::BadRange => (
             "The low end of the range is above the high end, or an end is above 127.",
             "Write LO..HI, from 0 to 127.",
@@ -487,15 +513,15 @@ fn of_cause(cause: Cause) -> (&'static str, &'static str) {
         ),
         Cause::TooShort => (
             "The trim removes more points than the sample has.",
-            "Remove fewer: `sfbank show` has the number of points.",
+            "Remove fewer: `sfbank show` counts them.",
         ),
         Cause::LoopCut => (
             "The trim removes points of the loop.",
-            "Remove fewer points, or move the loop first by set-loop.",
+            "Remove fewer, or move the loop first by set-loop.",
         ),
         Cause::BadLoop => (
             "The loop is empty, or not inside the sample.",
-            "Let it begin before it ends, and end within the sample.",
+            "Let it begin before its end, within the sample.",
         ),
         Cause::BadText => (
             "The text is too long, has a zero byte, or may not be empty.",

@@ -9,18 +9,24 @@ use Rattle.script_notes.specs.declared.fault.NoteFault.{NoteFault}
 use Rattle.script_notes.specs.Faults as notes
 use Rattle.wave_file.specs.declared.fault.WaveFault.{WaveFault}
 use Rattle.wave_file.specs.FaultNames as recordings
+use Rattle.bank_validity.specs.declared.limits.Limit.{Limit}
 use Rattle.edit_forms.specs.declared.cause.Cause.{Cause}
+use Rattle.edit_forms.specs.declared.cause.Cause.TheVariants as cause
 use Rattle.edit_refusals.specs.declared.refusal.Refusal.{Refusal}
+use Rattle.edit_refusals.specs.declared.refusal.Refusal.TheVariants.{Of}
 use Rattle.edit_forms.specs.CauseNames as causes
 use Rattle.edit_script.specs.RefusalText.{refusal_text}
+use Rattle.plan_presets.specs.declared.fault.PresetFault.{PresetFault}
+use Rattle.plan_presets.specs.declared.numbers.PresetNumbers.{PresetNumbers}
+use Rattle.plan_presets.specs.PresetFaults as presets
 use Rattle.base_outputs.specs.declared.output_fault.OutputFault.{OutputFault}
 use Rattle.base_outputs.specs.OutputFaults as rejected
 use Rattle.file_host.specs.declared.input_fault.InputFault.{InputFault}
 use Rattle.file_host.specs.InputFaults.{reason_of}
 use Rattle.program_reports.specs.declared.run_fault.RunFault.{RunFault}
-use Rattle.program_reports.specs.declared.run_fault.RunFault.TheVariants.{Read, ReadFirst, ReadSecond, Script}
+use Rattle.program_reports.specs.declared.run_fault.RunFault.TheVariants.{Read, ReadFirst, ReadSecond, ReadFrom, Script}
 use Rattle.program_reports.specs.declared.run_fault.RunFault.TheVariants.{Refused, NotNeutral, OtherVersion, Notes}
-use Rattle.program_reports.specs.declared.run_fault.RunFault.TheVariants.{Recording, NoMember, PlanFailed, Write}
+use Rattle.program_reports.specs.declared.run_fault.RunFault.TheVariants.{Recording, NoMember, Presets, Full, PlanFailed, Write}
 use Rattle.program_reports.specs.declared.run_fault.RunFault.TheVariants.{Memory}
 
 -- a line that ends with a number and a name
@@ -40,6 +46,10 @@ first_read_line fault = codes "sfbank: A: " ++ read_text fault
 
 abbrev pub second_read_line : ReadFault → List ℕ
 second_read_line fault = codes "sfbank: B: " ++ read_text fault
+
+-- a read fault of the bank to copy from
+abbrev pub from_read_line : ReadFault → List ℕ
+from_read_line fault = codes "sfbank: FROM: " ++ read_text fault
 
 -- a fault in a line of a text, by its number and its name
 abbrev pub text_line : ℕ → ℕ → List ℕ → List ℕ
@@ -73,6 +83,20 @@ recording_line fault = named_line (codes "sfbank: wave fault ") (recordings.numb
 -- a preset, instrument or sample that does not exist, in a command without script lines
 abbrev pub no_member_line : Cause → List ℕ
 no_member_line cause = named_line (codes "sfbank: refused ") (causes.number_of cause) (causes.name_of cause)
+
+-- a preset that can't be kept or copied, by the number and the name of the fault, and its MIDI numbers
+abbrev pub preset_text : ℕ → List ℕ → PresetNumbers → List ℕ
+preset_text fault name numbers =
+    concat
+    (codes "sfbank: refused " ∷ decimal fault ∷ codes " " ∷ name ∷ codes " " ∷ decimal numbers.bank ∷ codes ":"
+    ∷ decimal numbers.number ∷ codes "\n" ∷ [])
+
+abbrev pub preset_line : PresetFault → List ℕ
+preset_line fault = preset_text (presets.number_of fault) (presets.name_of fault) (presets.numbers_of fault)
+
+-- the limit that a bank would exceed, in a command without script lines
+abbrev pub full_line : Limit → List ℕ
+full_line limit = codes "sfbank: refused" ++ (refusal_text (Of (cause.Full limit)) ++ codes "\n")
 
 abbrev pub write_line : List ℕ → ℕ → List ℕ
 write_line path written =
@@ -114,6 +138,7 @@ unfoldable pub fault_line : List ℕ → RunFault → List ℕ
 fault_line path (Read fault) = read_line fault
 fault_line path (ReadFirst fault) = first_read_line fault
 fault_line path (ReadSecond fault) = second_read_line fault
+fault_line path (ReadFrom fault) = from_read_line fault
 fault_line path (Script fault) = script_line fault
 fault_line path (Refused line why) = refused_line line why
 fault_line path (NotNeutral line) = not_neutral_line line
@@ -121,6 +146,8 @@ fault_line path OtherVersion = codes "sfbank: refused 51 OtherVersion\n"
 fault_line path (Notes fault) = notes_line fault
 fault_line path (Recording fault) = recording_line fault
 fault_line path (NoMember cause) = no_member_line cause
+fault_line path (Presets fault) = preset_line fault
+fault_line path (Full limit) = full_line limit
 fault_line path PlanFailed = codes "sfbank: plan fault 66 PlanFailed\n"
 fault_line path (Write which written) = write_line path written
 fault_line path Memory = codes "sfbank: out of memory\n"
@@ -130,6 +157,7 @@ abbrev pub status_of : RunFault → ℕ
 status_of (Read fault) = 2
 status_of (ReadFirst fault) = 2
 status_of (ReadSecond fault) = 2
+status_of (ReadFrom fault) = 2
 status_of (Script fault) = 3
 status_of (Refused line why) = 4
 status_of (NotNeutral line) = 4
@@ -137,6 +165,8 @@ status_of OtherVersion = 4
 status_of (Notes fault) = 3
 status_of (Recording fault) = 2
 status_of (NoMember cause) = 4
+status_of (Presets fault) = 4
+status_of (Full limit) = 4
 status_of (Write which written) = 5
 status_of Memory = 6
 status_of PlanFailed = 7

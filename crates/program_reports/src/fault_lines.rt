@@ -3,16 +3,18 @@ ghost use Rattle.std.specs.Prelude.{◌≡◌, IfOk};
 ghost use Rattle.base_outputs.specs.Output.{Puts};
 ghost use Rattle.base_outputs.specs.Writing.{Writes};
 ghost use Rattle.sample_view.specs.Pieces.{joined_bytes};
-ghost use Rattle.program_reports.specs.FaultLines.{fault_line, status_of, read_line, first_read_line, second_read_line, read_text, script_line, notes_line, text_line, refused_line, refused_start, not_neutral_line, named_line, recording_line, no_member_line, write_line, file_line, reason_line, shown_reason, file_text, output_line, rejected_line, unexplained_line};
+ghost use Rattle.program_reports.specs.FaultLines.{fault_line, status_of, read_line, first_read_line, second_read_line, from_read_line, read_text, script_line, notes_line, text_line, refused_line, refused_start, not_neutral_line, named_line, recording_line, no_member_line, preset_line, preset_text, full_line, write_line, file_line, reason_line, shown_reason, file_text, output_line, rejected_line, unexplained_line};
 
 use crate::run_fault::RunFault;
 use bank_format::ReadFault;
+use bank_validity::Limit;
 use base_outputs::{Output, OutputFault, WriteFault};
 use base_texts::Text;
 use edit_refusals::{Cause, Refusal};
 use edit_script::RefusalText;
 use file_host::InputFault;
 use itoa::Buffer;
+use plan_presets::{PresetFault, PresetNumbers};
 use script_notes::NoteFault;
 use script_tokens::ScriptFault;
 use std::io::Write;
@@ -31,8 +33,8 @@ pub fn fault_text<W: Write>(fault: &RunFault, path: &str, out: &mut W) -> Result
 }
 
 /// The exit status of a run's fault: 2 for a fault of a bank file or a WAVE file, 3 of a script or notes, 4 for a
-/// refused edit, a preset, instrument or sample that does not exist or banks of different versions, 5 for a write
-/// fault, 6 for a failed allocation, and 7 for a plan that failed.
+/// refused edit, a preset, instrument or sample that does not exist or can't be copied, a bank that would be full or
+/// banks of different versions, 5 for a write fault, 6 for a failed allocation, and 7 for a plan that failed.
 pub fn exit_status(fault: &RunFault) -> u8
     ensures { result ≡ status_of fault.now }
 {
@@ -40,12 +42,15 @@ pub fn exit_status(fault: &RunFault) -> u8
         RunFault::Read(_)
         | RunFault::ReadFirst(_)
         | RunFault::ReadSecond(_)
+        | RunFault::ReadFrom(_)
         | RunFault::Recording(_) => 2,
         RunFault::Script(_) | RunFault::Notes(_) => 3,
         RunFault::Refused(_, _)
         | RunFault::NotNeutral(_)
         | RunFault::OtherVersion
-        | RunFault::NoMember(_) => 4,
+        | RunFault::NoMember(_)
+        | RunFault::Presets(_)
+        | RunFault::Full(_) => 4,
         RunFault::Write(_, _) => 5,
         RunFault::Memory => 6,
         RunFault::PlanFailed => 7,
@@ -61,6 +66,7 @@ pub(crate) fn put_fault<W: Write>(fault: &RunFault, path: &str, output: &mut Out
         RunFault::Read(fault) => put_read_fault(*fault, output),
         RunFault::ReadFirst(fault) => put_first_read_fault(*fault, output),
         RunFault::ReadSecond(fault) => put_second_read_fault(*fault, output),
+        RunFault::ReadFrom(fault) => put_from_read_fault(*fault, output),
         RunFault::Script(fault) => put_script_fault(*fault, output),
         RunFault::Notes(fault) => put_notes_fault(*fault, output),
         RunFault::Refused(line, why) => put_refused(*line, *why, output),
@@ -68,6 +74,8 @@ pub(crate) fn put_fault<W: Write>(fault: &RunFault, path: &str, output: &mut Out
         RunFault::OtherVersion => output.put(b"sfbank: refused 51 OtherVersion\n"),
         RunFault::Recording(fault) => put_recording_fault(*fault, output),
         RunFault::NoMember(cause) => put_no_member(*cause, output),
+        RunFault::Presets(fault) => put_preset_fault(*fault, output),
+        RunFault::Full(limit) => put_full(*limit, output),
         RunFault::PlanFailed => output.put(b"sfbank: plan fault 66 PlanFailed\n"),
         RunFault::Write(_, written) => put_write_fault(path, *written, output),
         RunFault::Memory => output.put(b"sfbank: out of memory\n"),
@@ -93,6 +101,14 @@ fn put_second_read_fault<W: Write>(fault: ReadFault, output: &mut Output<'_, W>)
     ensures { Puts W.contents output.old output.new (second_read_line fault) }
 {
     output.put(b"sfbank: B: ");
+    put_read_text(fault, output);
+}
+
+// A fault of the bank to copy from, which help calls FROM.
+fn put_from_read_fault<W: Write>(fault: ReadFault, output: &mut Output<'_, W>)
+    ensures { Puts W.contents output.old output.new (from_read_line fault) }
+{
+    output.put(b"sfbank: FROM: ");
     put_read_text(fault, output);
 }
 
@@ -183,6 +199,49 @@ fn put_no_member<W: Write>(cause: Cause, output: &mut Output<'_, W>)
     ensures { Puts W.contents output.old output.new (no_member_line cause) }
 {
     put_named("sfbank: refused ", cause.number(), cause.name(), output);
+}
+
+// A preset that can't be kept or copied.
+fn put_preset_fault<W: Write>(fault: PresetFault, output: &mut Output<'_, W>)
+    ensures { Puts W.contents output.old output.new (preset_line fault) }
+{
+    put_preset_text(fault.number(), fault.name(), fault.numbers(), output);
+}
+
+fn put_preset_text<W: Write>(
+    fault: u8,
+    name: &str,
+    numbers: PresetNumbers,
+    output: &mut Output<'_, W>,
+)
+    ensures { Puts W.contents output.old output.new (preset_text fault name.now numbers) }
+{
+    let mut fault_digits = Buffer::new();
+    let mut bank_digits = Buffer::new();
+    let mut number_digits = Buffer::new();
+    put_pieces(
+        &[
+            b"sfbank: refused ",
+            fault_digits.format(fault).as_bytes(),
+            b" ",
+            name.as_bytes(),
+            b" ",
+            bank_digits.format(numbers.bank).as_bytes(),
+            b":",
+            number_digits.format(numbers.number).as_bytes(),
+            b"\n",
+        ],
+        output,
+    );
+}
+
+// The limit that a bank would exceed, in a command without script lines.
+fn put_full<W: Write>(limit: Limit, output: &mut Output<'_, W>)
+    ensures { Puts W.contents output.old output.new (full_line limit) }
+{
+    output.put(b"sfbank: refused");
+    RefusalText(Refusal::Of(Cause::Full(limit))).put(output);
+    output.put(b"\n");
 }
 
 // A line that ends with a number and a name.

@@ -1,11 +1,13 @@
 //! Why a run fails.
 ghost use Rattle.std.specs.Prelude.{◌≡◌};
-ghost use Rattle.program_reports.specs.declared.run_fault.RunFault.TheVariants.{Read, ReadFirst, ReadSecond, Script, Notes, Recording, Memory};
+ghost use Rattle.program_reports.specs.declared.run_fault.RunFault.TheVariants.{Read, ReadFirst, ReadFrom, ReadSecond, Script, Notes, Recording, Memory};
 ghost use Rattle.program_reports.specs.RunFaults.{in_run};
 
 use bank_format::ReadFault;
+use bank_validity::Limit;
 use edit_refusals::{Cause, Refusal};
 use file_host::Which;
+use plan_presets::PresetFault;
 use script_notes::NoteFault;
 use script_tokens::ScriptFault;
 use sf_base::{Failure, OutOfMemory};
@@ -25,6 +27,9 @@ pub enum RunFault {
     /// The same for the second of two files.
     #[error("B: {0}")]
     ReadSecond(ReadFault),
+    /// The same for the bank that presets, instruments and samples are copied from.
+    #[error("FROM: {0}")]
+    ReadFrom(ReadFault),
     /// The first fault of the script.
     #[error("{0}")]
     Script(ScriptFault),
@@ -46,6 +51,12 @@ pub enum RunFault {
     /// The bank has no preset, instrument or sample of this number.
     #[error("{0}")]
     NoMember(Cause),
+    /// A preset can't be kept or copied.
+    #[error("{0}")]
+    Presets(PresetFault),
+    /// With the edits that were found the bank would exceed this limit.
+    #[error("the bank would exceed a limit")]
+    Full(Limit),
     /// A plan's edits are refused, or don't lead to what the plan promises: a defect of the program.
     #[error("the plan failed")]
     PlanFailed,
@@ -74,6 +85,16 @@ impl RunFault {
     {
         match failure {
             Failure::Fault(fault) => RunFault::ReadSecond(fault),
+            Failure::OutOfMemory => RunFault::Memory,
+        }
+    }
+
+    /// The run's fault for a bank to copy from that can't be read.
+    pub fn of_from(failure: Failure<ReadFault>) -> RunFault
+        ensures { result ≡ in_run ReadFrom failure }
+    {
+        match failure {
+            Failure::Fault(fault) => RunFault::ReadFrom(fault),
             Failure::OutOfMemory => RunFault::Memory,
         }
     }

@@ -1,11 +1,31 @@
 -- How a run ends: before its first byte, or with its texts.
-use Rattle.std.proofs.Common.{◌≡◌, ℕ, List, Option, Result, Ok, Err}
+use Rattle.std.proofs.Common.{◌≡◌, ◌∙◌, ℕ, List, Option, Result, Ok, Err, ap}
 use Rattle.std.proofs.KnownBytes.{Keeps-refl}
 use Rattle.program_reports.specs.declared.run_fault.RunFault.{RunFault}
 use Rattle.program_reports.specs.declared.run_fault.RunFault.TheVariants as run
 use Rattle.file_host.specs.declared.faults.Which.TheVariants.{Out, Undo}
 use Rattle.sfbank.specs.Outcome.{Done}
 use Rattle.sfbank.specs.Written.{Writers, Delivers, Runs, FailsBefore}
+
+-- a fault of one outcome is that of an outcome that is computed from it
+pub fails_through : {X Y : Type 0} (g : Result X RunFault → Result Y RunFault) → ((fault : RunFault) → g (Err fault) ≡ Err fault)
+    → (why : RunFault) (outcome : Result X RunFault) → FailsBefore why outcome → FailsBefore why (g outcome)
+fails_through g law (run.Read f) outcome h = ap g h ∙ law (run.Read f)
+fails_through g law (run.ReadFirst f) outcome h = ap g h ∙ law (run.ReadFirst f)
+fails_through g law (run.ReadSecond f) outcome h = ap g h ∙ law (run.ReadSecond f)
+fails_through g law (run.ReadFrom f) outcome h = ap g h ∙ law (run.ReadFrom f)
+fails_through g law (run.Script f) outcome h = ap g h ∙ law (run.Script f)
+fails_through g law (run.Refused n f) outcome h = ap g h ∙ law (run.Refused n f)
+fails_through g law (run.NotNeutral n) outcome h = ap g h ∙ law (run.NotNeutral n)
+fails_through g law (run.Notes f) outcome h = ap g h ∙ law (run.Notes f)
+fails_through g law (run.Recording f) outcome h = ap g h ∙ law (run.Recording f)
+fails_through g law (run.NoMember f) outcome h = ap g h ∙ law (run.NoMember f)
+fails_through g law (run.Presets f) outcome h = ap g h ∙ law (run.Presets f)
+fails_through g law (run.Full f) outcome h = ap g h ∙ law (run.Full f)
+fails_through g law run.OtherVersion outcome h = ap g h ∙ law run.OtherVersion
+fails_through g law run.PlanFailed outcome h = ap g h ∙ law run.PlanFailed
+fails_through g law run.Memory outcome h = tt
+fails_through g law (run.Write f n) outcome h = absurd h
 
 -- nothing was written
 pub ends_early : (U : Type 0) (out undo : Option (List ℕ)) (outcome : Result Done RunFault) (fault : RunFault)
@@ -19,6 +39,9 @@ ends_early U out undo outcome (run.Refused number why) h = (h, (Keeps-refl out, 
 ends_early U out undo outcome (run.NotNeutral number) h = (h, (Keeps-refl out, Keeps-refl undo))
 ends_early U out undo outcome run.OtherVersion h = (h, (Keeps-refl out, Keeps-refl undo))
 ends_early U out undo outcome run.PlanFailed h = (h, (Keeps-refl out, Keeps-refl undo))
+ends_early U out undo outcome (run.ReadFrom f) h = (h, (Keeps-refl out, Keeps-refl undo))
+ends_early U out undo outcome (run.Presets f) h = (h, (Keeps-refl out, Keeps-refl undo))
+ends_early U out undo outcome (run.Full f) h = (h, (Keeps-refl out, Keeps-refl undo))
 ends_early U out undo outcome (run.Recording fault) h = (h, (Keeps-refl out, Keeps-refl undo))
 ends_early U out undo outcome (run.NoMember cause) h = (h, (Keeps-refl out, Keeps-refl undo))
 ends_early U out undo outcome (run.Notes fault) h = (h, (Keeps-refl out, Keeps-refl undo))
@@ -39,6 +62,9 @@ ends_with w outcome done (Err (run.Refused number why)) e d = absurd d
 ends_with w outcome done (Err (run.NotNeutral number)) e d = absurd d
 ends_with w outcome done (Err run.OtherVersion) e d = absurd d
 ends_with w outcome done (Err run.PlanFailed) e d = absurd d
+ends_with w outcome done (Err (run.ReadFrom f)) e d = absurd d
+ends_with w outcome done (Err (run.Presets f)) e d = absurd d
+ends_with w outcome done (Err (run.Full f)) e d = absurd d
 ends_with w outcome done (Err (run.Recording fault)) e d = absurd d
 ends_with w outcome done (Err (run.NoMember cause)) e d = absurd d
 ends_with w outcome done (Err (run.Notes fault)) e d = absurd d

@@ -6,15 +6,13 @@ use Rattle.bank_parts.specs.declared.parts.Parts.{Parts}
 use Rattle.bank_format.specs.Reading.{Content}
 use Rattle.bank_format.specs.ReadChecks.{fault_of}
 use Rattle.bank_format.specs.declared.fault.ReadFault.{ReadFault}
-use Rattle.edit_forms.specs.declared.cause.Cause.TheVariants.{NoSuchPreset}
 use Rattle.edit_forms.specs.declared.edit.Edit.{Edit}
 use Rattle.bank_edits.specs.Runs.{AllAccepted}
 use Rattle.edit_script.specs.Printing.{texts_of}
 use Rattle.file_host.specs.World.{World}
 use Rattle.plan_edits.specs.declared.fault.PlanFault.{PlanFault}
 use Rattle.plan_presets.specs.declared.numbers.PresetNumbers.{PresetNumbers}
-use Rattle.plan_edits.specs.Keeping.{has_presets}
-use Rattle.plan_edits.specs.declared.fault.PlanFault.TheVariants.{Defect, OutOfMemory}
+use Rattle.plan_edits.specs.declared.fault.PlanFault.TheVariants.{Full, Defect, OutOfMemory}
 use Rattle.program_commands.specs.declared.plans.PlanPaths.{PlanPaths}
 use Rattle.program_reports.specs.declared.fault.Fault.{Fault}
 use Rattle.program_reports.specs.declared.fault.Fault.TheVariants.{Run}
@@ -22,7 +20,8 @@ use Rattle.program_reports.specs.declared.run_fault.RunFault.{RunFault}
 use Rattle.program_reports.specs.declared.run_fault.RunFault.TheVariants as run
 use Rattle.sfbank.specs.Outcome.{Done, after_reading, bank_in, both_texts}
 use Rattle.sfbank.specs.Written.{FailsBefore}
-use Rattle.sfbank.specs.PlannedEdits.{IsPlanned, IsScript, Keeping, Purpose, keeping_listed, of_plan, promise_of}
+use Rattle.sfbank.specs.Purposes.{Purpose, keeping_listed, promise_of}
+use Rattle.sfbank.specs.PlannedEdits.{IsPlanned, IsScript, of_plan}
 use Rattle.sfbank.specs.Plans.{Action, Why, Edits, Found, Prints, SavesBoth, edits_at, standard_output, with_edits}
 use Rattle.sfbank.specs.Ends.{FindsEdits, Outside, EndsFor}
 use Rattle.sfbank.specs.Outputs.{PrintsAt, SavesPairAt}
@@ -87,6 +86,8 @@ pub no_edits : (files : Option World) (printed : Option (List ℕ)) (written : �
     → EndsFor {U = Unit {0}} (λ w. Ok (edits_at p purpose file)) (at files printed) (at files printed) written
     (Err (Run (of_plan fault) path))
 no_edits None printed written p purpose file path fault = tt
+no_edits (Some w) printed written p purpose file path (Full limit) =
+    (inr (finds_edits p purpose file p.dry_run), untouched (Some w) (Some w) printed refl)
 no_edits (Some w) printed written p purpose file path Defect =
     (inr (finds_edits p purpose file p.dry_run), untouched (Some w) (Some w) printed refl)
 no_edits (Some w) printed written p purpose file path OutOfMemory = (tt, untouched (Some w) (Some w) printed refl)
@@ -112,11 +113,8 @@ pub at_read : (file : List ℕ) (b : Parts) (outcome : Result Purpose RunFault) 
 at_read file b outcome r = ap (λ (o : Option ReadFault). after_reading o outcome) r.1.0
 
 -- the same for presets that are listed
-pub listed_at : (file : List ℕ) (b : Parts) (list : List PresetNumbers) (there : Bool) → IsReadAs file b
-    → there ≡ has_presets b list
-    → after_reading (fault_of file) (keeping_listed (bank_in file) list)
-    ≡ (if there then Ok (Keeping list) else Err (run.NoMember NoSuchPreset))
-listed_at file b list there r e =
+pub listed_at : (file : List ℕ) (b : Parts) (list : List PresetNumbers) → IsReadAs file b
+    → after_reading (fault_of file) (keeping_listed (bank_in file) list) ≡ keeping_listed b list
+listed_at file b list r =
     at_read file b (keeping_listed (bank_in file) list) r
     ∙ ap (λ (x : Parts). keeping_listed x list) (ap (λ (c : Content). c.bank) r.1.1)
-    ∙ ap (λ (x : Bool). if x then Ok (Keeping list) else Err (run.NoMember NoSuchPreset)) (sym e)

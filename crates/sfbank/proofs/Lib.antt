@@ -19,3 +19,5 @@ pub mod UndoneFiles
 pub mod ScriptFiles
 pub mod PlannedEdits
 mod FoundEdits
+mod BankPairs
+mod KeptNotes

@@ -2,7 +2,7 @@
 use Rattle.std.specs.Prelude.{◌==◌, ◌&&◌, ◌||◌}
 use Rattle.std.specs.List.{AllByRecursion}
 use Rattle.std.proofs.Common.{eq-eqb}
-use Rattle.std.proofs.Common.{◌≡◌, ℕ, List, [], ◌∷◌, Bool, true, false, Option, Some, None, Result, Ok, Err, refl, sym, ap, subst, ◌∙◌}
+use Rattle.std.proofs.Common.{◌≡◌, ℕ, List, [], ◌∷◌, Bool, true, false, Option, Some, None, Result, Ok, Err, refl, sym, ap, subst, inl, inr, ◌∙◌}
 use Rattle.bank_parts.specs.declared.parts.Parts.{Parts}
 use Rattle.bank_format.specs.declared.fault.Counts.{Counts}
 use Rattle.bank_format.specs.declared.fault.ReadFault.{ReadFault}
@@ -23,38 +23,29 @@ use Rattle.script_notes.specs.Notes.{Numbers, notes_of}
 use Rattle.wave_file.specs.Wave.{wave}
 use Rattle.plan_edits.specs.Tidying.{IsTidying}
 use Rattle.plan_presets.specs.declared.numbers.PresetNumbers.{PresetNumbers}
+use Rattle.plan_presets.specs.declared.numbers.TakenPreset.{TakenPreset}
+use Rattle.plan_take.specs.Taking.{IsTaking}
 use Rattle.plan_edits.specs.Keeping.{IsKeeping, is_listed, is_played}
 use Rattle.edit_script.proofs.LineLaws.{printed_is_read}
 use Rattle.program_commands.specs.declared.words.Forms.TheVariants.{Every}
 use Rattle.plan_edits.specs.declared.fault.PlanFault.{PlanFault}
-use Rattle.plan_edits.specs.declared.fault.PlanFault.TheVariants.{Defect, OutOfMemory}
+use Rattle.plan_edits.specs.declared.fault.PlanFault.TheVariants.{Full, Defect, OutOfMemory}
 use Rattle.program_reports.specs.declared.run_fault.RunFault.{RunFault}
 use Rattle.program_reports.specs.declared.run_fault.RunFault.TheVariants as run
 use Rattle.sfbank.specs.Outcome.{Done, both_texts, after_script, after_reading, bank_in, outcome, after_notes}
 use Rattle.sfbank.specs.Outcome.{play_outcome}
 use Rattle.sfbank.specs.Written.{Writers, Delivers, FailsBefore}
-use Rattle.sfbank.specs.Steps.{ReadsBank}
-use Rattle.sfbank.specs.PlannedEdits.{Promise, IsPlanned, MayEnd, HasTexts, RunsPlan, PreparesPlan, of_plan}
+use Rattle.sfbank.specs.Steps.{IsReadAs}
+use Rattle.sfbank.specs.Purposes.{Promise, Purpose, Serves, presets_of, promise_of}
+use Rattle.sfbank.specs.PlannedEdits.{IsPlanned, MayEnd, HasTexts, RunsPlan, of_plan}
 use Rattle.sfbank.specs.PlannedEdits.{PlanIsUndone, TidiedRendersSame, OnlyPlays, KeptRendersSame, PlayedRendersSame}
-use Rattle.sfbank.specs.PlannedEdits.{presets_of}
+use Rattle.sfbank.specs.PlannedEdits.{TakenRenderSame, OthersRenderSame}
 use Rattle.sfbank.proofs.Restores.{all_fit, after_numbered, edits_numbered, reading_done, script_done, restores}
 use Rattle.sfbank.proofs.RenderLaws.{played_on}
 use Rattle.sfbank.proofs.Faults.{at_bank}
-use Rattle.sfbank.proofs.OutcomeLaws.{bank_fails}
-use Rattle.sfbank.proofs.Endings.{ends_early, ends_with}
+use Rattle.sfbank.proofs.Endings.{ends_early, ends_with, fails_through}
 
--- ---- before the first byte
-
--- what may be found if nothing is
-abbrev Nothing : List ℕ → Result Done RunFault
-Nothing file = after_reading (fault_of file) (Err run.PlanFailed)
-
-may_find_nothing : (promise : Promise) (file : List ℕ) → MayEnd promise file (Nothing file)
-may_find_nothing promise file = by_what (fault_of file) refl
-  where
-    by_what : (o : Option ReadFault) → fault_of file ≡ o → MayEnd promise file (after_reading o (Err run.PlanFailed))
-    by_what (Some fault) e = e
-    by_what None e = e
+-- ---- a plan that finds edits
 
 pub planned : (promise : Promise) (file : List ℕ) (b : Parts) (counts : Counts) (done : Done) → ReadsAs file b counts
     → HasTexts promise b done → IsPlanned promise file done
@@ -70,40 +61,67 @@ planned promise file b counts done r h = record {
       ∙ ap (λ (d : Done). Ok d) (sym h.texts);
 }
 
-pub prepares : {X : Type 0} (promise : Promise) (file : List ℕ) (b : Parts) (counts : Counts) (view : X → Done) (x : X)
-    → ReadsAs file b counts → HasTexts promise b (view x) → PreparesPlan promise file view (Ok x)
-prepares promise file b counts view x r h =
-    record { found = Ok (view x); may_end = planned promise file b counts (view x) r h; prepared = refl }
-
-fails_before : (file : List ℕ) (fault : PlanFault) → fault_of file ≡ None → FailsBefore (of_plan fault) (Nothing file)
-fails_before file Defect r = ap (λ (o : Option ReadFault). after_reading o (Err run.PlanFailed)) r
-fails_before file OutOfMemory r = tt
-
-pub finds_none : {X : Type 0} (promise : Promise) (file : List ℕ) (b : Parts) (counts : Counts) (view : X → Done)
-    (fault : PlanFault) → ReadsAs file b counts → PreparesPlan promise file view (Err (of_plan fault))
-finds_none promise file b counts view fault r =
-    record { found = Nothing file; may_end = may_find_nothing promise file; prepared = fails_before file fault r.0 }
-
-pub not_read : {X Y : Type 0} (promise : Promise) (file : List ℕ) (view : X → Done) (fault : RunFault)
-    (read : Y → Parts × Counts) → ReadsBank read file (Err fault) → PreparesPlan promise file view (Err fault)
-not_read promise file view fault read h = record {
-  found = Nothing file;
-  may_end = may_find_nothing promise file;
-  prepared = bank_fails read fault file (Err run.PlanFailed) h;
+-- a promise that serves a purpose
+pub serves_purpose : (promise : Promise) (purpose : Purpose) (b : Parts) (done : Done) → Serves promise purpose
+    → HasTexts promise b done → HasTexts (promise_of purpose) b done
+serves_purpose promise purpose b done serves h = record {
+  edits = h.edits;
+  promised = serves b h.edits h.promised;
+  is_accepted = h.is_accepted;
+  texts = h.texts;
 }
 
--- ---- how the run ends
+pub run_finds : {U : Type 0} (purpose : Purpose) (wanted : Result Purpose RunFault) (w : Writers) (file : List ℕ)
+    (b : Parts) (done : Done) (r : Result U RunFault) → wanted ≡ Ok purpose → IsReadAs file b
+    → HasTexts (promise_of purpose) b done → Delivers w done r → RunsPlan wanted w file r
+run_finds purpose wanted w file b done r e read h d = record {
+  found = Ok done;
+  may_end = record {
+    purpose = purpose;
+    is_wanted = e;
+    planned = planned (promise_of purpose) file b read.0 done read.1 h;
+  };
+  runs = ends_with w (Ok done) done r refl d;
+}
 
-pub plan_ends : {X U : Type 0} (promise : Promise) (w : Writers) (file : List ℕ) (view : X → Done) (x : X)
-    (r : Result U RunFault) → PreparesPlan promise file view (Ok x) → Delivers w (view x) r → RunsPlan promise w file r
-plan_ends promise w file view x r p d =
-    record { found = p.found; may_end = p.may_end; runs = ends_with w p.found (view x) r p.prepared d }
+-- ---- a plan that finds none
 
-pub plan_stops : {X : Type 0} (U : Type 0) (promise : Promise) (out undo : Option (List ℕ)) (file : List ℕ) (view : X → Done)
-    (fault : RunFault) → PreparesPlan {X = X} promise file view (Err fault)
-    → RunsPlan {U = U} promise (record { out = out; out_new = out; undo = undo; undo_new = undo }) file (Err fault)
-plan_stops U promise out undo file view fault p =
-    record { found = p.found; may_end = p.may_end; runs = ends_early U out undo p.found fault p.prepared }
+-- what an outcome without edits is
+abbrev without : Result Purpose RunFault → Result Done RunFault
+without (Ok purpose) = Err run.PlanFailed
+without (Err fault) = Err fault
+
+may_find_none : (wanted : Result Purpose RunFault) (file : List ℕ) → MayEnd wanted file (without wanted)
+may_find_none (Ok purpose) file = inr (record { purpose = purpose; is_wanted = refl; failed = tt })
+may_find_none (Err fault) file = inl refl
+
+pub run_finds_none : (U : Type 0) (purpose : Purpose) (wanted : Result Purpose RunFault) (out undo : Option (List ℕ))
+    (file : List ℕ) (fault : PlanFault) → wanted ≡ Ok purpose
+    → RunsPlan {U = U} wanted (record { out = out; out_new = out; undo = undo; undo_new = undo }) file (Err (of_plan fault))
+run_finds_none U purpose wanted out undo file (Full limit) e = record {
+  found = Err (run.Full limit);
+  may_end = inr (record { purpose = purpose; is_wanted = e; failed = tt });
+  runs = ends_early U out undo (Err (run.Full limit)) (run.Full limit) refl;
+}
+run_finds_none U purpose wanted out undo file Defect e = record {
+  found = Err run.PlanFailed;
+  may_end = inr (record { purpose = purpose; is_wanted = e; failed = tt });
+  runs = ends_early U out undo (Err run.PlanFailed) run.PlanFailed refl;
+}
+run_finds_none U purpose wanted out undo file OutOfMemory e = record {
+  found = Err run.PlanFailed;
+  may_end = inr (record { purpose = purpose; is_wanted = e; failed = tt });
+  runs = ends_early U out undo (Err run.PlanFailed) run.Memory tt;
+}
+
+pub run_fails : (U : Type 0) (wanted : Result Purpose RunFault) (out undo : Option (List ℕ)) (file : List ℕ)
+    (fault : RunFault) → FailsBefore fault wanted
+    → RunsPlan {U = U} wanted (record { out = out; out_new = out; undo = undo; undo_new = undo }) file (Err fault)
+run_fails U wanted out undo file fault h = record {
+  found = without wanted;
+  may_end = may_find_none wanted file;
+  runs = ends_early U out undo (without wanted) fault (fails_through without (λ f. refl) fault wanted h);
+}
 
 -- ---- what follows
 
@@ -142,7 +160,7 @@ plan_is_undone promise file bytes done p =
     ∙ ap (λ (es : List Edit). Ok (record { out = canon (bank_in file); undo = texts_of es })) (edits_numbered 1 p.edits)
 
 -- on the written file, notes have the outcome that they have on the edited bank
-played_after : (promise : Promise) (file notes : List ℕ) (done : Done) (p : IsPlanned promise file done) → AreBytes file
+pub played_after : (promise : Promise) (file notes : List ℕ) (done : Done) (p : IsPlanned promise file done) → AreBytes file
     → after_notes (after_all (bank_in file) p.edits) (notes_of notes) ≡ after_notes (bank_in file) (notes_of notes)
     → play_outcome done.out notes ≡ play_outcome file notes
 played_after promise file notes done p bytes same =
@@ -171,6 +189,35 @@ kept_renders_same kept file bytes done notes p only =
         → after_notes (after_all (bank_in file) p.edits) parsed ≡ after_notes (bank_in file) parsed
     by_notes (Ok ns) only = ap (λ xs. Ok (wave xs)) (sym (p.promised.same ns only))
     by_notes (Err fault) only = refl
+
+-- ---- presets of another bank
+
+-- a promise that takes these presets
+abbrev Takes : Promise → Parts → List TakenPreset → Type 0
+Takes promise from presets = (b : Parts) (edits : List Edit) → promise b edits → IsTaking from presets b edits
+
+pub taken_render_same : (promise : Promise) (other : List ℕ) (presets : List TakenPreset) (file : List ℕ)
+    → Takes promise (bank_in other) presets → AreBytes file → TakenRenderSame promise other presets file
+taken_render_same promise other presets file takes bytes done i p ns notes played found no_fault at e d =
+    let b = bank_in file in
+    let from = bank_in other in
+    let r = read_of promise file done found bytes in
+    let end : Parts = after_all b found.edits in
+    let end_sound = (all_undone b found.edits r.sound found.is_accepted).sound in
+    ap (λ (x : Done). play_outcome x.out notes) r.texts
+    ∙ played_on (canon end) notes end _ (reads-again end end_sound.valid end_sound.fits)
+    ∙ ap (after_notes end) e
+    ∙ ap (λ xs. Ok (wave xs)) ((takes b found.edits found.promised).renders i p at ns)
+    ∙ sym (ap (after_notes from) d)
+    ∙ sym (played_on other played from _ (no_fault, refl))
+
+pub others_render_same : (promise : Promise) (from : Parts) (presets : List TakenPreset) (file : List ℕ)
+    → Takes promise from presets → AreBytes file → OthersRenderSame promise presets file
+others_render_same promise from presets file takes bytes done ns notes p parsed only =
+    played_after promise file notes done p bytes
+    (ap (after_notes (after_all (bank_in file) p.edits)) parsed
+    ∙ ap (λ xs. Ok (wave xs)) (sym ((takes (bank_in file) p.edits p.promised).others ns only))
+    ∙ sym (ap (after_notes (bank_in file)) parsed))
 
 -- ---- the presets of notes
 

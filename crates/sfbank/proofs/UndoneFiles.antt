@@ -25,7 +25,7 @@ use Rattle.sfbank.specs.EditRuns.{after_lines, outcome_of}
 use Rattle.sfbank.specs.Plans.{Why, Rejected, SavesBoth, Known, name_in, unless, with_both}
 use Rattle.sfbank.specs.UndoneFiles.{IsApplied, IsImported, ArePlaced, RunsOn, IsRestored}
 use Rattle.sfbank.specs.UndoneFiles.{UndoRestoresFiles, UndoRemovesRecordings, UndoRestoresPlans, UndoEndsSessions}
-use Rattle.sfbank.specs.PlannedEdits.{promise_of}
+use Rattle.sfbank.specs.Purposes.{promise_of}
 use Rattle.sfbank.specs.SavedBanks.{SavedUndoRestores}
 use Rattle.sfbank.specs.Recordings.{import_outcome, edits_into}
 use Rattle.sfbank.proofs.Neutral.{of_every, of_neutral, neutrally_restores}

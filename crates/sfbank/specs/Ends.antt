@@ -17,7 +17,8 @@ use Rattle.program_reports.specs.declared.fault.Fault.TheVariants.{Unexplained, 
 use Rattle.program_reports.specs.declared.run_fault.RunFault.TheVariants as run
 use Rattle.sfbank.specs.Outcome.{Done, bank_in}
 use Rattle.sfbank.specs.Differences.{IsDifference}
-use Rattle.sfbank.specs.PlannedEdits.{IsPlanned, IsScript, promise_of}
+use Rattle.sfbank.specs.Purposes.{promise_of}
+use Rattle.sfbank.specs.PlannedEdits.{IsPlanned, IsScript}
 use Rattle.sfbank.specs.Plans.{Action, Content, Texts, Known, Found, Saves, SavesBoth, Prints, Plays}
 use Rattle.sfbank.specs.Plans.{Text, Difference, Edits, Explanation as Explains, Why, Rejected, Unread, Fails, standard_output}
 
@@ -129,12 +130,14 @@ FindsEdits (Ok (SavesBoth out undo (Found purpose file))) = ⊤
 FindsEdits (Ok (Prints path (Edits purpose file))) = ⊤
 FindsEdits other = ⊥
 
--- The fault of a request that does nothing is the plan's. It may be out of memory in place of any answer, `PlanFailed`
--- where edits have to be found, and an output that can't be read to its end may be rejected as a bank.
+-- The fault of a request that does nothing is the plan's. It may be out of memory in place of any answer, `PlanFailed` or
+-- `Full` where edits have to be found, and an output that can't be read to its end may be rejected as a bank.
 abbrev pub IsEarly : World → Result Action Why → Fault → Type 0
 IsEarly w planned (Run run.Memory path) = ⊤
 IsEarly w planned (Run (run.Write which n) path) = ⊥
 IsEarly w planned (Run run.PlanFailed path) = (planned ≡ Err (Fails path.now run.PlanFailed)) ⊎ FindsEdits planned
+IsEarly w planned (Run (run.Full limit) path) =
+    (planned ≡ Err (Fails path.now (run.Full limit))) ⊎ FindsEdits planned
 IsEarly w planned (Run fault path) = planned ≡ Err (Fails path.now fault)
 IsEarly w planned (File path fault) = planned ≡ Err (Unread path.now fault)
 IsEarly w planned (Output HoldsBank path) = (planned ≡ Err (Rejected path.now HoldsBank)) ⊎ IsUnreadable w path.now

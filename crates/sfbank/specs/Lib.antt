@@ -20,6 +20,7 @@ pub mod SavedBanks
 pub mod Differences
 pub mod Recordings
 pub mod Maps
+pub mod Purposes
 pub mod PlannedEdits
 pub mod Plans
 pub mod Ends

@@ -1,5 +1,5 @@
 -- Runs whose edits a plan finds.
-use Rattle.std.specs.Prelude.{◌≡◌, ℕ, List, map, if◌then◌else◌, Some, None, Result, Ok, Err, true, ⊤}
+use Rattle.std.specs.Prelude.{◌≡◌, ◌⊎◌, ℕ, List, map, None, Some, Result, Ok, Err, true, false, slice_get, ⊤}
 use Rattle.bank_parts.specs.declared.parts.Parts.{Parts}
 use Rattle.std.specs.List.{AllByRecursion}
 use Rattle.hydra_records.specs.Records.{AreBytes}
@@ -7,49 +7,22 @@ use Rattle.bank_format.specs.Canon.{canon}
 use Rattle.bank_format.specs.ReadChecks.{fault_of}
 use Rattle.script_notes.specs.declared.fault.NoteFault.{NoteFault}
 use Rattle.script_notes.specs.Notes.{Numbers, notes_of}
-use Rattle.edit_forms.specs.declared.cause.Cause.TheVariants.{NoSuchPreset}
 use Rattle.edit_forms.specs.declared.edit.Edit.{Edit}
 use Rattle.bank_edits.specs.Runs.{AllAccepted}
 use Rattle.edit_script.specs.Printing.{texts_of}
 use Rattle.plan_edits.specs.declared.fault.PlanFault.{PlanFault}
-use Rattle.plan_edits.specs.declared.fault.PlanFault.TheVariants.{Defect, OutOfMemory}
+use Rattle.plan_edits.specs.declared.fault.PlanFault.TheVariants.{Full, Defect, OutOfMemory}
 use Rattle.plan_edits.specs.Tidying.{IsTidying}
 use Rattle.plan_presets.specs.declared.numbers.PresetNumbers.{PresetNumbers}
-use Rattle.plan_edits.specs.Keeping.{has_presets, is_played, IsKeeping}
+use Rattle.plan_presets.specs.declared.numbers.TakenPreset.{TakenPreset}
+use Rattle.plan_edits.specs.Keeping.{is_played, IsKeeping}
+use Rattle.plan_take.specs.Taking.{is_taken, on_preset}
 use Rattle.program_reports.specs.declared.run_fault.RunFault.{RunFault}
 use Rattle.program_reports.specs.declared.run_fault.RunFault.TheVariants as run
 use Rattle.sfbank.specs.Outcome.{Done, both_texts, bank_in, outcome, play_outcome}
-use Rattle.sfbank.specs.Written.{Writers, Runs, Prepared}
-
--- what a plan promises of a bank and of the edits that it finds
-abbrev pub Promise : Type 1
-Promise = Parts → List Edit → Type 0
-
--- what edits are found for: to tidy a bank, or to keep the presets with these numbers
-pub data Purpose : Type 0 where
-  Tidying : Purpose
-  Keeping : List PresetNumbers → Purpose
-
-abbrev pub promise_of : Purpose → Promise
-promise_of Tidying = IsTidying
-promise_of (Keeping kept) = IsKeeping kept
-
--- the numbers of the presets that notes play
-abbrev pub presets_of : List Numbers → List PresetNumbers
-presets_of = map (λ (n : Numbers). record { bank = n.bank; number = n.number })
-
--- a promise is that of a purpose, or a stronger one
-abbrev pub Serves : Promise → Purpose → Type 0
-Serves promise purpose = (b : Parts) (edits : List Edit) → promise b edits → promise_of purpose b edits
-
--- edits are found to keep the presets with these numbers, if the bank has them
-abbrev pub keeping_listed : Parts → List PresetNumbers → Result Purpose RunFault
-keeping_listed b list = if has_presets b list then Ok (Keeping list) else Err (run.NoMember NoSuchPreset)
-
--- edits are found to keep the presets of notes, or these have a fault
-abbrev pub keeping_notes : Result (List Numbers) NoteFault → Result Purpose RunFault
-keeping_notes (Ok notes) = Ok (Keeping (presets_of notes))
-keeping_notes (Err fault) = Err (run.Notes fault)
+use Rattle.sfbank.specs.Written.{Writers, Runs}
+use Rattle.program_commands.specs.declared.plans.Zones.{Zones}
+use Rattle.sfbank.specs.Purposes.{Promise, Purpose, keeping_played, presets_of, promise_of}
 
 -- The plan found edits that keep its promise. Their script, run on the file, gives both texts.
 pub record IsPlanned (promise : Promise) (file : List ℕ) (done : Done) : Type 0 where
@@ -65,13 +38,6 @@ pub record IsScript (promise : Promise) (file text : List ℕ) : Type 0 where
   pub is_accepted : AllAccepted (bank_in file) edits
   pub is_text : text ≡ texts_of edits
 
--- The outcome of a plan: the first failed check of the file, else both texts, or `PlanFailed`.
-abbrev pub MayEnd : Promise → List ℕ → Result Done RunFault → Type 0
-MayEnd promise file (Ok done) = IsPlanned promise file done
-MayEnd promise file (Err (run.Read fault)) = fault_of file ≡ Some fault
-MayEnd promise file (Err run.PlanFailed) = fault_of file ≡ None
-MayEnd promise file (Err fault) = ⊥
-
 -- the edits of a plan for a bank, and both texts
 pub record HasTexts (promise : Promise) (b : Parts) (done : Done) : Type 0 where
   pub edits : List Edit
@@ -81,21 +47,41 @@ pub record HasTexts (promise : Promise) (b : Parts) (done : Done) : Type 0 where
 
 -- the fault of a run whose plan has no edits
 abbrev pub of_plan : PlanFault → RunFault
+of_plan (Full limit) = run.Full limit
 of_plan Defect = run.PlanFailed
 of_plan OutOfMemory = run.Memory
 
--- the run of a plan
-pub record RunsPlan {U : Type 0} (promise : Promise) (w : Writers) (file : List ℕ) (r : Result U RunFault) : Type 0 where
-  pub found : Result Done RunFault
-  pub may_end : MayEnd promise file found
-  pub runs : Runs w found r
+-- a fault of a plan that was to find edits
+abbrev pub IsPlanFault : RunFault → Type 0
+IsPlanFault (run.Full limit) = ⊤
+IsPlanFault run.PlanFailed = ⊤
+IsPlanFault fault = ⊥
 
--- the same, before the first byte
-pub record PreparesPlan {X : Type 0} (promise : Promise) (file : List ℕ) (view : X → Done) (r : Result X RunFault) : Type 0
-  where
-    pub found : Result Done RunFault
-    pub may_end : MayEnd promise file found
-    pub prepared : Prepared view found r
+-- ---- the run of a plan, where edits are wanted for a purpose, or there is a fault
+
+-- both texts for a purpose
+pub record IsFound (wanted : Result Purpose RunFault) (file : List ℕ) (done : Done) : Type 0 where
+  pub purpose : Purpose
+  pub is_wanted : wanted ≡ Ok purpose
+  pub planned : IsPlanned (promise_of purpose) file done
+
+-- edits were wanted, and a plan has this fault
+pub record IsNotFound (wanted : Result Purpose RunFault) (fault : RunFault) : Type 0 where
+  pub purpose : Purpose
+  pub is_wanted : wanted ≡ Ok purpose
+  pub failed : IsPlanFault fault
+
+-- The outcome: the fault, else both texts, or `PlanFailed` or `Full`.
+abbrev pub MayEnd : Result Purpose RunFault → List ℕ → Result Done RunFault → Type 0
+MayEnd wanted file (Ok done) = IsFound wanted file done
+MayEnd wanted file (Err fault) = (wanted ≡ Err fault) ⊎ IsNotFound wanted fault
+
+-- the run of a plan has such an outcome
+pub record RunsPlan {U : Type 0} (wanted : Result Purpose RunFault) (w : Writers) (file : List ℕ) (r : Result U RunFault)
+    : Type 0 where
+  pub found : Result Done RunFault
+  pub may_end : MayEnd wanted file found
+  pub runs : Runs w found r
 
 -- ---- what follows
 
@@ -127,3 +113,29 @@ abbrev pub PlayedRendersSame : Type 0
 PlayedRendersSame =
     (file notes : List ℕ) (ns : List Numbers) (done : Done) → AreBytes file → notes_of notes ≡ Ok ns
     → IsPlanned (IsKeeping (presets_of ns)) file done → play_outcome done.out notes ≡ play_outcome file notes
+
+-- where edits are found that keep what notes play, the notes have the same outcome on the written file and on the first
+abbrev pub NotesRenderSame : Zones → List ℕ → List ℕ → Type 0
+NotesRenderSame zones file notes =
+    (done : Done) → IsFound (keeping_played zones file notes) file done → play_outcome done.out notes ≡ play_outcome file notes
+
+-- the undo text of such a run restores the first bank
+abbrev pub NotesAreUndone : Zones → List ℕ → List ℕ → Type 0
+NotesAreUndone zones file notes =
+    (purpose : Purpose) → keeping_played zones file notes ≡ Ok purpose → PlanIsUndone (promise_of purpose) file
+
+-- where a plan takes presets, notes on one have the outcome on the written file that they have, on the original, on the
+-- other file
+abbrev pub TakenRenderSame : Promise → List ℕ → List TakenPreset → List ℕ → Type 0
+TakenRenderSame promise other presets file =
+    (done : Done) (i : ℕ) (p : TakenPreset) (ns : List Numbers) (notes played : List ℕ)
+    → IsPlanned promise file done → fault_of other ≡ None → slice_get presets i ≡ Some p
+    → notes_of notes ≡ Ok (map (on_preset p.to) ns) → notes_of played ≡ Ok (map (on_preset p.from) ns)
+    → play_outcome done.out notes ≡ play_outcome other played
+
+-- notes on presets that are not taken have the same outcome on the written file and on the first
+abbrev pub OthersRenderSame : Promise → List TakenPreset → List ℕ → Type 0
+OthersRenderSame promise presets file =
+    (done : Done) (ns : List Numbers) (notes : List ℕ) → IsPlanned promise file done
+    → notes_of notes ≡ Ok ns → AllByRecursion (λ n. is_taken presets n ≡ false) ns
+    → play_outcome done.out notes ≡ play_outcome file notes

@@ -13,7 +13,8 @@ use Rattle.script_of_bank.specs.declared.samples.SamplePoints.TheVariants.{Kept,
 use Rattle.show_listing.specs.declared.listing.Details.{Details}
 use Rattle.program_commands.specs.declared.words.Request.{Request}
 use Rattle.program_commands.specs.declared.words.Request.TheVariants.{Apply, Canon, Diff, Explain, Import, Keep, Live}
-use Rattle.program_commands.specs.declared.words.Request.TheVariants.{Map, New, Play, Script, Show, Tidy, Wave}
+use Rattle.program_commands.specs.declared.words.Request.TheVariants.{Map, Merge, New, Play, Script, Show, Take, Tidy}
+use Rattle.program_commands.specs.declared.words.Request.TheVariants.{Wave}
 use Rattle.program_commands.specs.declared.plans.Kept as kept
 use Rattle.program_commands.specs.declared.plans.Kept.TheVariants.{Notes, Presets}
 use Rattle.program_commands.specs.declared.words.LivePaths.{LivePaths}
@@ -21,7 +22,6 @@ use Rattle.program_commands.specs.declared.plans.PlanPaths.{PlanPaths}
 use Rattle.program_commands.specs.declared.words.ShowPaths.{ShowPaths}
 use Rattle.program_reports.specs.declared.run_fault.RunFault.{RunFault}
 use Rattle.bank_format.specs.ReadChecks.{fault_of}
-use Rattle.script_notes.specs.Notes.{notes_of}
 use Rattle.sfbank.specs.Outcome.{Done, after_reading, bank_in, canon_outcome, show_outcome, show_details_outcome}
 use Rattle.sfbank.specs.Outcome.{play_outcome}
 use Rattle.sfbank.specs.EditRuns.{outcome_of}
@@ -30,7 +30,7 @@ use Rattle.sfbank.specs.Differences.{TwoBanks, two_banks_of}
 use Rattle.sfbank.specs.NewBanks.{new_outcome}
 use Rattle.sfbank.specs.Maps.{map_outcome}
 use Rattle.sfbank.specs.Recordings.{import_outcome, wave_outcome}
-use Rattle.sfbank.specs.PlannedEdits.{Purpose, Tidying, keeping_listed, keeping_notes}
+use Rattle.sfbank.specs.Purposes.{Purpose, keeping_listed, keeping_played, merging, taking, tidying}
 
 -- the text of a path
 abbrev pub Path : Type 0
@@ -83,16 +83,18 @@ first_input (Import paths) = Some paths.input.now
 first_input (Keep keep) = Some keep.paths.input.now
 first_input (Live paths) = Some paths.input.now
 first_input (Map paths) = Some paths.input.now
+first_input (Merge merge) = Some merge.paths.input.now
 first_input (New bank) = None
 first_input (Play paths) = Some paths.input.now
 first_input (Script paths) = Some paths.input.now
 first_input (Show paths) = Some paths.input.now
+first_input (Take take) = Some take.paths.input.now
 first_input (Tidy paths) = Some paths.input.now
 first_input (Wave paths) = Some paths.input.now
 
 -- the notes whose presets are kept
 abbrev pub notes_in : kept.Kept → Option Path
-notes_in (Notes path) = Some path.now
+notes_in (Notes path zones) = Some path.now
 notes_in (Presets list) = None
 
 abbrev pub second_input : Request → Option Path
@@ -100,7 +102,9 @@ second_input (Apply paths) = Some paths.script.now
 second_input (Diff paths) = Some paths.second.now
 second_input (Import paths) = Some paths.wave.now
 second_input (Keep keep) = notes_in keep.kept
+second_input (Merge merge) = Some merge.from.now
 second_input (Play paths) = Some paths.notes.now
+second_input (Take take) = Some take.from.now
 second_input other = None
 
 -- an input gives what the world says, if it is a file that stores and no pipe
@@ -195,11 +199,11 @@ name_in path = unwrap_or (path_file_stem path) []
 
 -- what `keep` does: it keeps the presets that notes play, or those with these numbers
 abbrev pub keep_plan : PlanPaths → kept.Kept → World → Inputs → Result Action Why
-keep_plan p (Notes notes) world inputs =
+keep_plan p (Notes notes zones) world inputs =
     both_apart world p notes.now
     (with_input p.input.now inputs.first
     (λ file. with_input notes.now inputs.second
-    (λ text. with_edits p file (after_reading (fault_of file) (keeping_notes (notes_of text))))))
+    (λ text. with_edits p file (keeping_played zones file text))))
 keep_plan p (Presets list) world inputs =
     undo_apart world p
     (with_input p.input.now inputs.first
@@ -233,6 +237,10 @@ plan (Live p) world inputs =
 plan (Map p) world inputs =
     no_bank world p.out.now p.force
     (with_input p.input.now inputs.first (λ file. with_text world p.out.now (map_outcome file p.owner)))
+plan (Merge merge) world inputs =
+    both_apart world merge.paths merge.from.now
+    (with_input merge.paths.input.now inputs.first
+    (λ file. with_input merge.from.now inputs.second (λ other. with_edits merge.paths file (merging file other merge.shift))))
 plan (New p) world inputs = no_bank world p.out.now p.force (with_text world p.out.now (new_outcome p.minor))
 plan (Play p) world inputs =
     apart world p.out.now (p.notes.now ∷ [])
@@ -243,9 +251,12 @@ plan (Script p) world inputs =
     no_bank world p.out.now p.force
     (with_input p.input.now inputs.first (λ file. with_text world p.out.now (script_outcome (points_of p.no_points) file)))
 plan (Show p) world inputs = with_input p.input.now inputs.first (λ file. with_print (listing_outcome p file))
+plan (Take take) world inputs =
+    both_apart world take.paths take.from.now
+    (with_input take.paths.input.now inputs.first
+    (λ file. with_input take.from.now inputs.second (λ other. with_edits take.paths file (taking file other take.presets.items))))
 plan (Tidy p) world inputs =
-    undo_apart world p
-    (with_input p.input.now inputs.first (λ file. with_edits p file (after_reading (fault_of file) (Ok Tidying))))
+    undo_apart world p (with_input p.input.now inputs.first (λ file. with_edits p file (tidying file)))
 plan (Wave p) world inputs =
     no_bank world p.out.now p.force
     (with_input p.input.now inputs.first (λ file. with_text world p.out.now (wave_outcome file p.sample)))

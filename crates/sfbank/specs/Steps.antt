@@ -22,7 +22,12 @@ use Rattle.wave_file.specs.ReadChecks.{recording_in}
 use Rattle.wave_file.specs.Imports.{sides_of}
 use Rattle.program_commands.specs.declared.words.Forms.{Forms}
 use Rattle.sfbank.specs.EditRuns.{outcome_of}
+use Rattle.sfbank.specs.Outcome.{after_reading}
+use Rattle.sfbank.specs.Differences.{after_file}
 use Rattle.sfbank.specs.Recordings.{import_outcome}
+use Rattle.sfbank.specs.Purposes.{Purpose, keeping_played}
+use Rattle.script_notes.specs.Notes.{Numbers, notes_of}
+use Rattle.program_commands.specs.declared.plans.Zones.{Zones}
 use Rattle.sfbank.specs.Written.{FailsBefore}
 use Rattle.sfbank.specs.declared.program.checks.EditPaths.{EditPaths}
 use Rattle.sfbank.specs.Plans.{Action, Inputs, Why, apart, no_bank, with_input}
@@ -117,3 +122,21 @@ abbrev pub ReadsImport : {X : Type 0} → (X → Parts × Recording × Sides) �
 ReadsImport view file wave (Ok x) =
     IsReadAs file (view x).0 × (recording_in wave ≡ Ok (view x).1) × ((view x).2 ≡ sides_of (view x).1.channels)
 ReadsImport view file wave (Err fault) = (name : List ℕ) → FailsBefore fault (import_outcome file wave name)
+
+-- two banks, the second to copy presets of, or the fault of any plan for them
+abbrev pub ReadsBoth : {X : Type 0} → (X → Parts × Parts) → List ℕ → List ℕ → Result X RunFault → Type 0
+ReadsBoth view file other (Ok x) = IsReadAs file (view x).0 × IsReadAs other (view x).1
+ReadsBoth view file other (Err fault) =
+    (rest : Result Purpose RunFault)
+    → FailsBefore fault (after_reading (fault_of file) (after_file run.ReadFrom (fault_of other) rest))
+
+-- a bank and notes, or the fault of any plan that keeps what these play
+abbrev pub ReadsNotes : {X : Type 0} → (X → Parts) → (X → List Numbers) → List ℕ → List ℕ → Result X RunFault → Type 0
+ReadsNotes bank notes file text (Ok x) = IsReadAs file (bank x) × (notes_of text ≡ Ok (notes x))
+ReadsNotes bank notes file text (Err fault) = (zones : Zones) → FailsBefore fault (keeping_played zones file text)
+
+-- a bank, and the purpose for which edits are wanted, or the fault
+abbrev pub Wants : {X : Type 0} → (X → Parts) → (X → Purpose) → List ℕ → Result Purpose RunFault → Result X RunFault
+    → Type 0
+Wants bank purpose file wanted (Ok x) = IsReadAs file (bank x) × (wanted ≡ Ok (purpose x))
+Wants bank purpose file wanted (Err fault) = FailsBefore fault wanted

@@ -20,7 +20,8 @@ use Rattle.program_commands.specs.declared.words.ImportPaths.{ImportPaths}
 use Rattle.program_commands.specs.declared.words.Request.TheVariants.{Apply, Import}
 use Rattle.sfbank.specs.Outcome.{Done, bank_in, edits_of, play_outcome}
 use Rattle.sfbank.specs.Recordings.{edits_into}
-use Rattle.sfbank.specs.PlannedEdits.{IsPlanned, Purpose, promise_of}
+use Rattle.sfbank.specs.Purposes.{Purpose, promise_of}
+use Rattle.sfbank.specs.PlannedEdits.{IsPlanned}
 use Rattle.sfbank.specs.Plans.{SavesBoth, Known, name_in, plan}
 
 -- `apply` of these paths was done on files: it read two files, planned to save two texts, and saved them.

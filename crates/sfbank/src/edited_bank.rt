@@ -187,6 +187,7 @@ pub(crate) fn of_plan(fault: PlanFault) -> RunFault
     ensures { result ≡ of_plan fault }
 {
     match fault {
+        PlanFault::Full(limit) => RunFault::Full(limit),
         PlanFault::Defect => RunFault::PlanFailed,
         PlanFault::OutOfMemory => RunFault::Memory,
     }

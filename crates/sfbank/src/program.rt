@@ -13,12 +13,14 @@ mod inputs;
 mod keep;
 mod live;
 mod map;
+mod merge;
 mod new;
 mod outputs;
 mod planned;
 mod play;
 mod script;
 mod show;
+mod take;
 mod tidy;
 mod wave;
 
@@ -34,6 +36,7 @@ use import::import;
 use keep::keep;
 use live::live;
 use map::map;
+use merge::merge;
 use new::new;
 use outputs::print;
 use play::play;
@@ -47,6 +50,7 @@ use std::env::Env;
 use std::io::{Read, Write};
 use std::rt::Files;
 use std::{env, io};
+use take::take;
 use tidy::tidy;
 use wave::wave;
 
@@ -162,10 +166,12 @@ fn serve<'a, H: Host, I: Read, O: Write + ClosedPipe, P: Progress>(
         Request::Keep(paths) => keep(host, alloc, paths, output),
         Request::Live(paths) => live(host, alloc, paths, input, output),
         Request::Map(paths) => map(host, alloc, paths, output),
+        Request::Merge(operands) => merge(host, alloc, operands, output),
         Request::New(bank) => new(host, alloc, bank, output),
         Request::Play(paths) => play(host, alloc, paths, output, progress),
         Request::Script(paths) => script(host, alloc, paths, output),
         Request::Show(paths) => show(host, alloc, paths, output),
+        Request::Take(operands) => take(host, alloc, operands, output),
         Request::Tidy(paths) => tidy(host, alloc, paths, output),
         Request::Wave(paths) => wave(host, alloc, paths, output),
     }

@@ -1,7 +1,9 @@
 //! Runs of plans, from bytes to bytes.
 
-use plan_presets::PresetNumbers;
-use sfbank::{RunFault, canon_run, edit_run, keep_run, tidy_run};
+use plan_presets::{PresetNumbers, TakenPreset};
+use sfbank::{
+    RunFault, Zones, canon_run, edit_run, keep_notes_run, keep_run, merge_run, take_run, tidy_run,
+};
 use std::alloc::Global;
 use test_inputs::tone;
 
@@ -50,6 +52,26 @@ fn a_file_keeps_one_preset(rt: HostRuntime) {
     assert!(rt; matches!(is_kept(rt.alloc()), Ok(true)));
 }
 
+/// Whether the presets of notes are kept, with or without the zones that no note selects, and this is undone.
+fn is_played(alloc: Global, zones: Zones) -> Result<bool, RunFault> {
+    let file = file_with_sides(alloc)?;
+    let mut out = Vec::new(alloc);
+    let mut undo = Vec::new(alloc);
+    let notes = b"0 10 0 1 60 100\n";
+    keep_notes_run(alloc, file.as_slice(), notes, zones, &mut out, &mut undo)?;
+    Ok(
+        out.len() < file.len()
+            && is_undone(alloc, out.as_slice(), undo.as_slice(), file.as_slice())?,
+    )
+}
+
+#[test]
+fn a_file_keeps_what_notes_play(rt: HostRuntime) {
+    for zones in [Zones::All, Zones::Played] {
+        assert!(rt; matches!(is_played(rt.alloc(), zones), Ok(true)));
+    }
+}
+
 /// Whether the file gets smaller, with a neutral undo script that makes it again.
 fn is_tidied(alloc: Global) -> Result<bool, RunFault> {
     let file = file_with_sides(alloc)?;
@@ -65,4 +87,59 @@ fn is_tidied(alloc: Global) -> Result<bool, RunFault> {
 #[test]
 fn a_file_is_tidied(rt: HostRuntime) {
     assert!(rt; matches!(is_tidied(rt.alloc()), Ok(true)));
+}
+
+/// Whether the tone gets the preset of the left sample from another file, and this is undone.
+fn is_taken(alloc: Global) -> Result<bool, RunFault> {
+    let other = file_with_sides(alloc)?;
+    let mut plain = Vec::new(alloc);
+    canon_run(alloc, tone().bytes(), &mut plain)?;
+    let mut out = Vec::new(alloc);
+    let mut undo = Vec::new(alloc);
+    let numbers = PresetNumbers { bank: 0, number: 1 };
+    let presets = [TakenPreset {
+        from: numbers,
+        to: numbers,
+    }];
+    take_run(
+        alloc,
+        plain.as_slice(),
+        other.as_slice(),
+        &presets,
+        &mut out,
+        &mut undo,
+    )?;
+    Ok(
+        out.len() > plain.len()
+            && is_undone(alloc, out.as_slice(), undo.as_slice(), plain.as_slice())?,
+    )
+}
+
+#[test]
+fn a_file_gets_a_preset(rt: HostRuntime) {
+    assert!(rt; matches!(is_taken(rt.alloc()), Ok(true)));
+}
+
+/// Whether a file gets all of itself again, in the next MIDI bank, and this is undone.
+fn is_merged(alloc: Global) -> Result<bool, RunFault> {
+    let file = file_with_sides(alloc)?;
+    let mut out = Vec::new(alloc);
+    let mut undo = Vec::new(alloc);
+    merge_run(
+        alloc,
+        file.as_slice(),
+        file.as_slice(),
+        1,
+        &mut out,
+        &mut undo,
+    )?;
+    Ok(
+        out.len() > file.len()
+            && is_undone(alloc, out.as_slice(), undo.as_slice(), file.as_slice())?,
+    )
+}
+
+#[test]
+fn a_file_gets_all_of_a_file(rt: HostRuntime) {
+    assert!(rt; matches!(is_merged(rt.alloc()), Ok(true)));
 }

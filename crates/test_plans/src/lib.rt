@@ -4,6 +4,10 @@
 #[cfg(test)]
 mod edited_banks;
 #[cfg(test)]
+mod merged_banks;
+#[cfg(test)]
 mod plans;
+#[cfg(test)]
+mod played_notes;
 #[cfg(test)]
 mod taken_presets;

@@ -11,7 +11,7 @@ use std::test::Fail;
 use test_inputs::tone;
 
 /// The edits of a plan, for the bank of a file after a script, as a text. `pool` has the script's literals.
-fn text_of_plan<'a, P: Plan>(
+fn text_of_plan<'a, P: Plan<'a>>(
     alloc: Global,
     file: &'a [u8],
     script: &[u8],
@@ -27,21 +27,39 @@ fn text_of_plan<'a, P: Plan>(
     }
 }
 
-/// Whether the edits of a plan, for the bank of a file after a script, are these.
-fn is_planned<P: Plan>(
+/// Whether the edits of a plan, for the bank of a file after a script, are these. `pool` has the script's literals.
+pub(crate) fn is_planned<'a, P: Plan<'a>>(
     alloc: Global,
-    file: &[u8],
+    file: &'a [u8],
     script: &[u8],
+    pool: &'a [u8],
     plan: &P,
     wanted: &[u8],
-) -> Result<bool, Fail> {
-    let pool = pool_of(alloc, script)?;
-    let text = text_of_plan(alloc, file, script, pool.as_slice(), plan)?;
+) -> Result<bool, Fail>
+    requires { pool_bytes script.now ≡ Ok pool.now }
+{
+    let text = text_of_plan(alloc, file, script, pool, plan)?;
     Ok(text.as_slice() == wanted)
 }
 
+fn is_kept(
+    alloc: Global,
+    script: &[u8],
+    kept: &[PresetNumbers],
+    wanted: &[u8],
+) -> Result<bool, Fail> {
+    let (pool, file) = (pool_of(alloc, script)?, tone());
+    let plan = Keep { presets: kept };
+    is_planned(alloc, file.bytes(), script, pool.as_slice(), &plan, wanted)
+}
+
+fn is_tidied(alloc: Global, script: &[u8], wanted: &[u8]) -> Result<bool, Fail> {
+    let (pool, file) = (pool_of(alloc, script)?, tone());
+    is_planned(alloc, file.bytes(), script, pool.as_slice(), &Tidy, wanted)
+}
+
 /// Two more samples, linked to each other, with an instrument for each, and a preset for the left one.
-const SIDES: &[u8] = b"add-sample 1 \"l\" 44100 60 0 mono noloop x0100
+pub(crate) const SIDES: &[u8] = b"add-sample 1 \"l\" 44100 60 0 mono noloop x0100
 add-sample 2 \"r\" 44100 60 0 right 1 noloop x0200
 set-kind 1 left 2
 add-inst 1 \"l\" { 1 }
@@ -69,15 +87,7 @@ fn a_preset_is_kept(rt: HostRuntime) -> Result<(), Fail> {
             b"remove-preset 1\nremove-preset 0\nremove-inst 2\nremove-inst 1\nremove-inst 0\nset-kind 1 mono\nset-kind 2 mono\nremove-sample 2\nremove-sample 1\nremove-sample 0\n",
         ),
     ] {
-        assert!(rt;
-            is_planned(
-                rt.alloc(),
-                tone().bytes(),
-                SIDES,
-                &Keep { presets: kept },
-                wanted
-            )?
-        );
+        assert!(rt; is_kept(rt.alloc(), SIDES, kept, wanted)?);
     }
     Ok(())
 }
@@ -104,7 +114,7 @@ fn a_bank_is_tidied(rt: HostRuntime) -> Result<(), Fail> {
             b"set-kind 0 mono\n",
         ),
     ] {
-        assert!(rt; is_planned(rt.alloc(), tone().bytes(), script, &Tidy, wanted)?);
+        assert!(rt; is_tidied(rt.alloc(), script, wanted)?);
     }
     Ok(())
 }

@@ -2,24 +2,27 @@
 
 use crate::edited_banks::{edited, print_edits};
 use bank_core::Bank;
-use edit_forms::Edit;
 use edit_script::pool_of;
-use plan_presets::PresetNumbers;
-use plan_take::{Take, TakeFault, TakenPreset};
+use plan_edits::Plan;
+use plan_presets::{PresetFault, PresetNumbers, TakenPreset};
+use plan_take::{Take, check_presets};
 use sf_reader::read;
 use std::alloc::Global;
 use std::test::Fail;
 use test_inputs::tone;
 
-fn text_of(alloc: Global, found: Result<Vec<Edit<'_>>, TakeFault>) -> Result<Vec<u8>, Fail> {
-    match found {
-        Ok(edits) => Ok(print_edits(alloc, edits.as_slice())),
-        Err(TakeFault::NoSuchPreset(_)) => Ok(Vec::from_slice(alloc, b"no such preset")?),
-        Err(TakeFault::NumbersInUse(_)) => Ok(Vec::from_slice(alloc, b"in use")?),
-        Err(TakeFault::NumbersTwice(_)) => Ok(Vec::from_slice(alloc, b"twice")?),
-        Err(TakeFault::NoRoom) => Ok(Vec::from_slice(alloc, b"no room")?),
-        Err(TakeFault::Defect) => Ok(Vec::from_slice(alloc, b"defect")?),
-        Err(TakeFault::OutOfMemory) => Ok(Vec::from_slice(alloc, b"memory")?),
+fn text_of_fault(alloc: Global, fault: PresetFault) -> Result<Vec<u8>, Fail> {
+    match fault {
+        PresetFault::Missing(numbers) if numbers.number == 1 => {
+            Ok(Vec::from_slice(alloc, b"1 is missing")?)
+        }
+        PresetFault::InUse(numbers) if numbers.number == 0 => {
+            Ok(Vec::from_slice(alloc, b"0 is in use")?)
+        }
+        PresetFault::InUse(numbers) if numbers.number == 1 => {
+            Ok(Vec::from_slice(alloc, b"1 is in use")?)
+        }
+        _ => Ok(Vec::from_slice(alloc, b"another fault")?),
     }
 }
 
@@ -29,8 +32,14 @@ fn text_of_taken<'a>(
     from: &Bank<'a>,
     presets: &[TakenPreset],
 ) -> Result<Vec<u8>, Fail> {
+    if let Err(fault) = check_presets(bank, from, presets) {
+        return text_of_fault(alloc, fault);
+    }
     let take = Take { from, presets };
-    text_of(alloc, take.edits(alloc, bank))
+    match take.edits(alloc, bank) {
+        Ok(edits) => Ok(print_edits(alloc, edits.as_slice())),
+        Err(_) => Ok(Vec::from_slice(alloc, b"no edits")?),
+    }
 }
 
 /// Which of two banks a script edits.
@@ -99,9 +108,14 @@ fn presets_are_taken(rt: HostRuntime) -> Result<(), Fail> {
             [preset(0, 5)].as_slice(),
             b"add-preset 1 \"p\" 5 0 0 0 0 { 0 }\n".as_slice(),
         ),
-        (Edited::Both, b"", &[preset(0, 0)], b"in use"),
-        (Edited::Both, b"", &[preset(1, 1)], b"no such preset"),
-        (Edited::Both, b"", &[preset(0, 1), preset(0, 1)], b"twice"),
+        (Edited::Both, b"", &[preset(0, 0)], b"0 is in use"),
+        (Edited::Both, b"", &[preset(1, 1)], b"1 is missing"),
+        (
+            Edited::Both,
+            b"",
+            &[preset(0, 1), preset(0, 1)],
+            b"1 is in use",
+        ),
         (
             Edited::From,
             SIDES,

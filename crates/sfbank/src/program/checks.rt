@@ -1,7 +1,7 @@
 //! Checks of output paths, before anything is read.
 ghost use Rattle.std.specs.Prelude.{◌≡◌, ◌||◌, map};
 ghost use Rattle.file_host.specs.Checks.{is_one_file};
-ghost use Rattle.sfbank.specs.Plans.{apart, no_bank, undo_apart};
+ghost use Rattle.sfbank.specs.Plans.{apart, both_apart, no_bank, undo_apart};
 ghost use Rattle.sfbank.specs.Steps.{Passes, edit_part, undo_part, fault_of_check};
 
 use base_outputs::OutputFault;
@@ -95,7 +95,25 @@ pub(super) fn reject_undo_of_plan<'a, H: Host>(
     }
 }
 
-/// The paths of an edit of a bank by another input: a script, a WAVE file or a note list.
+/// Rejects the outputs of a plan with another input.
+pub(super) fn reject_outputs_of_plan<'a, H: Host>(
+    host: &mut H,
+    paths: PlanPaths<'a>,
+    other: &'a str,
+) -> Result<(), Fault<'a>>
+    ensures { Passes (λ w rest. both_apart w paths.entry other.entry.now rest) (H.world host.old) (H.world host.new) result }
+{
+    let outputs = EditPaths {
+        input: paths.input,
+        other,
+        out: paths.out,
+        undo: paths.undo,
+        force: paths.force,
+    };
+    reject_outputs(host, outputs)
+}
+
+/// The paths of an edit of a bank by another input: a script, a WAVE file, a note list or a second bank.
 #[derive(Clone, Copy)]
 pub(super) struct EditPaths<'a> {
     pub(super) input: &'a str,

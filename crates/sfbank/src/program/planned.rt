@@ -3,7 +3,7 @@ ghost use Rattle.std.specs.Prelude.{Ok, List, ℕ};
 ghost use Rattle.bank_edits.specs.Runs.{AllAccepted};
 ghost use Rattle.bank_format.specs.ReadChecks.{fault_of};
 ghost use Rattle.sfbank.specs.Outcome.{after_reading};
-ghost use Rattle.sfbank.specs.PlannedEdits.{Purpose, Serves, promise_of};
+ghost use Rattle.sfbank.specs.Purposes.{Purpose, Serves, promise_of};
 ghost use Rattle.sfbank.specs.Plans.{edits_at, with_edits};
 ghost use Rattle.sfbank.specs.Ends.{EndsFor};
 ghost use Rattle.sfbank.specs.Steps.{IsReadAs};
@@ -23,11 +23,11 @@ use std::alloc::Global;
 use std::io::Write;
 
 /// Reads a file as a bank, and does what `put_edits` does.
-pub(super) fn put_planned<'a, H: Host, P: Plan, O: Write + ClosedPipe>(
+pub(super) fn put_planned<'a, 'b, H: Host, P: Plan<'b>, O: Write + ClosedPipe>(
     host: &mut H,
     alloc: Global,
     paths: PlanPaths<'a>,
-    file: &[u8],
+    file: &'b [u8],
     plan: &P,
     output: &mut O,
 ) -> Result<(), Fault<'a>>
@@ -43,11 +43,11 @@ pub(super) fn put_planned<'a, H: Host, P: Plan, O: Write + ClosedPipe>(
 }
 
 /// Finds the edits of a plan for a bank. Prints their script, or saves the edited bank with its undo script.
-pub(super) fn put_edits<'a, H: Host, P: Plan, O: Write + ClosedPipe>(
+pub(super) fn put_edits<'a, 'b, H: Host, P: Plan<'b>, O: Write + ClosedPipe>(
     host: &mut H,
     alloc: Global,
     paths: PlanPaths<'a>,
-    bank: Bank<'_>,
+    bank: Bank<'b>,
     plan: &P,
     output: &mut O,
 ) -> Result<(), Fault<'a>>

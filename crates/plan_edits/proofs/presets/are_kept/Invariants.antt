@@ -7,4 +7,4 @@ use Rattle.plan_edits.proofs.presets.are_kept.Given as goal
 -- the presets so far are kept
 abbrev pub invariant-loop-preset : goal.invariant-loop-preset
 invariant-loop-preset l =
-    (i : ℕ) → i < l.preset → (p : ZoneOwner Head) → slice_get l.fn.bank.presets i ≡ Some p → is_kept l.fn.kept p ≡ true
+    (i : ℕ) → i < l.preset → (p : ZoneOwner Head) → slice_get l.fn.bank.presets i ≡ Some p → is_kept l.fn.kept.keys p ≡ true

@@ -1,9 +1,9 @@
-use Rattle.std.proofs.Common.{◌≡◌, ℕ, ◌<◌, Some, slice_get}
-use Rattle.plan_take.specs.declared.taken_preset.TakenPreset.{TakenPreset}
-use Rattle.plan_take.specs.Taking.{IsTakeable}
+use Rattle.std.proofs.Common.{◌≡◌, ◌++◌, take, drop}
+use Rattle.plan_take.specs.TakeFaults.{numbers_in, new_numbers, first_fault, preset_fault}
 use Rattle.plan_take.proofs.checks.check_presets.Given as goal
 
--- the presets so far can be taken
+-- the presets so far have no fault
 abbrev pub invariant-loop-k : goal.invariant-loop-k
 invariant-loop-k l =
-    (m : ℕ) → m < l.k → (p : TakenPreset) → slice_get l.fn.presets m ≡ Some p → IsTakeable l.fn.from l.fn.bank p
+    preset_fault l.fn.from l.fn.bank l.fn.presets
+    ≡ first_fault l.fn.from (numbers_in l.fn.bank.presets ++ new_numbers (take l.k l.fn.presets)) (drop l.k l.fn.presets)

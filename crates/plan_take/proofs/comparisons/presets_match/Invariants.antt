@@ -1,5 +1,5 @@
 use Rattle.std.proofs.Common.{◌≡◌, ℕ, ◌<◌, Some, slice_get}
-use Rattle.plan_take.specs.declared.taken_preset.TakenPreset.{TakenPreset}
+use Rattle.plan_presets.specs.declared.numbers.TakenPreset.{TakenPreset}
 use Rattle.plan_take.specs.Matches.{PresetsMatch}
 use Rattle.plan_take.proofs.comparisons.presets_match.Given as goal
 

@@ -10,6 +10,7 @@ use Rattle.program_commands.proofs.words.request_of_command.Goals.{in-explain+in
 use Rattle.program_commands.proofs.words.request_of_command.Goals.{in-import+in_ok-read_import-in-import}
 use Rattle.program_commands.proofs.words.request_of_command.Goals.{in-live+in_ok-read_live-in-live}
 use Rattle.program_commands.proofs.words.request_of_command.Goals.{in-map+in_ok-read_map-in-map}
+use Rattle.program_commands.proofs.words.request_of_command.Goals.{in-merge+in_ok-read_merge-in-merge}
 use Rattle.program_commands.proofs.words.request_of_command.Goals.{in-new+in_ok-read_new-in-new}
 use Rattle.program_commands.proofs.words.request_of_command.Goals.{in-play+in_ok-read_play-in-play}
 use Rattle.program_commands.proofs.words.request_of_command.Goals.{in-script+in_ok-read_script-in-script}
@@ -44,6 +45,8 @@ returns c = let rows = rows_in c.args.words.now in (
         asks rows w.result-is w.in-live.is w.in_ok-read_live-in-live.ensures.0
     | in-map+in_ok-read_map-in-map w ↦
         asks rows w.result-is w.in-map.is w.in_ok-read_map-in-map.ensures.0
+    | in-merge+in_ok-read_merge-in-merge w ↦
+        asks rows w.result-is w.in-merge.is w.in_ok-read_merge-in-merge.ensures.0
     | in-new+in_ok-read_new-in-new w ↦
         asks rows w.result-is w.in-new.is w.in_ok-read_new-in-new.ensures.0
     | in-play+in_ok-read_play-in-play w ↦

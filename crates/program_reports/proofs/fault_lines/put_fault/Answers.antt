@@ -52,3 +52,15 @@ returns-in-Memory g c = rw c.in-Memory.is c.put-in-Memory.ensures
 pub returns-in-PlanFailed : goal.returns-in-PlanFailed
 unfolding fault_line
 returns-in-PlanFailed g c = rw c.in-PlanFailed.is c.put-in-PlanFailed.ensures
+
+pub returns-in-ReadFrom : goal.returns-in-ReadFrom
+unfolding fault_line
+returns-in-ReadFrom g c = rw c.in-ReadFrom.is c.put_from_read_fault.ensures
+
+pub returns-in-Presets : goal.returns-in-Presets
+unfolding fault_line
+returns-in-Presets g c = rw c.in-Presets.is c.put_preset_fault.ensures
+
+pub returns-in-Full : goal.returns-in-Full
+unfolding fault_line
+returns-in-Full g c = rw c.in-Full.is c.put_full.ensures

@@ -3,7 +3,7 @@ use Rattle.bank_format.specs.ReadChecks.{fault_of}
 use Rattle.program_commands.specs.declared.words.Request.TheVariants.{Keep}
 use Rattle.program_commands.specs.declared.plans.Kept.TheVariants.{Presets}
 use Rattle.sfbank.specs.Outcome.{after_reading, bank_in}
-use Rattle.sfbank.specs.PlannedEdits.{keeping_listed}
+use Rattle.sfbank.specs.Purposes.{keeping_listed}
 use Rattle.sfbank.specs.Plans.{undo_apart, with_edits}
 use Rattle.sfbank.proofs.PlanLaws.{after_one, checks_fail, one_goes_on, one_fails}
 use Rattle.sfbank.proofs.program.keep.keep_listed.Goals as goal

@@ -1,10 +1,7 @@
 use Rattle.std.proofs.Common.{refl}
-use Rattle.bank_format.specs.ReadChecks.{fault_of}
-use Rattle.script_notes.specs.Notes.{notes_of}
 use Rattle.program_commands.specs.declared.words.Request.TheVariants.{Keep}
 use Rattle.program_commands.specs.declared.plans.Kept.TheVariants.{Notes}
-use Rattle.sfbank.specs.Outcome.{after_reading}
-use Rattle.sfbank.specs.PlannedEdits.{keeping_notes}
+use Rattle.sfbank.specs.Purposes.{keeping_played}
 use Rattle.sfbank.specs.Plans.{both_apart, with_edits}
 use Rattle.sfbank.proofs.PlanLaws.{after_two, checks_fail, two_go_on, two_fail}
 use Rattle.sfbank.proofs.program.keep.keep_played.Goals as goal
@@ -13,9 +10,9 @@ pub returns-in-Ok-read_two : goal.returns-in-Ok-read_two
 returns-in-Ok-read_two g c =
     let p = c.args.paths in
     let notes = c.args.notes in
-    two_go_on (Keep (record { paths = p; kept = Notes notes })) (λ w rest. both_apart w p notes.now rest)
-    (λ w file text. with_edits p file (after_reading (fault_of file) (keeping_notes (notes_of text)))) p.input.now notes.now _
-    (g.H.Host.world c.reject_outputs.new.host) _ _ _ _ c.put_played.result tt c.in-Ok-read_two.file.items
+    two_go_on (Keep (record { paths = p; kept = Notes notes c.args.zones })) (λ w rest. both_apart w p notes.now rest)
+    (λ w file text. with_edits p file (keeping_played c.args.zones file text)) p.input.now notes.now _
+    (g.H.Host.world c.reject_outputs_of_plan.new.host) _ _ _ _ c.put_played.result tt c.in-Ok-read_two.file.items
     c.in-Ok-read_two.text.items (λ w i. refl) (λ w r s h k. (h, k)) c.in-Ok.ensures c.in-Ok-read_two.ensures
     (rw (c.as_slice.ensures.value, c.as_slice-in-Ok-read_two.ensures.value) at c.put_played.ensures)
 
@@ -23,15 +20,15 @@ pub returns-in-Err-read_two : goal.returns-in-Err-read_two
 returns-in-Err-read_two g c =
     let p = c.args.paths in
     let notes = c.args.notes in
-    two_fail (Keep (record { paths = p; kept = Notes notes })) (λ w rest. both_apart w p notes.now rest)
-    (λ w file text. with_edits p file (after_reading (fault_of file) (keeping_notes (notes_of text)))) p.input.now notes.now _
-    (g.H.Host.world c.reject_outputs.new.host) _ _ _ c.in-Err-read_two.fault tt (λ w i. refl) (λ w r s h k. (h, k))
+    two_fail (Keep (record { paths = p; kept = Notes notes c.args.zones })) (λ w rest. both_apart w p notes.now rest)
+    (λ w file text. with_edits p file (keeping_played c.args.zones file text)) p.input.now notes.now _
+    (g.H.Host.world c.reject_outputs_of_plan.new.host) _ _ _ c.in-Err-read_two.fault tt (λ w i. refl) (λ w r s h k. (h, k))
     c.in-Ok.ensures c.in-Err-read_two.ensures
 
 pub returns-in-Err : goal.returns-in-Err
 returns-in-Err g c =
     let p = c.args.paths in
     let notes = c.args.notes in
-    checks_fail (Keep (record { paths = p; kept = Notes notes })) (λ w rest. both_apart w p notes.now rest)
-    (after_two p.input.now notes.now (λ w file text. with_edits p file (after_reading (fault_of file) (keeping_notes (notes_of text)))))
+    checks_fail (Keep (record { paths = p; kept = Notes notes c.args.zones })) (λ w rest. both_apart w p notes.now rest)
+    (after_two p.input.now notes.now (λ w file text. with_edits p file (keeping_played c.args.zones file text)))
     p.input.now notes.now _ _ _ _ c.in-Err.fault (λ w i. refl) (λ w r s h k. (h, k)) c.in-Err.ensures

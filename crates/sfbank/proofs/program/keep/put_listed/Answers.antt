@@ -1,24 +1,26 @@
-use Rattle.std.proofs.Common.{◌∙◌, Bool, Ok, Err, ap}
-use Rattle.std.specs.Prelude.{if◌then◌else◌}
+use Rattle.std.proofs.Common.{◌∙◌, Option, ap}
 use Rattle.bank_format.specs.ReadChecks.{fault_of}
-use Rattle.edit_forms.specs.declared.cause.Cause.TheVariants.{NoSuchPreset}
+use Rattle.plan_presets.specs.declared.fault.PresetFault.{PresetFault}
+use Rattle.plan_presets.specs.declared.fault.PresetFault.TheVariants.{Missing}
+use Rattle.plan_presets.specs.declared.numbers.PresetNumbers.{PresetNumbers}
+use Rattle.std.specs.Option.{option_map}
 use Rattle.program_reports.specs.declared.run_fault.RunFault.TheVariants as run
 use Rattle.sfbank.specs.Outcome.{after_reading, bank_in}
 use Rattle.sfbank.specs.Steps.{IsReadAs}
-use Rattle.sfbank.specs.PlannedEdits.{Keeping, keeping_listed}
+use Rattle.sfbank.specs.Purposes.{Keeping, keeping_listed, unless_fault}
 use Rattle.sfbank.proofs.FoundEdits.{edits_fail, edits_put, listed_at}
 use Rattle.sfbank.proofs.OutcomeLaws.{bank_fails}
 use Rattle.sfbank.proofs.program.keep.put_listed.Goals as goal
 
-pub returns-then-has_presets : goal.returns-then-has_presets
-returns-then-has_presets g c =
+pub returns-in-Ok-check_presets : goal.returns-in-Ok-check_presets
+returns-in-Ok-check_presets g c =
     let p = c.args.paths in
     let file = c.args.file.now in
     let list = c.args.presets.now in
     let read : IsReadAs file c.in-Ok.bank = (c.in-Ok._counts, c.in-Ok.ensures) in
     edits_put p (Keeping list) file (after_reading (fault_of file) (keeping_listed (bank_in file) list)) _ _ _ c.put_edits.result
-    (listed_at file c.in-Ok.bank list c.has_presets.result read c.has_presets.ensures
-    ∙ ap (λ (b : Bool). if b then Ok (Keeping list) else Err (run.NoMember NoSuchPreset)) c.if-has_presets.true)
+    (listed_at file c.in-Ok.bank list read
+    ∙ ap (λ (o : Option PresetNumbers). unless_fault (option_map Missing o) (Keeping list)) c.in-Ok-check_presets.ensures)
     (c.put_edits.ensures (Keeping list) file (λ b edits h. h) read)
 
 pub returns-in-Ok : goal.returns-in-Ok
@@ -26,10 +28,10 @@ returns-in-Ok g c =
     let file = c.args.file.now in
     let list = c.args.presets.now in
     let read : IsReadAs file c.in-Ok.bank = (c.in-Ok._counts, c.in-Ok.ensures) in
-    edits_fail _ _ _ c.args.paths file (run.NoMember NoSuchPreset)
+    edits_fail _ _ _ c.args.paths file (run.Presets c.in-Err-check_presets.fault)
     (after_reading (fault_of file) (keeping_listed (bank_in file) list))
-    (listed_at file c.in-Ok.bank list c.has_presets.result read c.has_presets.ensures
-    ∙ ap (λ (b : Bool). if b then Ok (Keeping list) else Err (run.NoMember NoSuchPreset)) c.if-has_presets.false)
+    (listed_at file c.in-Ok.bank list read
+    ∙ ap (λ (o : Option PresetFault). unless_fault o (Keeping list)) c.in-Err-check_presets.ensures)
 
 pub returns : goal.returns
 returns g c =

@@ -1,8 +1,6 @@
-use Rattle.std.proofs.Common.{Ok, refl}
-use Rattle.bank_format.specs.ReadChecks.{fault_of}
+use Rattle.std.proofs.Common.{refl}
 use Rattle.program_commands.specs.declared.words.Request.TheVariants.{Tidy}
-use Rattle.sfbank.specs.Outcome.{after_reading}
-use Rattle.sfbank.specs.PlannedEdits.{Tidying}
+use Rattle.sfbank.specs.Purposes.{Tidying, tidying}
 use Rattle.sfbank.specs.Plans.{undo_apart, with_edits}
 use Rattle.sfbank.proofs.PlanLaws.{after_one, checks_fail, one_goes_on, one_fails}
 use Rattle.sfbank.proofs.program.tidy.tidy.Goals as goal
@@ -11,7 +9,7 @@ pub returns-in-Ok-read_input : goal.returns-in-Ok-read_input
 returns-in-Ok-read_input g c =
     let p = c.args.paths in
     one_goes_on (Tidy p) (λ w rest. undo_apart w p rest)
-    (λ w file. with_edits p file (after_reading (fault_of file) (Ok Tidying))) p.input.now _
+    (λ w file. with_edits p file (tidying file)) p.input.now _
     (g.H.Host.world c.reject_undo_of_plan.new.host) _ _ _ _ c.put_planned.result tt c.in-Ok-read_input.file.items
     (λ w i. refl) (λ w r s h k. (h, tt)) c.in-Ok.ensures c.in-Ok-read_input.ensures
     (rw c.as_slice.ensures.value at (c.put_planned.ensures Tidying (λ b edits h. h)))
@@ -20,7 +18,7 @@ pub returns-in-Err-read_input : goal.returns-in-Err-read_input
 returns-in-Err-read_input g c =
     let p = c.args.paths in
     one_fails (Tidy p) (λ w rest. undo_apart w p rest)
-    (λ w file. with_edits p file (after_reading (fault_of file) (Ok Tidying))) p.input.now _
+    (λ w file. with_edits p file (tidying file)) p.input.now _
     (g.H.Host.world c.reject_undo_of_plan.new.host) _ _ _ c.in-Err-read_input.fault tt
     (λ w i. refl) (λ w r s h k. (h, tt)) c.in-Ok.ensures c.in-Err-read_input.ensures
 
@@ -28,5 +26,5 @@ pub returns-in-Err : goal.returns-in-Err
 returns-in-Err g c =
     let p = c.args.paths in
     checks_fail (Tidy p) (λ w rest. undo_apart w p rest)
-    (after_one p.input.now (λ w file. with_edits p file (after_reading (fault_of file) (Ok Tidying))))
+    (after_one p.input.now (λ w file. with_edits p file (tidying file)))
     p.input.now p.input.now _ _ _ _ c.in-Err.fault (λ w i. refl) (λ w r s h k. (h, tt)) c.in-Err.ensures

@@ -1,0 +1,11 @@
+use Rattle.plan_take.specs.Matches.{HasNumber}
+use Rattle.plan_take.proofs.JoinLaws.{joined_names}
+use Rattle.plan_take.proofs.joined_owners.are_joined_instruments.Goals as goal
+
+pub returns-then-have_added_zones : goal.returns-then-have_added_zones
+returns-then-have_added_zones c t =
+    joined_names c.args.by (HasNumber c.args.targets.now) (λ i j h. c.are_counted.ensures c.if-not-are_counted.false i j h)
+    c.args.first.now c.args.added.now
+    c.args.all.now c.len-count.result c.len-count.ensures (c.begins_with.ensures.count c.if-not-begins_with.false)
+    (c.begins_with.ensures.first c.if-not-begins_with.false)
+    (c.have_added_zones.ensures c.if-have_added_zones.true) (c.have_added_names.ensures t)

@@ -1,0 +1,12 @@
+use Rattle.std.proofs.Common.{◌∙◌}
+use Rattle.program_reports.proofs.fault_lines.put_preset_text.Goals as goal
+
+pub returns : goal.returns
+returns g c =
+    rw (
+      c.as_bytes.ensures.value ∙ c.format.ensures.text,
+      c.as_bytes-2.ensures.value,
+      c.as_bytes-3.ensures.value ∙ c.format-2.ensures.text,
+      c.as_bytes-4.ensures.value ∙ c.format-3.ensures.text,
+    )
+    at c.put_pieces.ensures

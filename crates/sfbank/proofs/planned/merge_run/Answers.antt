@@ -1,0 +1,51 @@
+use Rattle.plan_take.specs.Merging.{IsMerging}
+use Rattle.sfbank.specs.Outcome.{bank_in}
+use Rattle.sfbank.specs.Purposes.{Merging, added_presets, merging}
+use Rattle.sfbank.proofs.Restores.{are_bytes}
+use Rattle.sfbank.proofs.PlannedEdits.{plan_is_undone, run_fails, taken_render_same, others_render_same}
+use Rattle.sfbank.proofs.planned.merge_run.Goals as goal
+
+pub returns-in-Ok-clause-runs : goal.returns-in-Ok-clause-runs
+returns-in-Ok-clause-runs g c =
+    let file = c.args.file.now in
+    c.run_edits.ensures (Merging c.in-Ok.from c.args.shift) (merging file c.args.other.now c.args.shift) file (λ b edits h. h)
+    c.in-Ok.ensures.1 c.in-Ok.ensures.0
+
+pub returns-in-Err-clause-runs : goal.returns-in-Err-clause-runs
+returns-in-Err-clause-runs g c =
+    run_fails (Unit {0}) (merging c.args.file.now c.args.other.now c.args.shift) (g.W.Write.contents c.args.out.now)
+    (g.V.Write.contents c.args.undo.now) c.args.file.now c.in-Err.fault c.in-Err.ensures
+
+pub returns-in-Ok-clause-restores : goal.returns-in-Ok-clause-restores
+returns-in-Ok-clause-restores g c =
+    plan_is_undone (IsMerging (bank_in c.args.other.now) c.args.shift) c.args.file.now
+    (are_bytes c.args.file.now c.type_inv.file)
+
+pub returns-in-Err-clause-restores : goal.returns-in-Err-clause-restores
+returns-in-Err-clause-restores g c =
+    plan_is_undone (IsMerging (bank_in c.args.other.now) c.args.shift) c.args.file.now
+    (are_bytes c.args.file.now c.type_inv.file)
+
+pub returns-in-Ok-clause-added : goal.returns-in-Ok-clause-added
+returns-in-Ok-clause-added g c =
+    taken_render_same (IsMerging (bank_in c.args.other.now) c.args.shift) c.args.other.now
+    (added_presets c.args.other.now c.args.shift) c.args.file.now (λ b edits h. h.taken)
+    (are_bytes c.args.file.now c.type_inv.file)
+
+pub returns-in-Err-clause-added : goal.returns-in-Err-clause-added
+returns-in-Err-clause-added g c =
+    taken_render_same (IsMerging (bank_in c.args.other.now) c.args.shift) c.args.other.now
+    (added_presets c.args.other.now c.args.shift) c.args.file.now (λ b edits h. h.taken)
+    (are_bytes c.args.file.now c.type_inv.file)
+
+pub returns-in-Ok-clause-others : goal.returns-in-Ok-clause-others
+returns-in-Ok-clause-others g c =
+    others_render_same (IsMerging (bank_in c.args.other.now) c.args.shift) (bank_in c.args.other.now)
+    (added_presets c.args.other.now c.args.shift) c.args.file.now (λ b edits h. h.taken)
+    (are_bytes c.args.file.now c.type_inv.file)
+
+pub returns-in-Err-clause-others : goal.returns-in-Err-clause-others
+returns-in-Err-clause-others g c =
+    others_render_same (IsMerging (bank_in c.args.other.now) c.args.shift) (bank_in c.args.other.now)
+    (added_presets c.args.other.now c.args.shift) c.args.file.now (λ b edits h. h.taken)
+    (are_bytes c.args.file.now c.type_inv.file)
