@@ -49,9 +49,9 @@ sub wrong_of_merge {
     return $wrong if defined $wrong;
     count_edits('merge');
     $wrong = wrong_of_members($in, $there, $shift) // wrong_of_first_parts($in);
-    $wrong //= wrong_of_copies('merge', $from, map { [$_, shifted($shift, $_)] } numbers_of($there));
     write_bytes('notes', note_lines(24, numbers_of($in)));
-    return $wrong // wrong_of_sound('merge others', $bank);
+    $wrong //= wrong_of_sound('merge others', $bank);
+    return $wrong // wrong_of_copies('merge', $from, map { [$_, shifted($shift, $_)] } numbers_of($there));
 }
 
 # Tests `merge` of another bank, which is a file of its own, or the bank itself.

@@ -14,7 +14,7 @@ sub free_numbers {
     my ($in, $taken) = @_;
     my %used = map { $_ => 1 } numbers_of($in), @$taken;
     my $numbers;
-    do { $numbers = below(3) . ':' . below(40) } while $used{$numbers};
+    do { $numbers = below(60_000) . ':' . below(128) } while $used{$numbers};
     return $numbers;
 }
 
@@ -75,7 +75,7 @@ sub wrong_of_take {
     return $wrong if defined $wrong;
     count_edits('take');
     write_bytes('notes', note_lines(24, numbers_of($in)));
-    return wrong_of_first_parts($in) // wrong_of_copies('take', $from, @pairs) // wrong_of_sound('take others', $bank);
+    return wrong_of_first_parts($in) // wrong_of_sound('take others', $bank) // wrong_of_copies('take', $from, @pairs);
 }
 
 # Returns what is wrong with a run that must be refused by this line, or undef.
