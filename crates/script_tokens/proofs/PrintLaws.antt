@@ -21,21 +21,11 @@ encode_none : (ys : List ℕ) → encode_lower ([] ++ ys) ≡ encode_lower [] ++
 unfolding encode_with
 encode_none ys = refl
 
-encode_nothing : encode_lower [] ≡ []
+pub encode_nothing : encode_lower [] ≡ []
 unfolding encode_with
 encode_nothing = refl
 
-digits_at : (bytes digits : List ℕ) (i : ℕ) → i < length bytes → digits ≡ encode_lower (get_or bytes i 0 ∷ [])
-    → encode_lower (drop i bytes) ≡ digits ++ encode_lower (drop (i + 1) bytes)
-digits_at bytes digits i h d =
-    ap encode_lower (drop-cons bytes i 0 h) ∙ encode_first (get_or bytes i 0) (drop (suc i) bytes)
-    ∙ (let e : i + 1 ≡ suc i = omega arith in rw (e, d) refl)
-
-digits_over : (bytes : List ℕ) (i : ℕ) → length bytes ≤ i → encode_lower (drop i bytes) ≡ []
-unfolding encode_with
-digits_over bytes i h = ap encode_lower (drop_all i bytes h)
-
-encode_both : (xs ys : List ℕ) → encode_lower (xs ++ ys) ≡ encode_lower xs ++ encode_lower ys
+pub encode_both : (xs ys : List ℕ) → encode_lower (xs ++ ys) ≡ encode_lower xs ++ encode_lower ys
 encode_both [] ys = encode_none ys
 encode_both (b ∷ xs) ys =
     encode_first b (xs ++ ys)
@@ -71,18 +61,6 @@ module _ {W : Type 0} {c : W → Option (List ℕ)} where
   puts_line w ps h k l =
       puts_as ((w ++ flat_map spaced ps) ++ 10 ∷ []) (line_text w ps) (sym (line_spaced w ps))
       (puts_then (w ++ flat_map spaced ps) (10 ∷ []) (puts_then w (flat_map spaced ps) h k) l)
-
-  -- the digits of a byte
-  pub digits_on : {o p q : Output W} {whole : List ℕ} (bytes digits : List ℕ) (i : ℕ)
-      → Putting c o p whole (encode_lower (drop i bytes)) → i < length bytes
-      → digits ≡ encode_lower (get_or bytes i 0 ∷ []) → Puts c p q digits
-      → Putting c o q whole (encode_lower (drop (i + 1) bytes))
-  digits_on bytes digits i s h d k =
-      putting_step digits (encode_lower (drop (i + 1) bytes)) s (digits_at bytes digits i h d) k
-
-  pub digits_end : {o p : Output W} {whole : List ℕ} (bytes : List ℕ) (i : ℕ)
-      → Putting c o p whole (encode_lower (drop i bytes)) → length bytes ≤ i → Puts c o p whole
-  digits_end {o} {p} {whole} bytes i s h = let e = digits_over bytes i h in putting_end (rw e at s)
 
   -- the digits of a slice
   pub slices_on : {o p q : Output W} {whole : List ℕ} (slices : List (Bor (List ℕ))) (d : Bor (List ℕ)) (i : ℕ)

@@ -1,5 +1,5 @@
 //! Writes lines.
-ghost use Rattle.std.specs.Prelude.{◌≡◌, ◌++◌, ◌∷◌, [], decimal};
+ghost use Rattle.std.specs.Prelude.{◌≡◌, ◌≤◌, ◌++◌, ◌∷◌, [], length, decimal};
 ghost use Rattle.std.specs.List.{list_all, flat_map};
 ghost use Rattle.hex.specs.Hex.{encode_lower};
 ghost use Rattle.base_outputs.specs.Output.{Puts};
@@ -119,18 +119,20 @@ fn put_all_digits<W: Write>(slices: &[&[u8]], output: &mut Output<'_, W>)
 fn put_digits<W: Write>(bytes: &[u8], output: &mut Output<'_, W>)
     ensures { Puts W.contents output.old output.new (encode_lower bytes.now) }
 {
-    for byte in bytes {
-        output.put(&digits_of(*byte));
+    for few in bytes.chunks(256) {
+        put_few_digits(few, output);
     }
 }
 
-// The two hex digits of a byte.
-fn digits_of(byte: u8) -> [u8; 2]
-    ensures { result ≡ encode_lower (byte ∷ []) }
+// The digits of at most 256 bytes.
+fn put_few_digits<W: Write>(bytes: &[u8], output: &mut Output<'_, W>)
+    requires { length bytes.now ≤ 256 }
+    ensures { Puts W.contents output.old output.new (encode_lower bytes.now) }
 {
-    let mut pair = [0; 2];
-    hex::encode_to_slice(&[byte], &mut pair).unwrap();
-    pair
+    let mut buffer = [0; 512];
+    let digits = &mut buffer[..2 * bytes.len()];
+    hex::encode_to_slice(bytes, digits).unwrap();
+    output.put(digits);
 }
 
 fn all_quotable(bytes: &[u8]) -> bool
