@@ -17,10 +17,13 @@ pub enum PresetFault {
     /// The shifted bank number of this preset is above 65,535.
     #[error("the bank number would be too high")]
     BankTooHigh(PresetNumbers),
+    /// All numbers that a copy of this preset may get are in use.
+    #[error("no numbers are free for a copy")]
+    NoneFree(PresetNumbers),
 }
 
 impl PresetFault {
-    /// The number of the fault: from 67 to 69.
+    /// The number of the fault: from 67 to 70.
     pub fn number(self) -> u8
         ensures { result ≡ number_of self }
     {
@@ -28,6 +31,7 @@ impl PresetFault {
             PresetFault::Missing(_) => 67,
             PresetFault::InUse(_) => 68,
             PresetFault::BankTooHigh(_) => 69,
+            PresetFault::NoneFree(_) => 70,
         }
     }
 
@@ -39,6 +43,7 @@ impl PresetFault {
             PresetFault::Missing(_) => "NoSuchNumbers",
             PresetFault::InUse(_) => "NumbersInUse",
             PresetFault::BankTooHigh(_) => "BankTooHigh",
+            PresetFault::NoneFree(_) => "NoFreeNumbers",
         }
     }
 
@@ -50,6 +55,7 @@ impl PresetFault {
             PresetFault::Missing(numbers) => numbers,
             PresetFault::InUse(numbers) => numbers,
             PresetFault::BankTooHigh(numbers) => numbers,
+            PresetFault::NoneFree(numbers) => numbers,
         }
     }
 }

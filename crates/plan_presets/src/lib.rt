@@ -1,8 +1,8 @@
-//! The MIDI numbers of presets.
+//! The MIDI numbers of presets, and members to be copied.
 #![tactic(auto)]
 
 mod fault;
 mod numbers;
 
 pub use fault::PresetFault;
-pub use numbers::{PresetNumbers, TakenPreset};
+pub use numbers::{CopiedMember, PresetNumbers, TakenPreset};

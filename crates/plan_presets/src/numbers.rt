@@ -13,3 +13,12 @@ pub struct TakenPreset {
     pub from: PresetNumbers,
     pub to: PresetNumbers,
 }
+
+/// A member of a bank to be copied, by its index in its list. The copy of a preset gets these numbers or, with `None`,
+/// numbers that are free.
+#[derive(Debug, Drop, Clone, Copy, PartialEq, Eq)]
+pub enum CopiedMember {
+    Preset(u32, Option<PresetNumbers>),
+    Inst(u32),
+    Sample(u32),
+}
