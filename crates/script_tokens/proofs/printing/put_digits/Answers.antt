@@ -15,7 +15,7 @@ loop-few-preserved g c =
       tt,
       steps.0 ∙ c.loop-few.invariant.2,
       putting_step (encode_lower few) (encode_lower rest) c.loop-few.invariant.3
-      (ap encode_lower steps.1.0 ∙ encode_both few rest) c.put_few_digits.ensures,
+          (ap encode_lower steps.1.0 ∙ encode_both few rest) c.put_few_digits.ensures,
     )
 
 pub returns : goal.returns
