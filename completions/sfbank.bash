@@ -4,14 +4,15 @@
 _sfbank_options() {
   case $1 in
     apply) echo --force --neutral --help ;;
+    copy) echo --as --dry-run --force --name --script --help ;;
     diff | import | live | map | play | wave) echo --force --help ;;
-    keep) echo --dry-run --force --notes --preset --zones --help ;;
-    merge) echo --dry-run --force --shift --help ;;
+    keep) echo --dry-run --force --notes --preset --script --zones --help ;;
+    merge) echo --dry-run --force --script --shift --help ;;
     new) echo --force --minor --help ;;
     script) echo --force --no-points --help ;;
     show) echo --zones --uses --help ;;
-    take) echo --dry-run --force --preset --help ;;
-    tidy) echo --dry-run --force --help ;;
+    take) echo --dry-run --force --preset --script --help ;;
+    tidy) echo --dry-run --force --merge --script --help ;;
     canon | explain) echo --help ;;
     '') echo --help --version ;;
   esac
@@ -22,6 +23,7 @@ _sfbank_endings() {
   case $1 in
     apply) echo sf2 txt sf2 txt ;;
     canon) echo sf2 sf2 ;;
+    copy) echo sf2 preset/inst/sample - sf2 txt ;;
     diff) echo sf2 sf2 txt ;;
     explain) echo - ;;
     import) echo sf2 wav sf2 txt ;;
@@ -42,7 +44,7 @@ _sfbank_given() {
   local i
   for ((i = 1; i < COMP_CWORD; i++)); do
     case ${COMP_WORDS[i]} in
-      --minor | --notes | --preset | --shift)
+      --as | --minor | --name | --notes | --preset | --script | --shift)
         [ "${COMP_WORDS[i + 1]}" = = ] && ((i++))
         ((i++))
         while [[ ${COMP_WORDS[i + 1]} == [:=] ]]; do ((i += 2)); done
@@ -73,13 +75,13 @@ _sfbank_files() {
 _sfbank() {
   local word=${COMP_WORDS[COMP_CWORD]} before=${COMP_WORDS[COMP_CWORD - 1]}
   local given endings
-  local commands="apply canon diff explain help import keep live map merge new play script show take tidy wave"
+  local commands="apply canon copy diff explain help import keep live map merge new play script show take tidy wave"
   COMPREPLY=()
   mapfile -t given < <(_sfbank_given)
   read -ra endings < <(_sfbank_endings "${given[0]}")
-  if [[ $before == --notes || $before == = && ${COMP_WORDS[COMP_CWORD - 2]} == --notes ]]; then
+  if [[ $before == --@(notes|script) || $before == = && ${COMP_WORDS[COMP_CWORD - 2]} == --@(notes|script) ]]; then
     _sfbank_files txt "${word#=}"
-  elif [[ $before == --@(minor|preset|shift) || $before == [:=] || $word == [:=] ]]; then
+  elif [[ $before == --@(as|minor|name|preset|shift) || $before == [:=] || $word == [:=] ]]; then
     return
   elif [[ $word == -* ]]; then
     mapfile -t COMPREPLY < <(compgen -W "$(_sfbank_options "${given[0]}")" -- "$word")

@@ -6,7 +6,7 @@ function __sfbank_given
     for word in (commandline -opc)[2..]
         if test $is_value = yes
             set is_value no
-        else if contains -- "$word" --minor --notes --preset --shift
+        else if contains -- "$word" --as --minor --name --notes --preset --script --shift
             set is_value yes
         else if not string match -q -- '-*' $word
             echo $word
@@ -34,6 +34,8 @@ function __sfbank_files
             set endings sf2 txt sf2 txt
         case canon
             set endings sf2 sf2
+        case copy
+            set endings sf2 preset/inst/sample - sf2 txt
         case diff
             set endings sf2 sf2 txt
         case explain
@@ -68,11 +70,12 @@ function __sfbank_files
     end
 end
 
-set -l commands apply canon diff explain import keep live map merge new play script show take tidy wave
+set -l commands apply canon copy diff explain import keep live map merge new play script show take tidy wave
 
 complete -c sfbank -f
 complete -c sfbank -n __sfbank_is_bare -a apply -d 'Run a script of edits on a bank, and write its undo script'
 complete -c sfbank -n __sfbank_is_bare -a canon -d 'Write a bank in its canonical form'
+complete -c sfbank -n __sfbank_is_bare -a copy -d 'Copy a preset, an instrument or a sample to the end of its list'
 complete -c sfbank -n __sfbank_is_bare -a diff -d 'Write a script that turns bank A into bank B'
 complete -c sfbank -n __sfbank_is_bare -a explain -d 'Explain a fault or a refusal, and what to do about it'
 complete -c sfbank -n __sfbank_is_bare -a help -d 'Print the help of the program or of a command'
@@ -94,28 +97,38 @@ complete -c sfbank -n "__sfbank_is $commands" -k -a '(__sfbank_files)'
 complete -c sfbank -n 'not __sfbank_is help' -s h -l help -d 'Print help'
 complete -c sfbank -n __sfbank_is_bare -s V -l version -d 'Print version'
 complete -c sfbank -n '__sfbank_is apply' -l force -d 'Write UNDO even if a bank is there'
+complete -c sfbank -n '__sfbank_is copy' -l force -d 'Write UNDO and FILE even if a bank is there'
 complete -c sfbank -n '__sfbank_is diff' -l force -d 'Write OUT even if a bank is there'
 complete -c sfbank -n '__sfbank_is import' -l force -d 'Write UNDO even if a bank is there'
-complete -c sfbank -n '__sfbank_is keep' -l force -d 'Write UNDO even if a bank is there'
+complete -c sfbank -n '__sfbank_is keep' -l force -d 'Write UNDO and FILE even if a bank is there'
 complete -c sfbank -n '__sfbank_is live' -l force -d 'Write PCM, and UNDO of each save, even if a bank is there'
 complete -c sfbank -n '__sfbank_is map' -l force -d 'Write OUT even if a bank is there'
-complete -c sfbank -n '__sfbank_is merge' -l force -d 'Write UNDO even if a bank is there'
+complete -c sfbank -n '__sfbank_is merge' -l force -d 'Write UNDO and FILE even if a bank is there'
 complete -c sfbank -n '__sfbank_is new' -l force -d 'Write OUT even if a bank is there'
 complete -c sfbank -n '__sfbank_is play' -l force -d 'Write OUT even if a bank is there'
 complete -c sfbank -n '__sfbank_is script' -l force -d 'Write OUT even if a bank is there'
-complete -c sfbank -n '__sfbank_is take' -l force -d 'Write UNDO even if a bank is there'
-complete -c sfbank -n '__sfbank_is tidy' -l force -d 'Write UNDO even if a bank is there'
+complete -c sfbank -n '__sfbank_is take' -l force -d 'Write UNDO and FILE even if a bank is there'
+complete -c sfbank -n '__sfbank_is tidy' -l force -d 'Write UNDO and FILE even if a bank is there'
 complete -c sfbank -n '__sfbank_is wave' -l force -d 'Write OUT even if a bank is there'
 complete -c sfbank -n '__sfbank_is apply' -l neutral -d 'Accept only edits of the thirteen neutral forms'
+complete -c sfbank -n '__sfbank_is copy' -l dry-run -d 'Print the script of edits, and save nothing'
+complete -c sfbank -n '__sfbank_is copy' -l script -r -k -a '(__fish_complete_suffix .txt)' -d 'Save the edits too'
+complete -c sfbank -n '__sfbank_is copy' -l as -x -d 'Give the copy of a preset these numbers, BANK:NUMBER'
+complete -c sfbank -n '__sfbank_is copy' -l name -x -d 'Give the copy this name'
 complete -c sfbank -n '__sfbank_is keep' -l dry-run -d 'Print the script of edits, and save nothing'
+complete -c sfbank -n '__sfbank_is keep' -l script -r -k -a '(__fish_complete_suffix .txt)' -d 'Save the edits too'
 complete -c sfbank -n '__sfbank_is keep' -l notes -r -k -a '(__fish_complete_suffix .txt)' -d 'Keep the presets of these notes'
 complete -c sfbank -n '__sfbank_is keep' -l preset -x -d 'Keep the presets with these numbers, BANK:NUMBER'
 complete -c sfbank -n '__sfbank_is keep' -l zones -d 'Remove zones too that none of these notes selects'
 complete -c sfbank -n '__sfbank_is merge' -l dry-run -d 'Print the script of edits, and save nothing'
+complete -c sfbank -n '__sfbank_is merge' -l script -r -k -a '(__fish_complete_suffix .txt)' -d 'Save the edits too'
 complete -c sfbank -n '__sfbank_is merge' -l shift -x -d 'Add this to the bank number of each preset of FROM'
 complete -c sfbank -n '__sfbank_is take' -l dry-run -d 'Print the script of edits, and save nothing'
+complete -c sfbank -n '__sfbank_is take' -l script -r -k -a '(__fish_complete_suffix .txt)' -d 'Save the edits too'
 complete -c sfbank -n '__sfbank_is take' -l preset -x -d 'Copy the preset with these numbers, BANK:NUMBER or FROM=TO'
 complete -c sfbank -n '__sfbank_is tidy' -l dry-run -d 'Print the script of edits, and save nothing'
+complete -c sfbank -n '__sfbank_is tidy' -l script -r -k -a '(__fish_complete_suffix .txt)' -d 'Save the edits too'
+complete -c sfbank -n '__sfbank_is tidy' -l merge -d 'Join equal samples and equal instruments too'
 complete -c sfbank -n '__sfbank_is new' -l minor -x -d 'The minor version, 4 by default'
 complete -c sfbank -n '__sfbank_is script' -l no-points -d 'Leave the points of the samples out'
 complete -c sfbank -n '__sfbank_is show' -l zones -d 'Tell the zones of each preset and instrument too'

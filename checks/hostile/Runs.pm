@@ -82,7 +82,7 @@ sub status_of {
     return $FAULTS{$1} && $FAULTS{$1} eq $2 && $1 >= 41 && $1 <= 47 ? 3 : undef if $line =~ /^sfbank: line [1-9]\d*: fault (\d+) (\w+)\n\z/;
     return $FAULTS{$1} && $FAULTS{$1} eq $2 && $1 >= 53 ? 2 : undef if $line =~ /^sfbank: wave fault (\d+) (\w+)\n\z/;
     return 4 if $line =~ /^sfbank: line [1-9]\d*: refused 50 NotNeutral\n\z/;
-    return 4 if $line =~ /^sfbank: refused (?:67 NoSuchNumbers|68 NumbersInUse|69 BankTooHigh) \d+:\d+\n\z/;
+    return 4 if $line =~ /^sfbank: refused (?:67 NoSuchNumbers|68 NumbersInUse|69 BankTooHigh|70 NoFreeNumbers) \d+:\d+\n\z/;
     return is_cause($1) ? 4 : undef if $line =~ /^sfbank: refused (37 Full \w+|\d+ NoSuch\w+)\n\z/;
     return is_cause($1) ? 4 : undef if $line =~ /^sfbank: line [1-9]\d*: refused (?:48 GroupRefused \d+ )?(.*)\n\z/;
     return 5 if $line =~ /^sfbank: (?:file fault [^\n]*|write fault [^\n]* after \d+ bytes|output fault 6[45] \w+ [^\n]*)\n\z/;

@@ -33,12 +33,14 @@ sub wrong_of_dry_run {
     return $wrong // (join('', map { read_bytes($_) } qw(out undo)) eq "before\n" x 2 ? undef : 'a dry run saves a file');
 }
 
-# Returns what is wrong with the run that replaces the bank itself, or undef.
+# Returns what is wrong with the run that replaces the bank itself and saves its script, or undef.
 sub wrong_of_replacement {
     my ($plan, $bank, @others) = @_;
     write_bytes('over', read_bytes($bank));
-    my $wrong = done(run_command(words_of($plan, 'over', @others, 'over', 'over.undo'), 'over.undo'));
-    return $wrong // (same('over', 'out') && same('over.undo', 'undo') ? undef : 'another bank, or another undo script, where OUT is IN');
+    my $saving = [@$plan, '--script', 'over.edits'];
+    my $wrong = done(run_command(words_of($saving, 'over', @others, 'over', 'over.undo'), 'over.undo', 'over.edits'));
+    $wrong //= same('over', 'out') && same('over.undo', 'undo') ? undef : 'another bank, or another undo script, where OUT is IN';
+    return $wrong // (same('over.edits', 'edits') ? undef : 'saves another script than its dry run prints');
 }
 
 # Returns what is wrong with a plan on a bank, which may have other inputs, or undef. It leaves `out`, `undo` and `edits`;
@@ -121,6 +123,20 @@ sub wrong_of_tidy {
     return $wrong // wrong_of_sound('tidy', $bank) // wrong_of_neutral($bank) // wrong_of_second();
 }
 
+# The same with `--merge`, whose script need not be neutral.
+sub wrong_of_merging_tidy {
+    my ($bank, $in) = @_;
+    my $wrong = wrong_of_plan(['tidy', '--merge'], $bank);
+    return $wrong if defined $wrong;
+    count_edits('tidy --merge');
+    my $out = listed('out');
+    my @unused = unused_in($out);
+    my @lonely = lonely_links_in($out);
+    $wrong = $out->{wrong} // (@unused ? "$unused[0] is unused" : @lonely ? "$lonely[0] has no link back" : undef);
+    write_bytes('notes', note_lines(24, numbers_of($in)));
+    return $wrong // wrong_of_sound('tidy --merge', $bank) // wrong_of_second('--merge');
+}
+
 sub wrong_of_neutral {
     my ($bank) = @_;
     local @Runs::flags = ('--neutral');
@@ -129,7 +145,8 @@ sub wrong_of_neutral {
 }
 
 sub wrong_of_second {
-    my $run = run(['tidy', '--dry-run', 'out', 'none', 'none.undo'], 'edits');
+    my (@options) = @_;
+    my $run = run(['tidy', @options, '--dry-run', 'out', 'none', 'none.undo'], 'edits');
     my $wrong = is_right($run, -s 'out') // ($run->{status} ? $run->{line} : undef);
     my ($other) = split /\n/, read_bytes('edits');
     return $wrong // (defined $other ? "is tidied again by $other" : undef);
@@ -220,6 +237,7 @@ sub try_plans {
     my $wrong = $in->{wrong} // wrong_of_canon($bank);
     return report($name, $wrong) if defined $wrong;
     report("$name: tidy", wrong_of_tidy($bank, $in));
+    report("$name: tidy --merge", wrong_of_merging_tidy($bank, $in));
     report("$name: keep by numbers", wrong_of_keep_by_numbers($bank, $in));
     report("$name: keep by notes", wrong_of_keep_by_notes($bank, $in));
     report("$name: keep by zones", wrong_of_keep_zones($bank, $in));

@@ -1,5 +1,5 @@
-# Tests the table `rejected`: runs of `tidy` and `keep` that are rejected or have a fault, as they are and with
-# `--dry-run`. Each prints its line, and no file is made or changed.
+# Tests the table `rejected`: runs of plans that are rejected or have a fault, as they are and, but for those with
+# `--script`, with `--dry-run`. Each prints its line, and no file is made or changed.
 package Rejections;
 use strict;
 use warnings;
@@ -41,7 +41,7 @@ sub try_rejections {
         my ($words, $answer) = @$_;
         my ($status, $line) = $answer =~ /^(\d) ?(.*)$/;
         report($words, wrong_of_rejection($words, $status, $line));
-        report("$words --dry-run", wrong_of_rejection("$words --dry-run", $status, $line));
+        report("$words --dry-run", wrong_of_rejection("$words --dry-run", $status, $line)) if $words !~ /--script/;
     }
 }
 

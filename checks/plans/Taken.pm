@@ -7,7 +7,7 @@ use Listed;
 use Plans;
 use Runs;
 use Exporter 'import';
-our @EXPORT = qw(try_take wrong_of_copies wrong_of_first_parts wrong_of_refused);
+our @EXPORT = qw(try_take free_numbers wrong_of_copies wrong_of_first_parts wrong_of_refused);
 
 # Returns numbers that no preset of a bank has and that are not among these.
 sub free_numbers {

@@ -66,8 +66,9 @@ sub try_words {
     my ($words, $line) = @_;
     my (undef, @words) = split ' ', $words;
     my $run = run(\@words);
-    my $wrong = ends($run, 1, defined $line ? "$line\n" : $run->{line});
-    report($words, $wrong // ($run->{line} eq '' ? 'prints nothing' : undef));
+    my ($first) = $run->{line} =~ /^(.+)\n/;
+    my $wrong = ends($run, 1, $run->{line});
+    report($words, $wrong // (!defined $first || defined $line && $first ne $line ? "'$run->{line}'" : undef));
 }
 
 # Runs the program with a file size limit of seven bytes, and returns its status. Pipes have no limit.

@@ -5,6 +5,7 @@ pub mod ShiftLaws
 pub mod VoiceLaws
 pub mod MatchLaws
 pub mod RenderLaws
+pub mod DuplicateLaws
 pub mod JoinLaws
 pub mod AdditionLaws
 pub mod MergeLaws

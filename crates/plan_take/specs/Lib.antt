@@ -7,3 +7,4 @@ pub mod Additions
 pub mod Sorted
 pub mod Shifted
 pub mod Merging
+pub mod RemovingDuplicates

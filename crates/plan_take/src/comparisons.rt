@@ -33,7 +33,8 @@ pub(crate) fn are_copied(
 
 // ---- instruments
 
-fn instruments_match(
+/// Whether each instrument that has a number matches the instrument with that number, given the numbers of samples.
+pub(crate) fn instruments_match(
     from: &Owners<Name20>,
     to: &Owners<Name20>,
     numbers: &[Option<u16>],

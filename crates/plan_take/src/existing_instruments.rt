@@ -1,9 +1,10 @@
 //! Instruments of a bank that are equal to instruments of the other bank. They are found by hash keys, and compared.
 use crate::member_index::MemberIndex;
+use crate::names::Names;
 use crate::numbers::renumbered_target;
 use crate::zone_matches::is_renumbered;
 use bank_core::{Owners, ZonePlace};
-use diff_orders::{EMPTY_KEY, with_bytes, with_number};
+use diff_orders::{EMPTY_KEY, with_number};
 use modulators::Modulator;
 use sf_base::{Name20, OutOfMemory};
 use std::alloc::Global;
@@ -37,7 +38,7 @@ fn existing_instrument(
     i: usize,
     samples: &[Option<u16>],
 ) -> Option<u16> {
-    let j = index.first(instrument_key(wanted, i, Some(samples)))?;
+    let j = index.first(instrument_key(wanted, i, Some(samples), Names::Compared))?;
     if is_renumbered(wanted, i, had, j, samples) && has_same_name(wanted, i, had, j) {
         return u16::try_from(j).ok();
     }
@@ -51,17 +52,22 @@ fn has_same_name(a: &Owners<Name20>, i: usize, b: &Owners<Name20>, j: usize) -> 
 fn instrument_keys(alloc: Global, instruments: &Owners<Name20>) -> Result<Vec<u64>, OutOfMemory> {
     let mut keys = Vec::with_capacity(alloc, instruments.len())?;
     for i in 0..instruments.len() {
-        keys.push(instrument_key(instruments, i, None))?;
+        keys.push(instrument_key(instruments, i, None, Names::Compared))?;
     }
     Ok(keys)
 }
 
-// The key of instrument `i`, with its targets renumbered if numbers are given.
-fn instrument_key(instruments: &Owners<Name20>, i: usize, samples: Option<&[Option<u16>]>) -> u64 {
+/// The key of instrument `i`, with its targets renumbered if numbers are given.
+pub(crate) fn instrument_key(
+    instruments: &Owners<Name20>,
+    i: usize,
+    samples: Option<&[Option<u16>]>,
+    names: Names,
+) -> u64 {
     if i >= instruments.len() {
         return EMPTY_KEY;
     }
-    let key = with_bytes(EMPTY_KEY, instruments.head(i).bytes());
+    let key = names.with_name(EMPTY_KEY, instruments.head(i));
     let mut key = place_key(key, instruments, i, ZonePlace::Global);
     for k in 0..instruments.zone_count(i) {
         let target = instruments.target(i, k);

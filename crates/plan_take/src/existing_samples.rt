@@ -1,22 +1,23 @@
 //! Samples of a bank that are equal to samples of the other bank. They are found by hash keys, and compared.
 use crate::member_index::MemberIndex;
+use crate::names::Names;
 use crate::numbers::{link_of, number_of, renumbered_kind};
 use crate::sample_matches::is_match;
 use bank_core::{Kind, Sample};
-use diff_orders::{EMPTY_KEY, with_bytes, with_number};
+use diff_orders::{EMPTY_KEY, with_number};
 use sample_view::Points;
 use sf_base::OutOfMemory;
 use std::alloc::Global;
 
 /// For each sample that is needed, the number of an equal one that the bank has, with the same link. A link to a sample
 /// that isn't needed doesn't count.
-pub(crate) fn existing_samples(
+pub(crate) fn existing_samples<'a>(
     alloc: Global,
-    had: &[Sample<'_>],
-    wanted: &[Sample<'_>],
+    had: &[Sample<'a>],
+    wanted: &[Sample<'a>],
     needed: &[bool],
 ) -> Result<Vec<Option<u16>>, OutOfMemory> {
-    let alike = alike_samples(alloc, had, wanted, needed)?;
+    let alike = alike_samples(alloc, had, wanted, needed, Names::Compared)?;
     let mut numbers = Vec::with_capacity(alloc, wanted.len())?;
     for (i, sample) in wanted.iter().enumerate() {
         let kind = renumbered_kind(alike.as_slice(), kept_kind(sample.kind, needed));
@@ -25,19 +26,20 @@ pub(crate) fn existing_samples(
     Ok(numbers)
 }
 
-// For each sample that is needed, the number of one that is equal except for the number of its link.
-fn alike_samples(
+/// For each sample that is needed, the number of the first one that is equal except for the number of its link.
+pub(crate) fn alike_samples<'a>(
     alloc: Global,
-    had: &[Sample<'_>],
-    wanted: &[Sample<'_>],
+    had: &[Sample<'a>],
+    wanted: &[Sample<'a>],
     needed: &[bool],
+    names: Names,
 ) -> Result<Vec<Option<u16>>, OutOfMemory> {
-    let keys = sample_keys(alloc, had)?;
+    let keys = sample_keys(alloc, had, names)?;
     let index = MemberIndex::new(alloc, keys.as_slice())?;
     let mut numbers = Vec::with_capacity(alloc, wanted.len())?;
     for (i, sample) in wanted.iter().enumerate() {
         let number = if needed.get(i) == Some(&true) {
-            alike_sample(had, &index, sample, needed)
+            alike_sample(had, &index, sample, needed, names)
         } else {
             None
         };
@@ -51,10 +53,12 @@ fn alike_sample(
     index: &MemberIndex,
     wanted: &Sample<'_>,
     needed: &[bool],
+    names: Names,
 ) -> Option<u16> {
-    let number = index.first(sample_key(wanted, kept_kind(wanted.kind, needed)))?;
+    let kind = kept_kind(wanted.kind, needed);
+    let number = index.first(sample_key(wanted, kind, names))?;
     let sample = had.get(number)?;
-    if sample.name == wanted.name && is_match(wanted, sample) {
+    if names.are_equal(&sample.name, &wanted.name) && is_match(wanted, sample) {
         return u16::try_from(number).ok();
     }
     None
@@ -77,17 +81,21 @@ fn number_of_kind(samples: &[Sample<'_>], number: Option<u16>, kind: Kind) -> Op
     None
 }
 
-fn sample_keys(alloc: Global, samples: &[Sample<'_>]) -> Result<Vec<u64>, OutOfMemory> {
+fn sample_keys(
+    alloc: Global,
+    samples: &[Sample<'_>],
+    names: Names,
+) -> Result<Vec<u64>, OutOfMemory> {
     let mut keys = Vec::with_capacity(alloc, samples.len())?;
     for sample in samples {
-        keys.push(sample_key(sample, sample.kind))?;
+        keys.push(sample_key(sample, sample.kind, names))?;
     }
     Ok(keys)
 }
 
 // The key of a sample of this kind, whatever the number of its link.
-fn sample_key(sample: &Sample<'_>, kind: Kind) -> u64 {
-    let key = with_bytes(points_key(&sample.points), sample.name.bytes());
+fn sample_key(sample: &Sample<'_>, kind: Kind, names: Names) -> u64 {
+    let key = names.with_name(points_key(&sample.points), &sample.name);
     let key = with_number(key, sample.rate.into());
     let key = with_number(key, sample.key.into());
     let key = with_number(key, sample.correction.cast_unsigned().into());
@@ -98,7 +106,8 @@ fn sample_key(sample: &Sample<'_>, kind: Kind) -> u64 {
     )
 }
 
-fn form_of(kind: Kind) -> u64 {
+/// A number for the form of a kind, whatever its link.
+pub(crate) fn form_of(kind: Kind) -> u64 {
     match kind {
         Kind::Mono => 0,
         Kind::Right(_) => 1,
@@ -107,15 +116,29 @@ fn form_of(kind: Kind) -> u64 {
     }
 }
 
-// How many points at each end of a sample are in its key.
+// How many points at each end of a sample are in its key, and how many between, at equal distances.
 const ENDS: usize = 16;
+
+const BETWEEN: usize = 64;
 
 fn points_key(points: &Points<'_>) -> u64 {
     let count = points.len();
-    let mut key = with_number(EMPTY_KEY, count as u64);
+    let mut key = with_points_between(with_number(EMPTY_KEY, count as u64), points);
     for i in 0..count.min(ENDS) {
         key = with_point(key, points.point(i));
         key = with_point(key, points.point(count - 1 - i));
+    }
+    key
+}
+
+fn with_points_between(key: u64, points: &Points<'_>) -> u64 {
+    let distance = points.len() / BETWEEN + 1;
+    let mut key = key;
+    for i in 0..BETWEEN {
+        let at = distance.saturating_mul(i);
+        if at < points.len() {
+            key = with_point(key, points.point(at));
+        }
     }
     key
 }

@@ -4,7 +4,7 @@ ghost use Rattle.plan_take.specs.Additions.{AddsMembers};
 
 use crate::existing_instruments::existing_instruments;
 use crate::neutral_steps::edit_neutrally;
-use crate::numbers::{is_missing, next_number, set_number};
+use crate::numbers::{is_missing, set_number, step_number};
 use crate::owner_copies::copy_owner;
 use bank_core::Owners;
 use edit_drafts::{Draft, Stop};
@@ -93,7 +93,7 @@ fn add_instrument(
     ensures { AddsMembers draft.old draft.new }
 {
     let count = draft.bank().instruments().len();
-    let step = add_step(alloc, next_number(count), from, i, samples)?;
+    let step = add_step(alloc, step_number(count), from, i, samples)?;
     edit_neutrally(alloc, draft, step)?;
     Ok(u16::try_from(count).ok())
 }

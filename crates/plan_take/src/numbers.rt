@@ -18,9 +18,9 @@ pub(crate) fn is_missing(needed: &[bool], numbers: &[Option<u16>], member: usize
     needed.get(member) == Some(&true) && number_of(numbers, member).is_none()
 }
 
-/// The number of a member that is added to a list of `count` members.
-pub(crate) fn next_number(count: usize) -> u32 {
-    u32::try_from(count).unwrap_or(u32::MAX)
+/// The number of a member as steps have it.
+pub(crate) fn step_number(member: usize) -> u32 {
+    u32::try_from(member).unwrap_or(u32::MAX)
 }
 
 /// A target with its new number.

@@ -6,7 +6,7 @@ ghost use Rattle.plan_presets.specs.declared.numbers.TakenPreset.{TakenPreset};
 ghost use Rattle.plan_take.specs.Additions.{KeepsVoices, AddsPresets};
 ghost use Rattle.plan_take.specs.Merging.{taken_shifted, shifted_numbers};
 
-use crate::numbers::next_number;
+use crate::numbers::step_number;
 use crate::owner_copies::copy_owner;
 use crate::preset_search::find_preset;
 use bank_core::{Bank, Head, List, Owners, Preset};
@@ -120,6 +120,6 @@ fn add_preset(alloc: Global, draft: &mut Draft<'_, '_>, preset: Preset) -> Resul
     ensures first { draft.new.first ≡ draft.old.first }
     ensures others { KeepsVoices (record { bank = preset.head.bank; number = preset.head.number }) draft.old.bank draft.new.bank }
 {
-    let at = next_number(draft.bank().count(List::Presets));
+    let at = step_number(draft.bank().count(List::Presets));
     draft.edit(alloc, Step::Preset(PresetStep::AddPreset { at, preset }))
 }

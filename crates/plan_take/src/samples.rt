@@ -4,7 +4,7 @@ ghost use Rattle.plan_take.specs.Additions.{AddsMembers};
 
 use crate::existing_samples::existing_samples;
 use crate::neutral_steps::edit_neutrally;
-use crate::numbers::{is_missing, next_number, number_of, renumbered_kind, set_number};
+use crate::numbers::{is_missing, number_of, renumbered_kind, set_number, step_number};
 use bank_core::{Bank, Kind, Sample};
 use bank_parts::TryClone;
 use edit_drafts::{Draft, Stop};
@@ -95,7 +95,7 @@ fn add_sample<'a>(
     ensures { AddsMembers draft.old draft.new }
 {
     let count = draft.bank().samples().len();
-    let step = add_step(alloc, next_number(count), sample, numbers)?;
+    let step = add_step(alloc, step_number(count), sample, numbers)?;
     edit_neutrally(alloc, draft, step)?;
     Ok(u16::try_from(count).ok())
 }

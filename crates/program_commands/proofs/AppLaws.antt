@@ -1,7 +1,7 @@
--- The commands of sfbank read the same words alike, wherever the level words lie.
+-- The commands of sfbank read the same words alike, wherever the words of their operands lie.
 use Rattle.std.proofs.Common.{◌≡◌, ◌∙◌, ◌∷◌, ◌||◌, Bool, true, false, List, [], Option, Some, None, ap, ap₂, map}
-use Rattle.std.proofs.Common.{option_map, refl, sym}
-use Rattle.std.specs.Prelude.{find, if◌then◌else◌, is_some, codes}
+use Rattle.std.proofs.Common.{◌==◌, length, option_map, refl, subst, sym}
+use Rattle.std.specs.Prelude.{find, if◌then◌else◌, is_some}
 use Rattle.std.specs.Borrow.{Bor}
 use Rattle.std.specs.List.{list_any}
 use Rattle.std.specs.Option.{option_map_or}
@@ -14,7 +14,9 @@ use Rattle.clap.specs.Words.{App, Row, Shape, Text, is_simple, subcommand_of}
 use Rattle.clap.specs.declared.error.kind.ErrorKind.TheVariants.{InvalidValue}
 use Rattle.clap.specs.declared.builder.ValueParser.{ValueParser}
 use Rattle.clap.specs.declared.builder.ValueParser.TheVariants.{Names}
-use Rattle.program_commands.specs.Commands.{LevelWords, app_with, level_names, level_words, sfbank_app, texts_of}
+use Rattle.program_commands.specs.declared.commands.WordParsers.{WordParsers}
+use Rattle.program_commands.specs.Commands.{WordList, app_with, at_no_address, level_words, member_words, parsers_of}
+use Rattle.program_commands.specs.Commands.{sfbank_app, texts_of}
 use Rattle.program_commands.proofs.FaultLaws.{level_fault_same}
 use Rattle.program_commands.proofs.WalkLaws.{rows_same, with_other}
 
@@ -25,15 +27,23 @@ at_addresses (place ∷ places) [] = []
 at_addresses (place ∷ places) (word ∷ words) =
     record { ref_ptr = place.ref_ptr; now = word.now } ∷ at_addresses places words
 
--- the parser with its names at the addresses of these
-abbrev pub with_levels : LevelWords → ValueParser → ValueParser
-with_levels levels (Names names) = Names (record { ref_ptr = levels.ref_ptr; now = at_addresses levels.now names.now })
-with_levels levels parser = parser
+-- the addresses for a list of words: only that of the levels has two
+abbrev pub places_for : WordList → WordList → List (Bor Text) → WordList
+places_for levels members names = if length names == 2 then levels else members
 
-pub levels_read : (levels : LevelWords) (parser : ValueParser) → reading_of (with_levels levels parser)
+-- words at other addresses
+abbrev pub moved_to : WordList → WordList → WordList
+moved_to places names = record { ref_ptr = places.ref_ptr; now = at_addresses places.now names.now }
+
+-- the parser with its names at the addresses of these
+abbrev pub with_places : WordList → WordList → ValueParser → ValueParser
+with_places levels members (Names names) = Names (moved_to (places_for levels members names.now) names)
+with_places levels members parser = parser
+
+pub names_read : (levels members : WordList) (parser : ValueParser) → reading_of (with_places levels members parser)
     ≡ reading_of parser
-levels_read levels (Names names) = refl
-levels_read levels _ = refl
+names_read levels members (Names names) = refl
+names_read levels members _ = refl
 
 any_same : (ignore_case : Bool) (text : Text) (places words : List (Bor Text))
     → list_any (λ name. same_text ignore_case name.now text) (at_addresses places words)
@@ -43,32 +53,43 @@ any_same ignore_case text (place ∷ places) [] = refl
 any_same ignore_case text (place ∷ places) (word ∷ words) =
     ap (λ b. same_text ignore_case word.now text || b) (any_same ignore_case text places words)
 
-pub levels_accept : (levels : LevelWords) (ignore_case : Bool) (parser : ValueParser) (text : Text)
-    → value_kinds ignore_case (with_levels levels parser) text ≡ value_kinds ignore_case parser text
-levels_accept levels ignore_case (Names names) text =
-    ap (λ (b : Bool). if b then [] else InvalidValue ∷ []) (any_same ignore_case text levels.now names.now)
-levels_accept levels ignore_case _ text = refl
+pub names_accept : (levels members : WordList) (ignore_case : Bool) (parser : ValueParser) (text : Text)
+    → value_kinds ignore_case (with_places levels members parser) text ≡ value_kinds ignore_case parser text
+names_accept levels members ignore_case (Names names) text =
+    ap (λ (b : Bool). if b then [] else InvalidValue ∷ [])
+    (any_same ignore_case text (places_for levels members names.now).now names.now)
+names_accept levels members ignore_case _ text = refl
 
--- the level words at some addresses are those at no address, moved there
-levels_moved : (levels : LevelWords) → texts_of levels ≡ level_words → with_levels levels (Names level_names)
-    ≡ Names levels
-levels_moved levels words = ap (λ (ws : List (Bor Text)). Names (record { ref_ptr = levels.ref_ptr; now = ws }))
-    (go levels.now words)
-  where
-    go : (places : List (Bor Text)) → map (λ word. word.now) places ≡ level_words
-        → at_addresses places level_names.now ≡ places
-    go [] e = absurd cc
-    go (a ∷ []) e = absurd cc
-    go (a ∷ b ∷ []) e =
-        let first : a.now ≡ codes "preset" = cc in
-        let second : b.now ≡ codes "inst" = cc in
-        ap₂ (λ (x y : Text). record { ref_ptr = a.ref_ptr; now = x } ∷ record { ref_ptr = b.ref_ptr; now = y } ∷ [])
-        (sym first) (sym second)
-    go (a ∷ b ∷ d ∷ rest) e = absurd cc
+-- words are at their own addresses
+own_addresses : (places : List (Bor Text)) → at_addresses places (at_no_address (map (λ word. word.now) places)).now
+    ≡ places
+own_addresses [] = refl
+own_addresses (place ∷ places) = ap (λ (rest : List (Bor Text)). place ∷ rest) (own_addresses places)
 
-module _ (levels : LevelWords) where
+-- words at no address that are moved there
+words_moved : (places : WordList) (words : List Text) → texts_of places ≡ words
+    → moved_to places (at_no_address words) ≡ places
+words_moved places words same =
+    let moved : List Text → Type 0 = λ ts. moved_to places (at_no_address ts) ≡ places in
+    subst moved same
+    (ap (λ (ws : List (Bor Text)). record { ref_ptr = places.ref_ptr; now = ws }) (own_addresses places.now))
+
+module _ (levels members : WordList) where
+  -- the parsers of words at no address, moved there
+  abbrev pub moved_parsers : WordParsers
+  moved_parsers = record {
+    levels = with_places levels members (Names (at_no_address level_words));
+    members = with_places levels members (Names (at_no_address member_words));
+  }
+
+  parsers_moved : texts_of levels ≡ level_words → texts_of members ≡ member_words
+      → moved_parsers ≡ parsers_of levels members
+  parsers_moved first second = ap₂ parsers_of (words_moved levels level_words first)
+      (words_moved members member_words second)
+
   abbrev pub shape_at : Shape → Shape
-  shape_at s = record s { rules = map (with_other (with_levels levels) (levels_read levels)) s.rules }
+  shape_at s =
+      record s { rules = map (with_other (with_places levels members) (names_read levels members)) s.rules }
 
   found_at : (word : Text) (subs : List Shape) → find (λ s. answers_to word (label_of s)) (map shape_at subs)
       ≡ option_map shape_at (find (λ s. answers_to word (label_of s)) subs)
@@ -87,7 +108,7 @@ module _ (levels : LevelWords) where
       → option_map (λ s. rows_at s words) (option_map shape_at o) ≡ option_map (λ s. rows_at s words) o
   rows_at_same None words = refl
   rows_at_same (Some s) words = ap (λ (rows : List Row). Some (s.name, rows))
-      (rows_same (with_levels levels) (levels_read levels) s.rules [] words)
+      (rows_same (with_places levels members) (names_read levels members) s.rules [] words)
 
   entered_same : (app : App) (stop : Option (Text × List Text))
       → entered (record app { subs = map shape_at app.subs }) stop ≡ entered app stop
@@ -100,7 +121,8 @@ module _ (levels : LevelWords) where
       ≡ option_map_or (λ s. level_fault s [] nothing_held words false []) o []
   faults_at_same None words = refl
   faults_at_same (Some s) words =
-      level_fault_same (with_levels levels) (levels_read levels) (levels_accept levels) s [] words false []
+      level_fault_same (with_places levels members) (names_read levels members) (names_accept levels members) s []
+      words false []
 
   entered_fault_same : (app : App) (stop : Option (Text × List Text))
       → entered_fault (record app { subs = map shape_at app.subs }) stop ≡ entered_fault app stop
@@ -110,12 +132,12 @@ module _ (levels : LevelWords) where
       ∙ faults_at_same (find (λ s. answers_to p.0 (label_of s)) app.subs) p.1
 
   moved_subcommand : (words : List Text)
-      → subcommand_of (app_with (with_levels levels (Names level_names))) words ≡ subcommand_of sfbank_app words
+      → subcommand_of (app_with moved_parsers) words ≡ subcommand_of sfbank_app words
   moved_subcommand words = entered_same (built sfbank_app)
       (stop_after (built sfbank_app).top.rules (names_of (built sfbank_app)) (argument_words sfbank_app words))
 
   moved_fault : (words : List Text)
-      → fault_of (app_with (with_levels levels (Names level_names))) words ≡ fault_of sfbank_app words
+      → fault_of (app_with moved_parsers) words ≡ fault_of sfbank_app words
   moved_fault words =
       let app = built sfbank_app in
       let given = argument_words sfbank_app words in
@@ -124,20 +146,21 @@ module _ (levels : LevelWords) where
       (ap is_some (entered_same app stop)) (entered_fault_same app stop)
 
   -- the same command is used, with the same rows
-  pub subcommand_same : texts_of levels ≡ level_words → (words : List Text)
-      → subcommand_of (app_with (Names levels)) words ≡ subcommand_of sfbank_app words
-  subcommand_same texts words =
-      ap (λ p. subcommand_of (app_with p) words) (sym (levels_moved levels texts)) ∙ moved_subcommand words
+  pub subcommand_same : texts_of levels ≡ level_words → texts_of members ≡ member_words → (words : List Text)
+      → subcommand_of (app_with (parsers_of levels members)) words ≡ subcommand_of sfbank_app words
+  subcommand_same first second words =
+      ap (λ ps. subcommand_of (app_with ps) words) (sym (parsers_moved first second)) ∙ moved_subcommand words
 
   -- the words have the same fault
-  pub fault_same : texts_of levels ≡ level_words → (words : List Text)
-      → fault_of (app_with (Names levels)) words ≡ fault_of sfbank_app words
-  fault_same texts words = ap (λ p. fault_of (app_with p) words) (sym (levels_moved levels texts)) ∙ moved_fault words
+  pub fault_same : texts_of levels ≡ level_words → texts_of members ≡ member_words → (words : List Text)
+      → fault_of (app_with (parsers_of levels members)) words ≡ fault_of sfbank_app words
+  fault_same first second words =
+      ap (λ ps. fault_of (app_with ps) words) (sym (parsers_moved first second)) ∙ moved_fault words
 
   -- clap states how it reads these commands
-  pub simple_app : is_simple (app_with (Names levels)) ≡ true
+  pub simple_app : is_simple (app_with (parsers_of levels members)) ≡ true
   simple_app = refl
 
   -- and how it fails
-  pub free_app : is_simple_and_free (app_with (Names levels)) ≡ true
+  pub free_app : is_simple_and_free (app_with (parsers_of levels members)) ≡ true
   free_app = refl

@@ -31,6 +31,11 @@ abbrev pub merge_words : List Text
 merge_words =
     codes "sfbank" ∷ codes "merge" ∷ codes "in.sf2" ∷ codes "from.sf2" ∷ codes "out.sf2" ∷ codes "undo.txt" ∷ []
 
+abbrev pub copy_words : List Text
+copy_words =
+    codes "sfbank" ∷ codes "copy" ∷ codes "--as" ∷ codes "8:24" ∷ codes "--script=edits.txt" ∷ codes "in.sf2"
+    ∷ codes "preset" ∷ codes "3" ∷ codes "out.sf2" ∷ codes "undo.txt" ∷ []
+
 -- the command that words use
 abbrev pub command_used : List Text → Option Text
 command_used words = option_map (λ used. used.0) (subcommand_of sfbank_app words)
@@ -127,6 +132,22 @@ pub merge_shift : value_given merge_words (codes "shift") ≡ Some (Some (codes 
 unfolding clap_on_literals
 merge_shift = refl
 
+pub copy_member : word_given copy_words (codes "MEMBER") ≡ Some (Some (codes "preset"))
+unfolding clap_on_literals
+copy_member = refl
+
+pub copy_as : word_given copy_words (codes "as") ≡ Some (Some (codes "8:24"))
+unfolding clap_on_literals
+copy_as = refl
+
+pub copy_script : word_given copy_words (codes "script") ≡ Some (Some (codes "edits.txt"))
+unfolding clap_on_literals
+copy_script = refl
+
+pub copy_no_name : word_given copy_words (codes "name") ≡ Some None
+unfolding clap_on_literals
+copy_no_name = refl
+
 -- clap finds no fault in any of them
 pub explain_passes : fault_of sfbank_app explain_words ≡ []
 unfolding clap_on_literals
@@ -151,3 +172,7 @@ take_passes = refl
 pub merge_passes : fault_of sfbank_app merge_words ≡ []
 unfolding clap_on_literals
 merge_passes = refl
+
+pub copy_passes : fault_of sfbank_app copy_words ≡ []
+unfolding clap_on_literals
+copy_passes = refl

@@ -17,8 +17,8 @@ use Rattle.plan_presets.specs.declared.numbers.TakenPreset.{TakenPreset}
 use Rattle.program_commands.specs.declared.plans.Kept.{Kept}
 use Rattle.program_commands.specs.declared.plans.Kept.TheVariants as choice
 use Rattle.program_commands.specs.declared.plans.TakePaths.{TakePaths}
-use Rattle.program_commands.specs.Words.{AreGiven, AreValues, FindsOne, IsDecimal, IsPreset, IsTakenPreset, colon}
-use Rattle.program_commands.specs.Words.{equals, kept_operands, take_operands}
+use Rattle.program_commands.specs.Words.{AreGiven, AreValues, FindsOne, IsDecimal, IsGiven, IsPreset, IsTakenPreset}
+use Rattle.program_commands.specs.Words.{colon, equals, kept_operands, optional_preset, take_operands}
 
 -- the number that `parse` reads is that of the numeral
 pub decimal_read : {E : Type 0} (bits : ℕ) (text : Text) (parsed : Result ℕ E) → ParsesUnsigned bits 10 text parsed
@@ -113,6 +113,18 @@ module _ (text : Text) (bank number : Bor Text) (split : IsSplitOnceResult colon
       → IsDecimal 16 number.now preset.number → IsPreset text preset
   preset_named preset first second =
       (bank.now, number.now, (split_parts colon text (Some (bank, number)) split (omega arith)).0, first, second)
+
+-- an option whose text names no preset has none
+pub no_optional_preset : (rows : List Row) (name text : Text) → first_of name rows ≡ Some text
+    → FindsOne None (IsPreset text) → FindsOne None (λ preset. IsGiven rows (optional_preset name preset))
+no_optional_preset rows name text used none = (tt, go)
+  where
+    go : (preset : Option PresetNumbers) → IsGiven rows (optional_preset name preset) → false ≡ true
+    go None given = absurd cc
+    go (Some numbers) given =
+        let same : given.0 ≡ text = let e = given.1 in cc in
+        let named : Text → Type 0 = λ t. IsPreset t numbers in
+        none.1 numbers (subst named same given.2)
 
 -- a text that names no preset, and is not split by an equals sign, names no preset to copy
 pub no_taken_unsplit : (text : Text) → IsSplitOnceResult equals text None → FindsOne None (IsPreset text)
@@ -242,4 +254,4 @@ none_kept_with_zones rows notes zones = (tt, λ kept given. absurd (go kept give
 pub none_taken : (rows : List Row)
     → FindsValues IsTakenPreset (λ (presets : Vec TakenPreset). presets.items) rows (codes "preset") None
     → FindsOne None (λ (take : TakePaths). AreGiven rows (take_operands take))
-none_taken rows none = (tt, λ take given. none.1 take.presets given.1.1.1.1.1.1.0)
+none_taken rows none = (tt, λ take given. none.1 take.presets given.1.1.1.1.1.1.1.1.0)

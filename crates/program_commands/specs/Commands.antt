@@ -1,36 +1,42 @@
 -- The commands of sfbank with their arguments, as clap reads them.
-use Rattle.std.specs.Prelude.{◌≡◌, ◌-◌, ◌^◌, ℕ, true, pos, List, [], ◌∷◌, map, fold, Some, codes}
+use Rattle.std.specs.Prelude.{◌≡◌, ◌-◌, ◌^◌, ◌++◌, ℕ, true, pos, List, [], ◌∷◌, map, fold, Some, codes}
 use Rattle.std.specs.Borrow.{Bor}
 use Rattle.clap.specs.Words.{App, Rule, Shape, Text, new_app, new_rule, with_subcommand}
 use Rattle.clap.specs.declared.builder.ArgAction.TheVariants.{Append, Set, SetTrue}
 use Rattle.clap.specs.declared.builder.ValueParser.{ValueParser}
 use Rattle.clap.specs.declared.builder.ValueParser.TheVariants as parser
 use Rattle.program_commands.specs.declared.commands.Entry.{Entry}
+use Rattle.program_commands.specs.declared.commands.WordParsers.{WordParsers}
 use Rattle.program_commands.specs.declared.commands.Operand as operand
 use Rattle.program_commands.specs.declared.commands.Operand.TheVariants as variant
 
--- an argument of a command with its name: a path, a number of 32 bits and a level are required; a flag, a number of 16
--- bits with its default, a word and words given one by one are options
+-- an argument of a command with its name: a path, a number of 32 bits, a level and the word for a member are required;
+-- a flag, a number of 16 bits with its default, a word and words given one by one are options
 pub data Argument : Type 0 where
   Path : Text → Argument
   Number : Text → Argument
   Level : Text → Argument
+  Member : Text → Argument
   Flag : Text → Argument
   Small : Text → Text → Argument
   Single : Text → Argument
   Repeated : Text → Argument
 
--- a reference to the words for the two levels of owners
-abbrev pub LevelWords : Type 0
-LevelWords = Bor (List (Bor Text))
+-- a reference to a list of words
+abbrev pub WordList : Type 0
+WordList = Bor (List (Bor Text))
 
 -- the words that it points to
-abbrev pub texts_of : LevelWords → List Text
-texts_of levels = map (λ word. word.now) levels.now
+abbrev pub texts_of : WordList → List Text
+texts_of words = map (λ word. word.now) words.now
 
 -- the words for the two levels of owners
 abbrev pub level_words : List Text
 level_words = codes "preset" ∷ codes "inst" ∷ []
+
+-- the words for a preset, an instrument and a sample
+abbrev pub member_words : List Text
+member_words = codes "preset" ∷ codes "inst" ∷ codes "sample" ∷ []
 
 -- arguments of more than one command, or with long names
 abbrev pub input_path : Argument
@@ -48,35 +54,58 @@ force_flag = Flag (codes "force")
 abbrev pub neutral_flag : Argument
 neutral_flag = Flag (codes "neutral")
 
+abbrev pub dry_run_flag : Argument
+dry_run_flag = Flag (codes "dry-run")
+
+abbrev pub script_option : Argument
+script_option = Single (codes "script")
+
 -- the arguments of a command that finds edits
 abbrev pub plan_arguments : List Argument
-plan_arguments = Flag (codes "dry-run") ∷ force_flag ∷ input_path ∷ output_path ∷ undo_path ∷ []
+plan_arguments =
+    dry_run_flag ∷ script_option ∷ force_flag ∷ input_path ∷ output_path ∷ undo_path ∷ []
 
 -- the arguments of one that copies from a second bank
+abbrev pub second_bank_arguments : List Argument
+second_bank_arguments =
+    dry_run_flag ∷ script_option ∷ force_flag ∷ input_path ∷ Path (codes "FROM") ∷ output_path ∷ undo_path ∷ []
+
+-- the arguments of `copy`
 abbrev pub copy_arguments : List Argument
 copy_arguments =
-    Flag (codes "dry-run") ∷ force_flag ∷ input_path ∷ Path (codes "FROM") ∷ output_path ∷ undo_path ∷ []
+    Single (codes "name") ∷ Single (codes "as") ∷ dry_run_flag ∷ script_option ∷ force_flag ∷ input_path
+    ∷ Member (codes "MEMBER") ∷ Number (codes "N") ∷ output_path ∷ undo_path ∷ []
 
--- the commands, each with its arguments
-abbrev pub command_table : List (Text × List Argument)
-command_table =
+-- the commands up to `live`, each with its arguments
+abbrev pub commands_to_live : List (Text × List Argument)
+commands_to_live =
     (codes "apply", force_flag ∷ neutral_flag ∷ input_path ∷ Path (codes "SCRIPT") ∷ output_path ∷ undo_path ∷ [])
     ∷ (codes "canon", input_path ∷ output_path ∷ [])
+    ∷ (codes "copy", copy_arguments)
     ∷ (codes "diff", force_flag ∷ Path (codes "A") ∷ Path (codes "B") ∷ output_path ∷ [])
     ∷ (codes "explain", Number (codes "N") ∷ [])
     ∷ (codes "import", force_flag ∷ input_path ∷ Path (codes "WAVE") ∷ output_path ∷ undo_path ∷ [])
     ∷ (codes "keep", Single (codes "notes") ∷ Flag (codes "zones") ∷ Repeated (codes "preset") ∷ plan_arguments)
     ∷ (codes "live", force_flag ∷ input_path ∷ Path (codes "PCM") ∷ [])
-    ∷ (codes "map", force_flag ∷ input_path ∷ Level (codes "LEVEL") ∷ Number (codes "N") ∷ output_path ∷ [])
-    ∷ (codes "merge", Small (codes "shift") (codes "0") ∷ copy_arguments)
+    ∷ []
+
+-- the commands from `map` on
+abbrev pub commands_from_map : List (Text × List Argument)
+commands_from_map =
+    (codes "map", force_flag ∷ input_path ∷ Level (codes "LEVEL") ∷ Number (codes "N") ∷ output_path ∷ [])
+    ∷ (codes "merge", Small (codes "shift") (codes "0") ∷ second_bank_arguments)
     ∷ (codes "new", force_flag ∷ Small (codes "minor") (codes "4") ∷ output_path ∷ [])
     ∷ (codes "play", force_flag ∷ input_path ∷ Path (codes "NOTES") ∷ output_path ∷ [])
     ∷ (codes "script", force_flag ∷ Flag (codes "no-points") ∷ input_path ∷ output_path ∷ [])
     ∷ (codes "show", Flag (codes "zones") ∷ Flag (codes "uses") ∷ input_path ∷ [])
-    ∷ (codes "take", Repeated (codes "preset") ∷ copy_arguments)
-    ∷ (codes "tidy", plan_arguments)
+    ∷ (codes "take", Repeated (codes "preset") ∷ second_bank_arguments)
+    ∷ (codes "tidy", Flag (codes "merge") ∷ plan_arguments)
     ∷ (codes "wave", force_flag ∷ input_path ∷ Number (codes "S") ∷ output_path ∷ [])
     ∷ []
+
+-- all commands
+abbrev pub command_table : List (Text × List Argument)
+command_table = commands_to_live ++ commands_from_map
 
 -- the parser of unsigned numbers with this width in bits
 abbrev pub number_parser : ℕ → ValueParser
@@ -91,25 +120,26 @@ abbrev pub rule_for_option : Text → Rule
 rule_for_option name = record (new_rule name) { long = Some name }
 
 -- what clap reads of an argument
-abbrev pub rule_for : ValueParser → Argument → Rule
-rule_for levels (Path name) = rule_for_required name
-rule_for levels (Number name) =
+abbrev pub rule_for : WordParsers → Argument → Rule
+rule_for parsers (Path name) = rule_for_required name
+rule_for parsers (Number name) =
     record (rule_for_required name) { parser = Some (number_parser 32) }
-rule_for levels (Level name) = record (rule_for_required name) { parser = Some levels }
-rule_for levels (Flag name) = record (rule_for_option name) { action = Some SetTrue }
-rule_for levels (Small name default) = record (rule_for_option name) {
+rule_for parsers (Level name) = record (rule_for_required name) { parser = Some parsers.levels }
+rule_for parsers (Member name) = record (rule_for_required name) { parser = Some parsers.members }
+rule_for parsers (Flag name) = record (rule_for_option name) { action = Some SetTrue }
+rule_for parsers (Small name default) = record (rule_for_option name) {
   action = Some Set;
   value_names = 1;
   parser = Some (number_parser 16);
   defaults = default ∷ [];
 }
-rule_for levels (Single name) = record (rule_for_option name) { action = Some Set; value_names = 1 }
-rule_for levels (Repeated name) = record (rule_for_option name) { action = Some Append; value_names = 1 }
+rule_for parsers (Single name) = record (rule_for_option name) { action = Some Set; value_names = 1 }
+rule_for parsers (Repeated name) = record (rule_for_option name) { action = Some Append; value_names = 1 }
 
 -- what clap reads of a command
-abbrev pub shape_for : ValueParser → Text × List Argument → Shape
-shape_for levels command =
-    record (new_app command.0).top { rules = map (rule_for levels) command.1 }
+abbrev pub shape_for : WordParsers → Text × List Argument → Shape
+shape_for parsers command =
+    record (new_app command.0).top { rules = map (rule_for parsers) command.1 }
 
 -- what clap reads of the program before its commands
 abbrev pub program_app : App
@@ -123,29 +153,36 @@ program_app = record {
 }
 
 -- what clap reads of the program with its commands
-abbrev pub app_with : ValueParser → App
-app_with levels = fold with_subcommand program_app (map (shape_for levels) command_table)
+abbrev pub app_with : WordParsers → App
+app_with parsers = fold with_subcommand program_app (map (shape_for parsers) command_table)
 
--- the level words, at no address: clap reads only the words
-abbrev pub level_names : LevelWords
-level_names = record {
-  ref_ptr = (0, 0);
-  now = map (λ word. record { ref_ptr = (0, 0); now = word }) level_words;
-}
+-- words at no address: clap reads only the words
+abbrev pub at_no_address : List Text → WordList
+at_no_address words = record { ref_ptr = (0, 0); now = map (λ word. record { ref_ptr = (0, 0); now = word }) words }
+
+-- the parsers of operands that are one of these words
+abbrev pub parsers_of : WordList → WordList → WordParsers
+parsers_of levels members = record { levels = parser.Names levels; members = parser.Names members }
 
 -- what clap reads of sfbank: the program with its commands and their arguments
 abbrev pub sfbank_app : App
-sfbank_app = app_with (parser.Names level_names)
+sfbank_app = app_with (parsers_of (at_no_address level_words) (at_no_address member_words))
 
--- this is sfbank_app, with the level words at any address
+-- this is sfbank_app, with the words at any addresses
 abbrev pub IsSfbankApp : App → Type 0
-IsSfbankApp app = (levels : LevelWords) × (texts_of levels ≡ level_words) × (app ≡ app_with (parser.Names levels))
+IsSfbankApp app =
+    (levels : WordList)
+    × (members : WordList)
+    × (texts_of levels ≡ level_words)
+    × (texts_of members ≡ member_words)
+    × (app ≡ app_with (parsers_of levels members))
 
 -- an operand of the code as an argument
 abbrev pub argument_of : operand.Operand → Argument
 argument_of (variant.Path name help) = Path name.now
 argument_of (variant.Number name help) = Number name.now
 argument_of (variant.Level name help) = Level name.now
+argument_of (variant.Member name help) = Member name.now
 argument_of (variant.Flag name help) = Flag name.now
 argument_of (variant.Small name value default help) = Small name.now default.now
 argument_of (variant.Single name value help) = Single name.now

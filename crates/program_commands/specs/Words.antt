@@ -1,6 +1,7 @@
 -- The operands of each request, and when the words of a command ask for it.
 use Rattle.std.specs.Prelude.{◌≡◌, ◌≢◌, ◌<◌, ◌^◌, ℕ, Bool, true, false, List, [], ◌∷◌, ◌++◌, codes, length}
 use Rattle.std.specs.Prelude.{◌⊎◌, MatchResult, Option, Result, Some, None, IfSome, IsSome}
+use Rattle.std.specs.Borrow.{Bor}
 use Rattle.std.specs.List.{AllZip}
 use Rattle.std.specs.Str.Parse.{IsNumeral, digits_value, without_leading_plus}
 use Rattle.clap.specs.Words.{App, HasKind, Row, Text, all_of, fault_of, first_of, found_of, is_simple, one_of, rows_of}
@@ -9,31 +10,40 @@ use Rattle.clap.specs.declared.error.Error.{Error}
 use Rattle.clap.specs.declared.parser.matches.ArgMatches.{ArgMatches}
 use Rattle.bank_changes.specs.declared.members.Owner.{Owner}
 use Rattle.bank_changes.specs.declared.members.Owner.TheVariants.{Preset, Inst}
+use Rattle.sf_base.specs.Names.{IsName}
+use Rattle.plan_presets.specs.declared.numbers.CopiedMember.{CopiedMember}
+use Rattle.plan_presets.specs.declared.numbers.CopiedMember.TheVariants as copied
 use Rattle.plan_presets.specs.declared.numbers.PresetNumbers.{PresetNumbers}
 use Rattle.plan_presets.specs.declared.numbers.TakenPreset.{TakenPreset}
+use Rattle.program_commands.specs.declared.plans.CopyPaths.{CopyPaths}
 use Rattle.program_commands.specs.declared.plans.KeepPaths.{KeepPaths}
 use Rattle.program_commands.specs.declared.plans.Kept.{Kept}
 use Rattle.program_commands.specs.declared.plans.Kept.TheVariants as choice
 use Rattle.program_commands.specs.declared.plans.MergePaths.{MergePaths}
 use Rattle.program_commands.specs.declared.plans.PlanPaths.{PlanPaths}
 use Rattle.program_commands.specs.declared.plans.TakePaths.{TakePaths}
+use Rattle.program_commands.specs.declared.plans.TidyPaths.{TidyPaths}
 use Rattle.program_commands.specs.declared.plans.Zones.{Zones}
 use Rattle.program_commands.specs.declared.plans.Zones.TheVariants as zones
 use Rattle.program_commands.specs.declared.words.Request.{Request}
-use Rattle.program_commands.specs.declared.words.Request.TheVariants.{Apply, Canon, Diff, Explain, Import, Keep}
-use Rattle.program_commands.specs.declared.words.Request.TheVariants.{Live, Map, Merge, New, Play, Script, Show}
-use Rattle.program_commands.specs.declared.words.Request.TheVariants.{Take, Tidy, Wave}
+use Rattle.program_commands.specs.declared.words.Request.TheVariants.{Apply, Canon, Copy, Diff, Explain, Import}
+use Rattle.program_commands.specs.declared.words.Request.TheVariants.{Keep, Live, Map, Merge, New, Play, Script}
+use Rattle.program_commands.specs.declared.words.Request.TheVariants.{Show, Take, Tidy, Wave}
 use Rattle.program_commands.specs.declared.words.Forms.{Forms}
 use Rattle.program_commands.specs.declared.words.Forms.TheVariants.{Every, Neutral}
 
--- an operand of a request with its name and its value: a word, a number with its width in bits, a flag, a flag that
--- is not given, an option that is not used, presets, or presets to copy
+-- an operand of a request with its name and its value: a word, a name of a member, a number with its width in bits, a
+-- flag, a flag that is not given, an option that is not used, an option and a flag of which at most one is given, the
+-- numbers of a preset, presets, or presets to copy
 pub data Operand : Type 0 where
   Word : Text → Text → Operand
+  Name : Text → List ℕ → Operand
   Number : Text → ℕ → ℕ → Operand
   Flag : Text → Bool → Operand
   Unset : Text → Operand
   Absent : Text → Operand
+  NotBoth : Text → Text → Operand
+  Numbers : Text → PresetNumbers → Operand
   Presets : Text → List PresetNumbers → Operand
   Taken : Text → List TakenPreset → Operand
 
@@ -56,13 +66,20 @@ owner_number (Inst n) = n
 abbrev pub owner_operands : Owner → List Operand
 owner_operands owner = Word (codes "LEVEL") (level_word owner) ∷ Number (codes "N") 32 (owner_number owner) ∷ []
 
--- the operands of a command that finds edits
+-- an option with a word, if it is used
+abbrev pub optional_word : Text → Option (Bor Text) → Operand
+optional_word name (Some text) = Word name text.now
+optional_word name None = Absent name
+
+-- the operands of a command that finds edits: what a dry run prints is not saved
 abbrev pub plan_operands : PlanPaths → List Operand
 plan_operands paths =
     Word (codes "IN") paths.input.now
     ∷ Word (codes "OUT") paths.out.now
     ∷ Word (codes "UNDO") paths.undo.now
     ∷ Flag (codes "dry-run") paths.dry_run
+    ∷ optional_word (codes "script") paths.script
+    ∷ NotBoth (codes "script") (codes "dry-run")
     ∷ Flag (codes "force") paths.force
     ∷ []
 
@@ -82,6 +99,47 @@ kept_operands (choice.Presets presets) =
 abbrev pub keep_operands : KeepPaths → List Operand
 keep_operands keep = plan_operands keep.paths ++ kept_operands keep.kept
 
+-- an option with a name of a member, if it is used
+abbrev pub optional_name : Text → Option (List ℕ) → Operand
+optional_name option (Some name) = Name option name
+optional_name option None = Absent option
+
+-- an option with the numbers of a preset, if it is used
+abbrev pub optional_preset : Text → Option PresetNumbers → Operand
+optional_preset name (Some numbers) = Numbers name numbers
+optional_preset name None = Absent name
+
+-- the word for what is copied
+abbrev pub member_word : CopiedMember → Text
+member_word (copied.Preset n numbers) = codes "preset"
+member_word (copied.Inst n) = codes "inst"
+member_word (copied.Sample n) = codes "sample"
+
+-- its number in its list
+abbrev pub member_number : CopiedMember → ℕ
+member_number (copied.Preset n numbers) = n
+member_number (copied.Inst n) = n
+member_number (copied.Sample n) = n
+
+-- the numbers that the copy of a preset gets
+abbrev pub copy_numbers : CopiedMember → Option PresetNumbers
+copy_numbers (copied.Preset n numbers) = numbers
+copy_numbers (copied.Inst n) = None
+copy_numbers (copied.Sample n) = None
+
+-- the operands that name what is copied
+abbrev pub member_operands : CopiedMember → List Operand
+member_operands member =
+    Word (codes "MEMBER") (member_word member)
+    ∷ Number (codes "N") 32 (member_number member)
+    ∷ optional_preset (codes "as") (copy_numbers member)
+    ∷ []
+
+-- the operands of `copy`
+abbrev pub copy_operands : CopyPaths → List Operand
+copy_operands copy =
+    plan_operands copy.paths ++ optional_name (codes "name") copy.name ∷ member_operands copy.member
+
 -- the operands of `merge`
 abbrev pub merge_operands : MergePaths → List Operand
 merge_operands merge =
@@ -91,6 +149,10 @@ merge_operands merge =
 abbrev pub take_operands : TakePaths → List Operand
 take_operands take =
     plan_operands take.paths ++ Word (codes "FROM") take.from.now ∷ Taken (codes "preset") take.presets.items ∷ []
+
+-- the operands of `tidy`
+abbrev pub tidy_operands : TidyPaths → List Operand
+tidy_operands tidy = plan_operands tidy.paths ++ Flag (codes "merge") tidy.merge ∷ []
 
 -- the operands of each request
 abbrev pub operands_of : Request → List Operand
@@ -103,6 +165,7 @@ operands_of (Apply paths) =
     ∷ Flag (codes "force") paths.force
     ∷ []
 operands_of (Canon paths) = Word (codes "IN") paths.input.now ∷ Word (codes "OUT") paths.out.now ∷ []
+operands_of (Copy copy) = copy_operands copy
 operands_of (Diff paths) =
     Word (codes "A") paths.first.now
     ∷ Word (codes "B") paths.second.now
@@ -145,7 +208,7 @@ operands_of (Script paths) =
 operands_of (Show paths) =
     Word (codes "IN") paths.input.now ∷ Flag (codes "zones") paths.zones ∷ Flag (codes "uses") paths.uses ∷ []
 operands_of (Take take) = take_operands take
-operands_of (Tidy paths) = plan_operands paths
+operands_of (Tidy tidy) = tidy_operands tidy
 operands_of (Wave paths) =
     Word (codes "IN") paths.input.now
     ∷ Number (codes "S") 32 paths.sample
@@ -157,6 +220,7 @@ operands_of (Wave paths) =
 abbrev pub command_of : Request → Text
 command_of (Apply paths) = codes "apply"
 command_of (Canon paths) = codes "canon"
+command_of (Copy copy) = codes "copy"
 command_of (Diff paths) = codes "diff"
 command_of (Explain n) = codes "explain"
 command_of (Import paths) = codes "import"
@@ -169,7 +233,7 @@ command_of (Play paths) = codes "play"
 command_of (Script paths) = codes "script"
 command_of (Show paths) = codes "show"
 command_of (Take take) = codes "take"
-command_of (Tidy paths) = codes "tidy"
+command_of (Tidy tidy) = codes "tidy"
 command_of (Wave paths) = codes "wave"
 
 -- what clap found for a command, under the names of its operands
@@ -216,6 +280,7 @@ AreValues IsNamed rows name values =
 -- the words give the operand its value: a flag that is not given is false
 abbrev pub IsGiven : List Row → Operand → Type 0
 IsGiven rows (Word name text) = first_of name rows ≡ Some text
+IsGiven rows (Name option name) = (first_of option rows ≡ Some name) × IsName name
 IsGiven rows (Number name bits n) = (text : Text) × (one_of name rows ≡ Some text) × IsDecimal bits text n
 IsGiven rows (Flag name value) =
     (one_of name rows ≡ Some (codes "true") → value ≡ true)
@@ -223,6 +288,8 @@ IsGiven rows (Flag name value) =
     × (one_of name rows ≡ None → value ≡ false)
 IsGiven rows (Unset name) = first_of name rows ≢ Some (codes "true")
 IsGiven rows (Absent name) = first_of name rows ≡ None
+IsGiven rows (NotBoth option flag) = (first_of option rows ≡ None) ⊎ (first_of flag rows ≢ Some (codes "true"))
+IsGiven rows (Numbers name numbers) = (text : Text) × (first_of name rows ≡ Some text) × IsPreset text numbers
 IsGiven rows (Presets name presets) = AreValues IsPreset rows name presets
 IsGiven rows (Taken name presets) = AreValues IsTakenPreset rows name presets
 

@@ -1,7 +1,8 @@
 //! The program's commands, described for clap.
 ghost use Rattle.std.specs.Prelude.{◌≡◌, IfOk, false, fold, map};
 ghost use Rattle.clap.specs.Words.{app_of, rule_of, shape_of, with_subcommand};
-ghost use Rattle.program_commands.specs.Commands.{argument_of, command_in, rule_for, rule_for_option};
+ghost use Rattle.program_commands.specs.Commands.{argument_of, command_in, commands_from_map, commands_to_live};
+ghost use Rattle.program_commands.specs.Commands.{program_app, rule_for, rule_for_option};
 ghost use Rattle.program_commands.specs.Commands.{rule_for_required, shape_for, IsSfbankApp};
 
 use clap::builder::ValueParser;
@@ -20,6 +21,16 @@ const DEFAULT_SHIFT: &str = "0";
 /// The names of the two levels.
 static LEVELS: [&str; 2] = ["preset", "inst"];
 
+/// The words for a preset, an instrument and a sample.
+static MEMBERS: [&str; 3] = ["preset", "inst", "sample"];
+
+/// The parsers of operands that are one of some words.
+#[derive(Clone, Copy)]
+struct WordParsers<'a> {
+    levels: ValueParser<'a>,
+    members: ValueParser<'a>,
+}
+
 /// A command, with its operands in the order of its words.
 struct Entry {
     name: &'static str,
@@ -37,6 +48,8 @@ enum Operand {
     Number(&'static str, &'static str),
     /// `preset` or `inst`, required.
     Level(&'static str, &'static str),
+    /// `preset`, `inst` or `sample`, required.
+    Member(&'static str, &'static str),
     /// `--NAME`, optional.
     Flag(&'static str, &'static str),
     /// `--NAME VALUE` with a 16-bit number, optional, with the name of its value, its default and its help text.
@@ -53,8 +66,14 @@ const FORCE: Operand = Operand::Flag("force", "Writes OUT even if a bank is ther
 /// The flag that lets UNDO replace a bank.
 const UNDO_FORCE: Operand = Operand::Flag("force", "Writes UNDO even if a bank is there");
 
+/// The flag that lets UNDO and the script of the edits replace banks.
+const PLAN_FORCE: Operand = Operand::Flag("force", "Writes UNDO and FILE even if a bank is there");
+
 /// The flag that saves nothing.
 const DRY_RUN: Operand = Operand::Flag("dry-run", "Prints the script of edits, and saves nothing");
+
+/// The option that saves the script of the edits.
+const SCRIPT: Operand = Operand::Single("script", "FILE", "Saves the script of edits too");
 
 /// The flag that lets the outputs of `live` replace banks.
 const LIVE_FORCE: Operand = Operand::Flag(
@@ -62,7 +81,8 @@ const LIVE_FORCE: Operand = Operand::Flag(
     "Writes PCM, and UNDO of each save, even if a bank is there",
 );
 
-static COMMANDS: [Entry; 16] = [
+/// The commands up to `live`. One table of all would be too long to be proved.
+static COMMANDS_TO_LIVE: [Entry; 8] = [
     Entry {
         name: "apply",
         about: "Runs a script of edits on a bank, and writes its undo script",
@@ -87,6 +107,27 @@ static COMMANDS: [Entry; 16] = [
             Operand::Path("OUT", "Where its canonical file is written; may be IN"),
         ],
         example: "Example: sfbank canon organ.sf2 tidy.sf2",
+    },
+    Entry {
+        name: "copy",
+        about: "Copies a preset, an instrument or a sample to the end of its list",
+        operands: &[
+            Operand::Single("name", "NAME", "Gives the copy this name"),
+            Operand::Single(
+                "as",
+                "BANK:NUMBER",
+                "Gives the copy of a preset these numbers",
+            ),
+            DRY_RUN,
+            SCRIPT,
+            PLAN_FORCE,
+            Operand::Path("IN", "The bank to copy in"),
+            Operand::Member("MEMBER", "What to copy"),
+            Operand::Number("N", "The number that `show` lists it by"),
+            Operand::Path("OUT", "Where the larger bank is written; may be IN"),
+            Operand::Path("UNDO", "Where the undo script is written"),
+        ],
+        example: "Example: sfbank copy --as 8:24 organ.sf2 preset 0 larger.sf2 undo.txt",
     },
     Entry {
         name: "diff",
@@ -142,7 +183,8 @@ static COMMANDS: [Entry; 16] = [
                 "Keeps the preset with these numbers; can be given several times",
             ),
             DRY_RUN,
-            UNDO_FORCE,
+            SCRIPT,
+            PLAN_FORCE,
             Operand::Path("IN", "The bank to reduce"),
             Operand::Path("OUT", "Where the smaller bank is written; may be IN"),
             Operand::Path("UNDO", "Where the undo script is written"),
@@ -162,6 +204,10 @@ static COMMANDS: [Entry; 16] = [
         ],
         example: "Example: sfbank live organ.sf2 >(aplay -f cd)",
     },
+];
+
+/// The commands from `map` on.
+static COMMANDS_FROM_MAP: [Entry; 9] = [
     Entry {
         name: "map",
         about: "Draws the key and velocity ranges of a preset or an instrument as an SVG picture",
@@ -185,7 +231,8 @@ static COMMANDS: [Entry; 16] = [
                 "Adds this to the bank number of each preset of FROM",
             ),
             DRY_RUN,
-            UNDO_FORCE,
+            SCRIPT,
+            PLAN_FORCE,
             Operand::Path("IN", "The bank to add to"),
             Operand::Path("FROM", "The bank to add, of the same minor version"),
             Operand::Path("OUT", "Where the larger bank is written; may be IN"),
@@ -256,7 +303,8 @@ static COMMANDS: [Entry; 16] = [
                 "Copies the preset with these numbers, to those after = if given; can be given several times",
             ),
             DRY_RUN,
-            UNDO_FORCE,
+            SCRIPT,
+            PLAN_FORCE,
             Operand::Path("IN", "The bank to copy into"),
             Operand::Path("FROM", "The bank to copy from, of the same minor version"),
             Operand::Path("OUT", "Where the larger bank is written; may be IN"),
@@ -268,8 +316,10 @@ static COMMANDS: [Entry; 16] = [
         name: "tidy",
         about: "Removes what a bank doesn't use, and changes no sound",
         operands: &[
+            Operand::Flag("merge", "Joins equal samples and equal instruments too"),
             DRY_RUN,
-            UNDO_FORCE,
+            SCRIPT,
+            PLAN_FORCE,
             Operand::Path("IN", "The bank to tidy"),
             Operand::Path("OUT", "Where the tidied bank is written; may be IN"),
             Operand::Path("UNDO", "Where the undo script is written"),
@@ -293,32 +343,54 @@ static COMMANDS: [Entry; 16] = [
 pub(crate) fn sfbank_command<'a>(alloc: Global) -> Result<Command<'a>, AllocError>
     ensures { IfOk result (λ command. IsSfbankApp (app_of command)) }
 {
-    let command = Command::new(alloc, NAME)
-        .bin_name(NAME)?
-        .version("0.1.0")
-        .about("Edits SoundFont 2 banks by scripts, writes their undo scripts, and plays banks")
-        .subcommand_required(true)
-        .arg_required_else_help(true);
-    with_commands(
-        alloc,
-        command,
-        &COMMANDS,
-        ValueParser::from(LEVELS.as_slice()),
+    let command = bare_program(alloc)?;
+    let parsers = WordParsers {
+        levels: ValueParser::from(LEVELS.as_slice()),
+        members: ValueParser::from(MEMBERS.as_slice()),
+    };
+    let begun = with_commands(alloc, command, commands_to_live(), parsers)?;
+    with_commands(alloc, begun, commands_from_map(), parsers)
+}
+
+// The tables as results of functions, so that each is proved alone.
+fn commands_to_live() -> &'static [Entry]
+    ensures { map command_in result.now ≡ commands_to_live }
+{
+    &COMMANDS_TO_LIVE
+}
+
+fn commands_from_map() -> &'static [Entry]
+    ensures { map command_in result.now ≡ commands_from_map }
+{
+    &COMMANDS_FROM_MAP
+}
+
+/// Describes the program before its commands.
+fn bare_program<'a>(alloc: Global) -> Result<Command<'a>, AllocError>
+    ensures { IfOk result (λ command. app_of command ≡ program_app) }
+{
+    let command = Command::new(alloc, NAME).bin_name(NAME)?;
+    Ok(
+        command
+            .version("0.1.0")
+            .about("Edits SoundFont 2 banks by scripts, writes their undo scripts, and plays banks")
+            .subcommand_required(true)
+            .arg_required_else_help(true),
     )
 }
 
-/// Adds the commands. They get the parser of levels from the caller, so that the contracts can name it.
+/// Adds the commands. They get the parsers of words from the caller, so that the contracts can name them.
 fn with_commands<'a>(
     alloc: Global,
     mut command: Command<'a>,
     entries: &[Entry],
-    levels: ValueParser<'a>,
+    parsers: WordParsers<'a>,
 ) -> Result<Command<'a>, AllocError>
     ensures { IfOk result (λ all. app_of all ≡ fold with_subcommand (app_of command.entry)
-        (map (λ entry. shape_for levels.entry (command_in entry)) entries.now)) }
+        (map (λ entry. shape_for parsers.entry (command_in entry)) entries.now)) }
 {
     for entry in entries {
-        let subcommand = command_of(alloc, entry, levels)?;
+        let subcommand = command_of(alloc, entry, parsers)?;
         command = command.subcommand(subcommand)?;
     }
     Ok(command)
@@ -327,27 +399,28 @@ fn with_commands<'a>(
 fn command_of<'a>(
     alloc: Global,
     entry: &Entry,
-    levels: ValueParser<'a>,
+    parsers: WordParsers<'a>,
 ) -> Result<Command<'a>, AllocError>
-    ensures { IfOk result (λ command. shape_of command ≡ shape_for levels.entry (command_in entry.now)) }
+    ensures { IfOk result (λ command. shape_of command ≡ shape_for parsers.entry (command_in entry.now)) }
 {
     let mut command = Command::new(alloc, entry.name)
         .about(entry.about)
         .after_help(entry.example);
     for operand in entry.operands {
-        command = command.arg(arg_of(alloc, *operand, levels))?;
+        command = command.arg(arg_of(alloc, *operand, parsers))?;
     }
     Ok(command)
 }
 
-fn arg_of<'a>(alloc: Global, operand: Operand, levels: ValueParser<'a>) -> Arg<'a>
-    ensures rule { rule_of result ≡ rule_for levels.entry (argument_of operand) }
+fn arg_of<'a>(alloc: Global, operand: Operand, parsers: WordParsers<'a>) -> Arg<'a>
+    ensures rule { rule_of result ≡ rule_for parsers.entry (argument_of operand) }
     ensures local { result.global ≡ false }
 {
     match operand {
         Operand::Path(name, help) => required(alloc, name, help),
         Operand::Number(name, help) => required(alloc, name, help).value_parser(value_parser!(u32)),
-        Operand::Level(name, help) => required(alloc, name, help).value_parser(levels),
+        Operand::Level(name, help) => required(alloc, name, help).value_parser(parsers.levels),
+        Operand::Member(name, help) => required(alloc, name, help).value_parser(parsers.members),
         Operand::Flag(name, help) => option(alloc, name, help).action(ArgAction::SetTrue),
         Operand::Small(name, value, default, help) => option(alloc, name, help)
             .value_name(value)

@@ -8,7 +8,7 @@ mod presets;
 mod words;
 
 pub use names::recording_name;
-pub use plans::{KeepPaths, Kept, MergePaths, PlanPaths, TakePaths, Zones};
+pub use plans::{CopyPaths, KeepPaths, Kept, MergePaths, PlanPaths, TakePaths, TidyPaths, Zones};
 pub use words::{
     ApplyPaths, CanonPaths, DiffPaths, Forms, ImportPaths, LivePaths, MapPaths, NewBank, PlayPaths,
     Request, ScriptPaths, ShowPaths, WavePaths, request_of,

@@ -1,14 +1,17 @@
 //! The operands of the commands that find edits for a bank.
-ghost use Rattle.std.specs.Prelude.{◌≡◌, IfOk, codes};
+ghost use Rattle.std.specs.Prelude.{◌≡◌, IfOk, codes, false, true};
 ghost use Rattle.clap.specs.Words.{first_of};
-ghost use Rattle.program_commands.specs.Words.{is_played, keep_operands, kept_operands, merge_operands};
-ghost use Rattle.program_commands.specs.Words.{plan_operands, rows_in, take_operands, AreGiven, FindsOne, Flag};
-ghost use Rattle.program_commands.specs.Words.{IsGiven};
+ghost use Rattle.sf_base.specs.Names.{IsName};
+ghost use Rattle.program_commands.specs.Words.{copy_operands, keep_operands, kept_operands, member_operands};
+ghost use Rattle.program_commands.specs.Words.{merge_operands, plan_operands, rows_in, take_operands};
+ghost use Rattle.program_commands.specs.Words.{is_played, optional_name, tidy_operands, AreGiven, FindsOne, Flag};
+ghost use Rattle.program_commands.specs.Words.{IsGiven, NotBoth};
 
-use crate::presets::read_values;
-use crate::words::{is_set, read_flag, read_small, read_word};
+use crate::presets::{read_optional_preset, read_values};
+use crate::words::{is_set, read_flag, read_number, read_optional_word, read_small, read_word};
 use clap::ArgMatches;
-use plan_presets::{PresetNumbers, TakenPreset};
+use plan_presets::{CopiedMember, PresetNumbers, TakenPreset};
+use sf_base::Name20;
 use std::alloc::{AllocError, Global};
 
 /// The operands of a command that finds edits.
@@ -17,9 +20,11 @@ pub struct PlanPaths<'a> {
     pub input: &'a str,
     pub out: &'a str,
     pub undo: &'a str,
-    /// Whether the script is printed, and nothing is saved.
+    /// Whether the script of the edits is printed, and nothing is saved.
     pub dry_run: bool,
-    /// Whether the undo script may replace a bank.
+    /// Where the script of the edits is saved, if it is.
+    pub script: Option<&'a str>,
+    /// Whether the two scripts may replace banks.
     pub force: bool,
 }
 
@@ -66,17 +71,46 @@ pub struct MergePaths<'a> {
     pub shift: u16,
 }
 
+/// The operands of `copy`.
+#[derive(Clone, Copy)]
+pub struct CopyPaths<'a> {
+    pub paths: PlanPaths<'a>,
+    pub member: CopiedMember,
+    /// The name that the copy gets, if it is given.
+    pub name: Option<Name20>,
+}
+
+/// The operands of `tidy`.
+#[derive(Clone, Copy)]
+pub struct TidyPaths<'a> {
+    pub paths: PlanPaths<'a>,
+    /// Whether equal samples and equal instruments are joined too.
+    pub merge: bool,
+}
+
 /// Returns the operands of a command that finds edits, if the words give them.
 pub(crate) fn read_plan<'a>(matches: &ArgMatches<'a>) -> Option<PlanPaths<'a>>
     ensures { FindsOne result (λ paths. AreGiven (rows_in matches.now) (plan_operands paths)) }
 {
+    if saves_in_dry_run(matches) {
+        return None;
+    }
     Some(PlanPaths {
         input: read_word(matches, "IN")?,
         out: read_word(matches, "OUT")?,
         undo: read_word(matches, "UNDO")?,
         dry_run: read_flag(matches, "dry-run"),
+        script: read_optional_word(matches, "script"),
         force: read_flag(matches, "force"),
     })
+}
+
+/// Whether the script of the edits is to be saved in a dry run, which saves nothing.
+pub(crate) fn saves_in_dry_run(matches: &ArgMatches<'_>) -> bool
+    ensures both { result ≡ true → IsGiven (rows_in matches.now) (NotBoth (codes "script") (codes "dry-run")) → ⊥ }
+    ensures apart { result ≡ false → IsGiven (rows_in matches.now) (NotBoth (codes "script") (codes "dry-run")) }
+{
+    read_word(matches, "script").is_some() && is_set(matches, "dry-run")
 }
 
 /// Returns the operands of `keep`, if the words give them.
@@ -170,5 +204,63 @@ pub(crate) fn read_merge<'a>(matches: &ArgMatches<'a>) -> Option<MergePaths<'a>>
         paths: read_plan(matches)?,
         from: read_word(matches, "FROM")?,
         shift: read_small(matches, "shift")?,
+    })
+}
+
+/// Returns the operands of `copy`, if the words give them.
+pub(crate) fn read_copy<'a>(matches: &ArgMatches<'a>) -> Option<CopyPaths<'a>>
+    ensures { FindsOne result (λ copy. AreGiven (rows_in matches.now) (copy_operands copy)) }
+{
+    Some(CopyPaths {
+        paths: read_plan(matches)?,
+        member: read_member(matches)?,
+        name: read_optional_name(matches, "name")?,
+    })
+}
+
+// Returns the name that the option gives, if it is used.
+fn read_optional_name(matches: &ArgMatches<'_>, option: &str) -> Option<Option<Name20>>
+    ensures { FindsOne result (λ name. IsGiven (rows_in matches.now) (optional_name option.now name)) }
+{
+    match read_word(matches, option) {
+        Some(text) => Some(Some(parse_name(text)?)),
+        None => Some(None),
+    }
+}
+
+// Returns the name with these bytes.
+fn parse_name(text: &str) -> Option<Name20>
+    ensures { FindsOne result (λ name. (name ≡ text.now) × IsName name) }
+{
+    Name20::from_bytes(text.as_bytes()).ok()
+}
+
+// Returns what is copied. Only a preset can get numbers.
+fn read_member(matches: &ArgMatches<'_>) -> Option<CopiedMember>
+    ensures { FindsOne result (λ member. AreGiven (rows_in matches.now) (member_operands member)) }
+{
+    let word = read_word(matches, "MEMBER")?;
+    let number = read_number(matches, "N")?;
+    let numbers = read_optional_preset(matches, "as")?;
+    if word == "preset" {
+        Some(CopiedMember::Preset(number, numbers))
+    } else if numbers.is_some() {
+        None
+    } else if word == "inst" {
+        Some(CopiedMember::Inst(number))
+    } else if word == "sample" {
+        Some(CopiedMember::Sample(number))
+    } else {
+        None
+    }
+}
+
+/// Returns the operands of `tidy`, if the words give them.
+pub(crate) fn read_tidy<'a>(matches: &ArgMatches<'a>) -> Option<TidyPaths<'a>>
+    ensures { FindsOne result (λ tidy. AreGiven (rows_in matches.now) (tidy_operands tidy)) }
+{
+    Some(TidyPaths {
+        paths: read_plan(matches)?,
+        merge: read_flag(matches, "merge"),
     })
 }

@@ -1,8 +1,10 @@
 //! Presets that the values of an option name.
 ghost use Rattle.std.specs.Prelude.{◌≡◌, IfOk, map};
 ghost use Rattle.std.specs.List.{AllZip};
-ghost use Rattle.program_commands.specs.Words.{rows_in, AreValues, FindsOne, IsDecimal, IsPreset, IsTakenPreset};
+ghost use Rattle.program_commands.specs.Words.{optional_preset, rows_in, AreValues, FindsOne, IsDecimal, IsGiven};
+ghost use Rattle.program_commands.specs.Words.{IsPreset, IsTakenPreset};
 
+use crate::words::read_word;
 use clap::ArgMatches;
 use plan_presets::{PresetNumbers, TakenPreset};
 use std::alloc::{AllocError, Global};
@@ -52,6 +54,19 @@ pub(crate) fn read_values<T: Named>(
         return Ok(None);
     }
     parse_all(alloc, texts)
+}
+
+/// Returns the preset that the option names, if it is used.
+pub(crate) fn read_optional_preset(
+    matches: &ArgMatches<'_>,
+    name: &str,
+) -> Option<Option<PresetNumbers>>
+    ensures { FindsOne result (λ preset. IsGiven (rows_in matches.now) (optional_preset name.now preset)) }
+{
+    match read_word(matches, name) {
+        Some(text) => Some(Some(parse_preset(text)?)),
+        None => Some(None),
+    }
 }
 
 // Returns what the texts name.

@@ -2,13 +2,14 @@
 ghost use Rattle.std.specs.Prelude.{◌≡◌, ◌≢◌, IfOk, codes, false, map, option_map, true};
 ghost use Rattle.clap.specs.Words.{app_of, first_of, is_simple_and_free, subcommand_of, subcommand_rows_of};
 ghost use Rattle.program_commands.specs.Commands.{sfbank_app};
-ghost use Rattle.program_commands.specs.Words.{Number, Flag, is_neutral, owner_operands, operands_of};
+ghost use Rattle.program_commands.specs.Words.{Number, Flag, is_neutral, optional_word, owner_operands, operands_of};
 ghost use Rattle.program_commands.specs.Words.{rows_in, AreGiven, AsksFor, FailsByFault, FindsOne, IsGiven};
 ghost use Rattle.program_commands.specs.Words.{IsParsedBy};
 
 use crate::commands::sfbank_command;
 use crate::plans::{
-    KeepPaths, MergePaths, PlanPaths, TakePaths, read_keep, read_merge, read_plan, read_take,
+    CopyPaths, KeepPaths, MergePaths, TakePaths, TidyPaths, read_copy, read_keep, read_merge,
+    read_take, read_tidy, saves_in_dry_run,
 };
 use bank_changes::Owner;
 use clap::error::ErrorKind;
@@ -23,6 +24,8 @@ pub enum Request<'a> {
     Apply(ApplyPaths<'a>),
     /// Write a bank in its canonical form.
     Canon(CanonPaths<'a>),
+    /// Copy a preset, an instrument or a sample.
+    Copy(CopyPaths<'a>),
     /// Write a script that turns one bank into another.
     Diff(DiffPaths<'a>),
     /// Explain the fault or refusal with this number.
@@ -48,7 +51,7 @@ pub enum Request<'a> {
     /// Copy presets of another bank into a bank.
     Take(TakePaths<'a>),
     /// Remove what a bank doesn't use, and change no sound.
-    Tidy(PlanPaths<'a>),
+    Tidy(TidyPaths<'a>),
     /// Write a sample as a WAVE file.
     Wave(WavePaths<'a>),
 }
@@ -202,11 +205,17 @@ fn parse_request<'a, S: AsStr>(
 
 /// Returns the message for words in which clap finds no fault, but which make no request.
 fn no_request(matches: &ArgMatches<'_>) -> &'static str {
-    match matches.subcommand_name() {
-        Some("keep") => {
+    match matches.subcommand() {
+        Some((_, words)) if saves_in_dry_run(words) => {
+            "--script saves the edits that --dry-run prints: give one of the two"
+        }
+        Some(("copy", _)) => {
+            "copy takes --name NAME of at most 20 bytes, and --as BANK:NUMBER for a preset only, such as --as 8:24"
+        }
+        Some(("keep", _)) => {
             "keep needs either --notes NOTES, which --zones can follow, or --preset BANK:NUMBER, such as --preset 0:24"
         }
-        Some("take") => {
+        Some(("take", _)) => {
             "take needs --preset BANK:NUMBER[=BANK:NUMBER], such as --preset 0:24 or --preset 0:24=8:24"
         }
         _ => "no command was given",
@@ -257,6 +266,16 @@ fn request_to_take<'a>(
     }
 }
 
+/// Returns the request of `copy`. Its operands hold a name and borrow words, for which the language has no `?`.
+fn request_to_copy<'a>(words: &ArgMatches<'a>) -> Option<Request<'a>>
+    ensures { FindsOne result (AsksFor (Some (codes "copy", rows_in words.now))) }
+{
+    match read_copy(words) {
+        Some(copy) => Some(Request::Copy(copy)),
+        None => None,
+    }
+}
+
 /// Returns the request of a command other than `keep` and `take`.
 fn request_of_command<'a>(name: &str, words: &ArgMatches<'a>) -> Option<Request<'a>>
     requires not_keep { name.now ≢ codes "keep" }
@@ -266,6 +285,7 @@ fn request_of_command<'a>(name: &str, words: &ArgMatches<'a>) -> Option<Request<
     Some(match name {
         "apply" => Request::Apply(read_apply(words)?),
         "canon" => Request::Canon(read_canon(words)?),
+        "copy" => return request_to_copy(words),
         "diff" => Request::Diff(read_diff(words)?),
         "explain" => Request::Explain(read_number(words, "N")?),
         "import" => Request::Import(read_import(words)?),
@@ -276,7 +296,7 @@ fn request_of_command<'a>(name: &str, words: &ArgMatches<'a>) -> Option<Request<
         "play" => Request::Play(read_play(words)?),
         "script" => Request::Script(read_script(words)?),
         "show" => Request::Show(read_show(words)?),
-        "tidy" => Request::Tidy(read_plan(words)?),
+        "tidy" => Request::Tidy(read_tidy(words)?),
         "wave" => Request::Wave(read_wave(words)?),
         _ => return None,
     })
@@ -431,7 +451,14 @@ pub(crate) fn read_word<'a>(matches: &ArgMatches<'a>, name: &str) -> Option<&'a 
     matches.get_str(name)
 }
 
-fn read_number(matches: &ArgMatches<'_>, name: &str) -> Option<u32>
+/// Returns the word of the option, if it is used.
+pub(crate) fn read_optional_word<'a>(matches: &ArgMatches<'a>, name: &str) -> Option<&'a str>
+    ensures { IsGiven (rows_in matches.now) (optional_word name.now result) }
+{
+    read_word(matches, name)
+}
+
+pub(crate) fn read_number(matches: &ArgMatches<'_>, name: &str) -> Option<u32>
     ensures { FindsOne result (λ n. IsGiven (rows_in matches.now) (Number name.now 32 n)) }
 {
     matches.get_one::<u32>(name)

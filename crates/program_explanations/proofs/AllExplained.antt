@@ -77,6 +77,7 @@ of_presets : (it : PresetFault) → Found (number_of (Presets it))
 of_presets (preset.Missing numbers) = refl
 of_presets (preset.InUse numbers) = refl
 of_presets (preset.BankTooHigh numbers) = refl
+of_presets (preset.NoneFree numbers) = refl
 
 of_cause : (it : Cause) → Found (number_of (Refused (refusal.Of it)))
 of_cause cause.NoSuchPreset = refl

@@ -60,7 +60,7 @@ pub struct Explanation {
 const ANY_NUMBERS: PresetNumbers = PresetNumbers { bank: 0, number: 0 };
 
 /// One fault or refusal for each number. The fields of a variant have any value.
-static ALL: [FaultCode; 65] = [
+static ALL: [FaultCode; 66] = [
     FaultCode::Reading(ReadFault::NotRiff),
     FaultCode::Reading(ReadFault::NotSfbk),
     FaultCode::Reading(ReadFault::Truncated),
@@ -126,6 +126,7 @@ static ALL: [FaultCode; 65] = [
     FaultCode::Presets(PresetFault::Missing(ANY_NUMBERS)),
     FaultCode::Presets(PresetFault::InUse(ANY_NUMBERS)),
     FaultCode::Presets(PresetFault::BankTooHigh(ANY_NUMBERS)),
+    FaultCode::Presets(PresetFault::NoneFree(ANY_NUMBERS)),
 ];
 
 impl FaultCode {
@@ -429,11 +430,15 @@ fn of_presets(fault: PresetFault) -> (&'static str, &'static str) {
         ),
         PresetFault::InUse(_) => (
             "Another preset has these numbers, or two copies would get them.",
-            "Give other numbers by `--preset A:B=C:D` or `--shift`.",
+            "Give other numbers by `--preset A:B=C:D`, `--shift` or `--as`.",
         ),
         PresetFault::BankTooHigh(_) => (
             "The bank number of this preset would be above 65,535.",
             "Give a lower `--shift`.",
+        ),
+        PresetFault::NoneFree(_) => (
+            "All numbers that the copy of this preset may get are in use.",
+            "Give numbers by `--as BANK:NUMBER`.",
         ),
     }
 }

@@ -22,18 +22,22 @@ use Rattle.sfbank.specs.Outcome.{Done, after_reading, bank_in, both_texts}
 use Rattle.sfbank.specs.Written.{FailsBefore}
 use Rattle.sfbank.specs.Purposes.{Purpose, keeping_listed, promise_of}
 use Rattle.sfbank.specs.PlannedEdits.{IsPlanned, IsScript, of_plan}
-use Rattle.sfbank.specs.Plans.{Action, Why, Edits, Found, Prints, SavesBoth, edits_at, standard_output, with_edits}
+use Rattle.sfbank.specs.Plans.{Action, Why, Edits, Found, Prints, SavesAll, edits_at, saves_found, standard_output, with_edits}
 use Rattle.sfbank.specs.Ends.{FindsEdits, Outside, EndsFor}
 use Rattle.sfbank.specs.Outputs.{PrintsAt, SavesPairAt}
 use Rattle.sfbank.specs.Steps.{IsReadAs}
-use Rattle.sfbank.proofs.PlanLaws.{at, untouched}
+use Rattle.sfbank.proofs.PlanLaws.{at, memory_fails, untouched}
 use Rattle.sfbank.proofs.OutcomeLaws.{both_end, outcome_fails, prints_end}
 use Rattle.sfbank.proofs.PlannedEdits.{planned}
 
 -- the action, printed or saved
 abbrev chosen : PlanPaths → Purpose → List ℕ → Bool → Result Action Why
 chosen p purpose file dry_run =
-    Ok (if dry_run then Prints standard_output (Edits purpose file) else SavesBoth p.out.now p.undo.now (Found purpose file))
+    Ok (if dry_run then Prints standard_output (Edits purpose file) else saves_found p.script p.out.now p.undo.now purpose file)
+
+-- the same for a script at this path, or for none
+abbrev saved_for : PlanPaths → Purpose → List ℕ → Option (Bor (List ℕ)) → Result Action Why
+saved_for p purpose file script = Ok (saves_found script p.out.now p.undo.now purpose file)
 
 -- the edits that are found are the script's
 pub is_script : (purpose : Purpose) (file : List ℕ) (b : Parts) (edits : List Edit) → IsReadAs file b
@@ -48,7 +52,7 @@ is_script purpose file b edits r promised accepted =
     }
 
 -- and their texts are those of the edited bank
-pub is_planned : (purpose : Purpose) (file : List ℕ) (b : Parts) (edits : List Edit) (done : Done) → IsReadAs file b
+unfoldable pub is_planned : (purpose : Purpose) (file : List ℕ) (b : Parts) (edits : List Edit) (done : Done) → IsReadAs file b
     → promise_of purpose b edits → AllAccepted b edits → done ≡ both_texts b edits
     → IsPlanned (promise_of purpose) file done
 is_planned purpose file b edits done r promised accepted texts =
@@ -67,18 +71,32 @@ edits_print (Some w) p purpose file text old new written end dry is h =
 
 -- both texts are saved
 pub edits_saved : (files new : Option World) (p : PlanPaths) (purpose : Purpose) (file : List ℕ) (done : Done)
-    (printed : Option (List ℕ)) (written : ℕ) (end : Result (Unit {0}) Fault) → p.dry_run ≡ false
+    (printed : Option (List ℕ)) (written : ℕ) (end : Result (Unit {0}) Fault) → p.dry_run ≡ false → p.script ≡ None
     → IsPlanned (promise_of purpose) file done → SavesPairAt p.out.now p.undo.now done files new written end
     → EndsFor (λ w. Ok (edits_at p purpose file)) (at files printed) (at new printed) written end
-edits_saved None new p purpose file done printed written end saves is h = tt
-edits_saved (Some w) new p purpose file done printed written end saves is h =
+edits_saved None new p purpose file done printed written end saves none is h = tt
+edits_saved (Some w) new p purpose file done printed written end saves none is h =
     both_end w p.out.now p.undo.now (Found purpose file) done (Ok (edits_at p purpose file)) new printed written end
-    (ap (chosen p purpose file) saves) is h
+    (ap (chosen p purpose file) saves ∙ ap (saved_for p purpose file) none) is h
+
+-- all three texts are saved
+pub all_saved : (files new : Outside) (p : PlanPaths) (script : Bor (List ℕ)) (purpose : Purpose) (file : List ℕ)
+    (written : ℕ) (end : Result (Unit {0}) Fault) → p.dry_run ≡ false → p.script ≡ Some script
+    → EndsFor (λ w. Ok (SavesAll script.now p.out.now p.undo.now purpose file)) files new written end
+    → EndsFor (λ w. Ok (edits_at p purpose file)) files new written end
+all_saved files new p script purpose file written end saves some h =
+    subst (λ (r : Result Action Why). EndsFor (λ w. r) files new written end)
+    (sym (ap (chosen p purpose file) saves ∙ ap (saved_for p purpose file) some)) h
+
+finds_saved : (p : PlanPaths) (purpose : Purpose) (file : List ℕ) (script : Option (Bor (List ℕ)))
+    → FindsEdits (saved_for p purpose file script)
+finds_saved p purpose file None = tt
+finds_saved p purpose file (Some script) = tt
 
 finds_edits : (p : PlanPaths) (purpose : Purpose) (file : List ℕ) (dry_run : Bool)
     → FindsEdits (chosen p purpose file dry_run)
 finds_edits p purpose file true = tt
-finds_edits p purpose file false = tt
+finds_edits p purpose file false = finds_saved p purpose file p.script
 
 -- none are found, or an allocation failed
 pub no_edits : (files : Option World) (printed : Option (List ℕ)) (written : ℕ) (p : PlanPaths) (purpose : Purpose)
@@ -90,7 +108,9 @@ no_edits (Some w) printed written p purpose file path (Full limit) =
     (inr (finds_edits p purpose file p.dry_run), untouched (Some w) (Some w) printed refl)
 no_edits (Some w) printed written p purpose file path Defect =
     (inr (finds_edits p purpose file p.dry_run), untouched (Some w) (Some w) printed refl)
-no_edits (Some w) printed written p purpose file path OutOfMemory = (tt, untouched (Some w) (Some w) printed refl)
+no_edits (Some w) printed written p purpose file path OutOfMemory =
+    memory_fails (Ok (edits_at p purpose file)) (at (Some w) printed) (at (Some w) printed)
+    (untouched (Some w) (Some w) printed refl)
 
 -- ---- for a file and a purpose
 

@@ -21,3 +21,5 @@ pub mod PlannedEdits
 mod FoundEdits
 mod BankPairs
 mod KeptNotes
+mod CopiedMembers
+mod SavedScripts

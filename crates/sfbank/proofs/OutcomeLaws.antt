@@ -21,11 +21,11 @@ use Rattle.sfbank.specs.Plans.{Action, Content, Texts, Known, Why, Fails, SavesB
 use Rattle.sfbank.specs.Plans.{standard_output, put_at}
 use Rattle.sfbank.specs.Plans.{Difference, with_text, with_print, with_both, with_difference}
 use Rattle.sfbank.specs.Differences.{TwoBanks, FindsDifference, banks_in, two_banks_of}
-use Rattle.sfbank.specs.Ends.{Outside, AreTexts, IsContent, IsUnexplained, IsEarly, IsStopped, EndsAs, EndsFor}
+use Rattle.sfbank.specs.Ends.{Outside, AreTexts, IsContent, IsUnexplained, IsEarly, IsStopped, EndsAs, EndsFor, path_of}
 use Rattle.sfbank.specs.Meanings.{MeansPlan}
-use Rattle.sfbank.specs.Outputs.{FailsFirst, PrintsAt, PrintsOutcome, PrintsExplanation, SavesPairAt, path_of}
+use Rattle.sfbank.specs.Outputs.{FailsFirst, PrintsAt, PrintsOutcome, PrintsExplanation, SavesPairAt}
 use Rattle.sfbank.specs.Steps.{ReadsBank}
-use Rattle.sfbank.proofs.PlanLaws.{at, untouched, nothing, ends_early}
+use Rattle.sfbank.proofs.PlanLaws.{at, untouched, nothing, ends_early, memory_fails}
 
 -- ---- a file that is no bank
 
@@ -112,15 +112,15 @@ prints_end w path text content planned old new written (Ok u) e is h = record {
 prints_end w path text content planned old new written (Err (Run (run.Write Out n) at)) e is h = record {
   action = Prints path content;
   is_planned = e;
-  path = h.0;
-  stops = record { text = text; is = is; within = h.1.0; printed = h.1.1; files = refl };
+  stops = (h.0, record { text = text; is = is; within = h.1.0; printed = h.1.1; files = refl });
 }
 prints_end w path text content planned old new written (Err PipeClosed) e is h = record {
   action = Prints path content;
   is_planned = e;
   some = Out;
   n = h.0;
-  stops = record { text = text; is = is; within = h.1.0; printed = h.1.1; files = refl };
+  at = path;
+  stops = (refl, record { text = text; is = is; within = h.1.0; printed = h.1.1; files = refl });
 }
 prints_end w path text content planned old new written (Err (Run (run.Write Undo n) at)) e is h = absurd h
 prints_end w path text content planned old new written (Err (Words x)) e is h = absurd h
@@ -212,17 +212,10 @@ both_stop : (w : World) (out undo : List ℕ) (texts : Texts) (done : Done) (pla
     → planned ≡ Ok (SavesBoth out undo texts) → AreTexts texts done → at_path ≡ path_of some out undo → n ≡ written
     → SpoilsPair (Some w) new undo done.undo out done.out
     → IsStopped planned some n at_path (at (Some w) printed) (at new printed) written
-both_stop w out undo texts done planned new printed written n Out at_path e are p c h = record {
+both_stop w out undo texts done planned new printed written n some at_path e are p c h = record {
   action = SavesBoth out undo texts;
   is_planned = e;
-  path = p;
-  stops = (c, record { done = done; are = are; files = h; printed = Keeps-refl printed });
-}
-both_stop w out undo texts done planned new printed written n Undo at_path e are p c h = record {
-  action = SavesBoth out undo texts;
-  is_planned = e;
-  path = p;
-  stops = (c, record { done = done; are = are; files = h; printed = Keeps-refl printed });
+  stops = (p, c, record { done = done; are = are; files = h; printed = Keeps-refl printed });
 }
 
 pub both_end : (w : World) (out undo : List ℕ) (texts : Texts) (done : Done) (planned : Result Action Why) (new : Option World)
@@ -236,13 +229,15 @@ both_end w out undo texts done planned new printed written (Ok u) e are h = reco
 }
 both_end w out undo texts done planned new printed written (Err (Run (run.Write some n) p)) e are h =
     both_stop w out undo texts done planned new printed written n some p.now e are h.0 h.1 h.2
-both_end w out undo texts done planned new printed written (Err (Run run.Memory p)) e are h = (tt, untouched (Some w) new printed h)
+both_end w out undo texts done planned new printed written (Err (Run run.Memory p)) e are h =
+    memory_fails planned (at (Some w) printed) (at new printed) (untouched (Some w) new printed h)
 both_end w out undo texts done planned new printed written (Err PipeClosed) e are h = record {
   action = SavesBoth out undo texts;
   is_planned = e;
   some = Out;
   n = written;
-  stops = (refl, record { done = done; are = are; files = h; printed = Keeps-refl printed });
+  at = out;
+  stops = (refl, refl, record { done = done; are = are; files = h; printed = Keeps-refl printed });
 }
 both_end w out undo texts done planned new printed written (Err (Words x)) e are h = absurd h
 both_end w out undo texts done planned new printed written (Err NotText) e are h = absurd h

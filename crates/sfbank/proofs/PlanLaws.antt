@@ -1,6 +1,6 @@
 -- How the steps of a request make its end.
 use Rattle.std.proofs.Common.{◌≡◌, ℕ, List, Option, Some, None, Result, Ok, Err, Bool}
-use Rattle.std.proofs.Common.{refl, sym, ap, subst, ◌∙◌}
+use Rattle.std.proofs.Common.{refl, sym, ap, subst, ◌∙◌, inl}
 use Rattle.std.specs.Prelude.{◌||◌}
 use Rattle.std.proofs.KnownBytes.{Keeps-refl}
 use Rattle.base_outputs.specs.declared.output_fault.OutputFault.TheVariants.{SameFile, HoldsBank}
@@ -13,7 +13,8 @@ use Rattle.program_reports.specs.declared.fault.Fault.{Fault}
 use Rattle.program_reports.specs.declared.fault.Fault.TheVariants.{Words, NotText, Unexplained, File, Output, Run, PipeClosed}
 use Rattle.program_reports.specs.declared.run_fault.RunFault.TheVariants as run
 use Rattle.sfbank.specs.Plans.{Action, Why, Unread, Inputs, GivesInput, AreInputs, plan, no_bank, with_input}
-use Rattle.sfbank.specs.Ends.{Outside, IsUntouched, IsEarly, EndsAs, EndsFor}
+use Rattle.sfbank.specs.Plans.{Plays, Prints, Saves, SavesAll, SavesBoth}
+use Rattle.sfbank.specs.Ends.{Outside, IsUntouched, IsEarly, StopsForMemory, EndsAs, EndsFor}
 use Rattle.sfbank.specs.Meanings.{MeansPlan}
 use Rattle.sfbank.specs.Steps.{Part, PassesIn, Passes, FailsInput, AreGiven, StopsInInputs}
 
@@ -24,6 +25,15 @@ at files printed = record { files = files; printed = printed }
 
 pub untouched : (old new : Option World) (printed : Option (List ℕ)) → new ≡ old → IsUntouched (at old printed) (at new printed)
 untouched old new printed e = record { files = e; printed = Keeps-refl printed }
+
+-- no file is changed where memory fails
+pub memory_fails : (planned : Result Action Why) (old new : Outside) → IsUntouched old new → StopsForMemory planned old new
+memory_fails (Err why) old new u = u
+memory_fails (Ok (Saves path content)) old new u = u
+memory_fails (Ok (SavesBoth out undo texts)) old new u = u
+memory_fails (Ok (SavesAll script out undo purpose file)) old new u = inl u
+memory_fails (Ok (Prints path content)) old new u = u
+memory_fails (Ok (Plays paths file)) old new u = u
 
 -- no file is changed, for this fault
 pub ends_early : (w : World) (planned : Result Action Why) (old new : Outside) (written : ℕ) (fault : Fault)
@@ -48,7 +58,7 @@ ends_early w planned old new written (Run (run.Full f) path) h u = (h, u)
 ends_early w planned old new written (Run (run.Notes fault) path) h u = (h, u)
 ends_early w planned old new written (Run (run.Recording fault) path) h u = (h, u)
 ends_early w planned old new written (Run (run.NoMember cause) path) h u = (h, u)
-ends_early w planned old new written (Run run.Memory path) h u = (h, u)
+ends_early w planned old new written (Run run.Memory path) h u = memory_fails planned old new u
 ends_early w planned old new written (Run (run.Write which n) path) h u = absurd h
 ends_early w planned old new written PipeClosed h u = absurd h
 

@@ -2,7 +2,7 @@
 use Rattle.std.specs.Prelude.{◌==◌, ◌&&◌, ◌||◌}
 use Rattle.std.specs.List.{AllByRecursion}
 use Rattle.std.proofs.Common.{eq-eqb}
-use Rattle.std.proofs.Common.{◌≡◌, ℕ, List, [], ◌∷◌, Bool, true, false, Option, Some, None, Result, Ok, Err, refl, sym, ap, subst, inl, inr, ◌∙◌}
+use Rattle.std.proofs.Common.{◌≡◌, ℕ, List, [], ◌∷◌, Bool, true, false, Option, Some, None, Result, Ok, Err, map, refl, sym, ap, subst, inl, inr, ◌∙◌}
 use Rattle.bank_parts.specs.declared.parts.Parts.{Parts}
 use Rattle.bank_format.specs.declared.fault.Counts.{Counts}
 use Rattle.bank_format.specs.declared.fault.ReadFault.{ReadFault}
@@ -20,11 +20,15 @@ use Rattle.edit_script.specs.Script.{script_of}
 use Rattle.edit_script.specs.Printing.{texts_of, numbered}
 use Rattle.script_notes.specs.declared.fault.NoteFault.{NoteFault}
 use Rattle.script_notes.specs.Notes.{Numbers, notes_of}
+use Rattle.mixer.specs.Render.{render}
 use Rattle.wave_file.specs.Wave.{wave}
 use Rattle.plan_edits.specs.Tidying.{IsTidying}
 use Rattle.plan_presets.specs.declared.numbers.PresetNumbers.{PresetNumbers}
 use Rattle.plan_presets.specs.declared.numbers.TakenPreset.{TakenPreset}
-use Rattle.plan_take.specs.Taking.{IsTaking}
+use Rattle.plan_presets.specs.declared.numbers.CopiedMember.{CopiedMember}
+use Rattle.plan_copy.specs.Copying.{IsCopying}
+use Rattle.plan_take.specs.RemovingDuplicates.{IsRemovingDuplicates}
+use Rattle.plan_take.specs.Taking.{IsTaking, KeepsOthers, on_preset}
 use Rattle.plan_edits.specs.Keeping.{IsKeeping, is_listed, is_played}
 use Rattle.edit_script.proofs.LineLaws.{printed_is_read}
 use Rattle.program_commands.specs.declared.words.Forms.TheVariants.{Every}
@@ -39,7 +43,7 @@ use Rattle.sfbank.specs.Steps.{IsReadAs}
 use Rattle.sfbank.specs.Purposes.{Promise, Purpose, Serves, presets_of, promise_of}
 use Rattle.sfbank.specs.PlannedEdits.{IsPlanned, MayEnd, HasTexts, RunsPlan, of_plan}
 use Rattle.sfbank.specs.PlannedEdits.{PlanIsUndone, TidiedRendersSame, OnlyPlays, KeptRendersSame, PlayedRendersSame}
-use Rattle.sfbank.specs.PlannedEdits.{TakenRenderSame, OthersRenderSame}
+use Rattle.sfbank.specs.PlannedEdits.{CopyRendersSame, TakenRenderSame, OthersRenderSame}
 use Rattle.sfbank.proofs.Restores.{all_fit, after_numbered, edits_numbered, reading_done, script_done, restores}
 use Rattle.sfbank.proofs.RenderLaws.{played_on}
 use Rattle.sfbank.proofs.Faults.{at_bank}
@@ -47,7 +51,7 @@ use Rattle.sfbank.proofs.Endings.{ends_early, ends_with, fails_through}
 
 -- ---- a plan that finds edits
 
-pub planned : (promise : Promise) (file : List ℕ) (b : Parts) (counts : Counts) (done : Done) → ReadsAs file b counts
+unfoldable pub planned : (promise : Promise) (file : List ℕ) (b : Parts) (counts : Counts) (done : Done) → ReadsAs file b counts
     → HasTexts promise b done → IsPlanned promise file done
 unfolding outcome
 planned promise file b counts done r h = record {
@@ -173,13 +177,25 @@ played_after promise file notes done p bytes same =
     ∙ same
     ∙ sym (played_on file notes b _ (r.no_fault, refl))
 
-pub tidied_renders_same : (file : List ℕ) → AreBytes file → TidiedRendersSame file
-tidied_renders_same file bytes done notes p = played_after IsTidying file notes done p bytes (by_notes (notes_of notes))
+-- a promise after which all notes render as before
+abbrev KeepsAll : Promise → Type 0
+KeepsAll promise =
+    (b : Parts) (edits : List Edit) (ns : List Numbers) → promise b edits → render b ns ≡ render (after_all b edits) ns
+
+all_render_same : (promise : Promise) (file notes : List ℕ) (done : Done) → KeepsAll promise → AreBytes file
+    → IsPlanned promise file done → play_outcome done.out notes ≡ play_outcome file notes
+all_render_same promise file notes done keeps bytes p = played_after promise file notes done p bytes (by_notes (notes_of notes))
   where
     by_notes : (parsed : Result (List Numbers) NoteFault)
         → after_notes (after_all (bank_in file) p.edits) parsed ≡ after_notes (bank_in file) parsed
-    by_notes (Ok ns) = ap (λ xs. Ok (wave xs)) (sym (p.promised.same ns))
+    by_notes (Ok ns) = ap (λ xs. Ok (wave xs)) (sym (keeps (bank_in file) p.edits ns p.promised))
     by_notes (Err fault) = refl
+
+pub tidied_renders_same : (merge : Bool) (file : List ℕ) → AreBytes file → TidiedRendersSame merge file
+tidied_renders_same true file bytes done notes p =
+    all_render_same IsRemovingDuplicates file notes done (λ b edits ns h. h.same ns) bytes p
+tidied_renders_same false file bytes done notes p =
+    all_render_same IsTidying file notes done (λ b edits ns h. h.same ns) bytes p
 
 pub kept_renders_same : (kept : List PresetNumbers) (file : List ℕ) → AreBytes file → KeptRendersSame kept file
 kept_renders_same kept file bytes done notes p only =
@@ -196,9 +212,12 @@ kept_renders_same kept file bytes done notes p only =
 abbrev Takes : Promise → Parts → List TakenPreset → Type 0
 Takes promise from presets = (b : Parts) (edits : List Edit) → promise b edits → IsTaking from presets b edits
 
-pub taken_render_same : (promise : Promise) (other : List ℕ) (presets : List TakenPreset) (file : List ℕ)
-    → Takes promise (bank_in other) presets → AreBytes file → TakenRenderSame promise other presets file
-taken_render_same promise other presets file takes bytes done i p ns notes played found no_fault at e d =
+-- notes that render on the edited bank as others do on another bank
+renders_as : (promise : Promise) (file other notes played : List ℕ) (done : Done) (found : IsPlanned promise file done)
+    (ns ms : List Numbers) → AreBytes file → fault_of other ≡ None → notes_of notes ≡ Ok ns → notes_of played ≡ Ok ms
+    → render (after_all (bank_in file) found.edits) ns ≡ render (bank_in other) ms
+    → play_outcome done.out notes ≡ play_outcome other played
+renders_as promise file other notes played done found ns ms bytes no_fault e d same =
     let b = bank_in file in
     let from = bank_in other in
     let r = read_of promise file done found bytes in
@@ -207,17 +226,36 @@ taken_render_same promise other presets file takes bytes done i p ns notes playe
     ap (λ (x : Done). play_outcome x.out notes) r.texts
     ∙ played_on (canon end) notes end _ (reads-again end end_sound.valid end_sound.fits)
     ∙ ap (after_notes end) e
-    ∙ ap (λ xs. Ok (wave xs)) ((takes b found.edits found.promised).renders i p at ns)
+    ∙ ap (λ xs. Ok (wave xs)) same
     ∙ sym (ap (after_notes from) d)
     ∙ sym (played_on other played from _ (no_fault, refl))
 
-pub others_render_same : (promise : Promise) (from : Parts) (presets : List TakenPreset) (file : List ℕ)
-    → Takes promise from presets → AreBytes file → OthersRenderSame promise presets file
-others_render_same promise from presets file takes bytes done ns notes p parsed only =
+pub taken_render_same : (promise : Promise) (other : List ℕ) (presets : List TakenPreset) (file : List ℕ)
+    → Takes promise (bank_in other) presets → AreBytes file → TakenRenderSame promise other presets file
+taken_render_same promise other presets file takes bytes done i p ns notes played found no_fault at e d =
+    renders_as promise file other notes played done found (map (on_preset p.to) ns) (map (on_preset p.from) ns) bytes
+    no_fault e d ((takes (bank_in file) found.edits found.promised).renders i p at ns)
+
+-- a promise that keeps the sound of other presets
+abbrev pub Keeps : Promise → List TakenPreset → Parts → Type 0
+Keeps promise presets b = (edits : List Edit) → promise b edits → KeepsOthers presets b (after_all b edits)
+
+pub others_render_same : (promise : Promise) (presets : List TakenPreset) (file : List ℕ)
+    → Keeps promise presets (bank_in file) → AreBytes file → OthersRenderSame promise presets file
+others_render_same promise presets file keeps bytes done ns notes p parsed only =
     played_after promise file notes done p bytes
     (ap (after_notes (after_all (bank_in file) p.edits)) parsed
-    ∙ ap (λ xs. Ok (wave xs)) (sym ((takes (bank_in file) p.edits p.promised).others ns only))
+    ∙ ap (λ xs. Ok (wave xs)) (sym (keeps p.edits p.promised ns only))
     ∙ sym (ap (after_notes (bank_in file)) parsed))
+
+-- ---- the copy of a preset
+
+pub copy_renders_same : (member : CopiedMember) (name : Option (List ℕ)) (file : List ℕ) → AreBytes file
+    → CopyRendersSame member name file
+copy_renders_same member name file bytes done i p ns notes played found at is_played e d =
+    renders_as (IsCopying member name) file file notes played done found (map (on_preset p.to) ns)
+    (map (on_preset p.from) ns) bytes (no_fault (IsCopying member name) file done found) e d
+    ((found.promised.renders i p at is_played).1 ns)
 
 -- ---- the presets of notes
 

@@ -3,6 +3,7 @@ use Rattle.std.specs.Prelude.{◌≡◌, ◌⊎◌, ◌≤◌, ℕ, List, [], le
 use Rattle.std.specs.Option.{option_map}
 use Rattle.std.specs.Io.KnownBytes.{Appends, Keeps}
 use Rattle.base_outputs.specs.declared.output_fault.OutputFault.TheVariants.{HoldsBank}
+use Rattle.edit_script.specs.Printing.{texts_of}
 use Rattle.file_host.specs.World.{World, with_pair, with_stream}
 use Rattle.file_host.specs.World as world
 use Rattle.file_host.specs.Saving.{Spoils, SpoilsPair}
@@ -17,9 +18,9 @@ use Rattle.program_reports.specs.declared.fault.Fault.TheVariants.{Unexplained, 
 use Rattle.program_reports.specs.declared.run_fault.RunFault.TheVariants as run
 use Rattle.sfbank.specs.Outcome.{Done, bank_in}
 use Rattle.sfbank.specs.Differences.{IsDifference}
-use Rattle.sfbank.specs.Purposes.{promise_of}
+use Rattle.sfbank.specs.Purposes.{Purpose, promise_of}
 use Rattle.sfbank.specs.PlannedEdits.{IsPlanned, IsScript}
-use Rattle.sfbank.specs.Plans.{Action, Content, Texts, Known, Found, Saves, SavesBoth, Prints, Plays}
+use Rattle.sfbank.specs.Plans.{Action, Content, Texts, Known, Found, Saves, SavesAll, SavesBoth, Prints, Plays}
 use Rattle.sfbank.specs.Plans.{Text, Difference, Edits, Explanation as Explains, Why, Rejected, Unread, Fails, standard_output}
 
 -- the world of files, and the bytes of the standard output
@@ -67,6 +68,15 @@ pub record SavesPair (out undo : List ℕ) (texts : Texts) (old new : Outside) :
   pub files : new.files ≡ option_map (with_pair undo done.undo out done.out) old.files
   pub printed : Keeps old.printed new.printed
 
+-- The script of edits that are found is saved whole, then the bank's file and its undo script.
+pub record SavesThree (script out undo : List ℕ) (purpose : Purpose) (file : List ℕ) (old new : Outside) : Type 0 where
+  pub done : Done
+  pub found : IsPlanned (promise_of purpose) file done
+  pub files : new.files
+      ≡ option_map (with_pair undo done.undo out done.out)
+      (option_map (world.with_text script (texts_of found.edits)) old.files)
+  pub printed : Keeps old.printed new.printed
+
 -- a text is printed whole, and no file is changed
 pub record PrintsText (content : Content) (old new : Outside) : Type 0 where
   pub text : List ℕ
@@ -77,6 +87,7 @@ pub record PrintsText (content : Content) (old new : Outside) : Type 0 where
 abbrev pub Does : Action → Outside → Outside → Type 0
 Does (Saves path content) old new = SavesFile path content old new
 Does (SavesBoth out undo texts) old new = SavesPair out undo texts old new
+Does (SavesAll script out undo purpose file) old new = SavesThree script out undo purpose file old new
 Does (Prints path content) old new = PrintsText content old new
 Does (Plays paths file) old new = ⊥
 
@@ -99,6 +110,15 @@ pub record StopsPair (out undo : List ℕ) (texts : Texts) (old new : Outside) :
   pub files : SpoilsPair old.files new.files undo done.undo out done.out
   pub printed : Keeps old.printed new.printed
 
+-- the script of edits is whole, and both files are as they were, or whole
+pub record StopsAfterScript (script out undo : List ℕ) (purpose : Purpose) (file : List ℕ) (old new : Outside)
+    : Type 0 where
+  pub done : Done
+  pub found : IsPlanned (promise_of purpose) file done
+  pub files : SpoilsPair (option_map (world.with_text script (texts_of found.edits)) old.files) new.files
+      undo done.undo out done.out
+  pub printed : Keeps old.printed new.printed
+
 -- exactly the first bytes are printed
 pub record StopsPrint (content : Content) (n : ℕ) (old new : Outside) : Type 0 where
   pub text : List ℕ
@@ -107,26 +127,34 @@ pub record StopsPrint (content : Content) (n : ℕ) (old new : Outside) : Type 0
   pub printed : Appends old.printed new.printed (take n text)
   pub files : new.files ≡ old.files
 
--- an action stops after so many bytes of a text, where the last failed save wrote `written` bytes
-abbrev pub StopsIn : Action → Which → ℕ → ℕ → Outside → Outside → Type 0
-StopsIn (Saves path content) which.Out n written old new = (n ≡ written) × StopsFile path content old new
-StopsIn (SavesBoth out undo texts) some n written old new = (n ≡ written) × StopsPair out undo texts old new
-StopsIn (Prints path content) which.Out n written old new = StopsPrint content n old new
-StopsIn action other n written old new = ⊥
+-- the path of one of two texts
+abbrev pub path_of : {X : Type 0} → Which → X → X → X
+path_of which.Out out undo = out
+path_of which.Undo out undo = undo
 
--- the path of the text that an action writes
-abbrev pub path_in : Action → Which → List ℕ
-path_in (Saves path content) some = path
-path_in (SavesBoth out undo texts) which.Out = out
-path_in (SavesBoth out undo texts) which.Undo = undo
-path_in (Prints path content) some = path
-path_in (Plays paths file) some = paths.pcm.now
+-- A text that is saved stops at its path: the script of edits, or one of the texts after it.
+abbrev pub StopsInOne : Which → List ℕ → List ℕ → List ℕ → List ℕ → Purpose → List ℕ → Outside → Outside → Type 0
+StopsInOne some at script out undo purpose file old new =
+    ((some ≡ which.Out) × (at ≡ script) × StopsFile script (Edits purpose file) old new)
+    ⊎ ((at ≡ path_of some out undo) × StopsAfterScript script out undo purpose file old new)
+
+-- an action stops after so many bytes of a text at a path, where the last failed save wrote `written` bytes
+abbrev pub StopsIn : Action → Which → ℕ → List ℕ → ℕ → Outside → Outside → Type 0
+StopsIn (Saves path content) which.Out n at written old new =
+    (at ≡ path) × (n ≡ written) × StopsFile path content old new
+StopsIn (SavesBoth out undo texts) some n at written old new =
+    (at ≡ path_of some out undo) × (n ≡ written) × StopsPair out undo texts old new
+StopsIn (SavesAll script out undo purpose file) some n at written old new =
+    (n ≡ written) × StopsInOne some at script out undo purpose file old new
+StopsIn (Prints path content) which.Out n at written old new = (at ≡ path) × StopsPrint content n old new
+StopsIn action other n at written old new = ⊥
 
 -- ---- a request
 
 -- edits have to be found
 abbrev pub FindsEdits : Result Action Why → Type 0
 FindsEdits (Ok (SavesBoth out undo (Found purpose file))) = ⊤
+FindsEdits (Ok (SavesAll script out undo purpose file)) = ⊤
 FindsEdits (Ok (Prints path (Edits purpose file))) = ⊤
 FindsEdits other = ⊥
 
@@ -157,8 +185,7 @@ pub record IsStopped (planned : Result Action Why) (some : Which) (n : ℕ) (at 
     (written : ℕ) : Type 0 where
   pub action : Action
   pub is_planned : planned ≡ Ok action
-  pub path : at ≡ path_in action some
-  pub stops : StopsIn action some n written old new
+  pub stops : StopsIn action some n at written old new
 
 -- a planned action that stops since nothing reads the other end of a pipe
 pub record IsCutOff (planned : Result Action Why) (old new : Outside) (written : ℕ) : Type 0 where
@@ -166,13 +193,21 @@ pub record IsCutOff (planned : Result Action Why) (old new : Outside) (written :
   pub is_planned : planned ≡ Ok action
   pub some : Which
   pub n : ℕ
-  pub stops : StopsIn action some n written old new
+  pub at : List ℕ
+  pub stops : StopsIn action some n at written old new
 
--- What is planned is done; or it stops in a write fault; or nothing is changed, for the fault of the plan. `written` is
--- the count of the last failed save.
+-- An allocation failed. Nothing is changed, but the script of edits may be saved.
+abbrev pub StopsForMemory : Result Action Why → Outside → Outside → Type 0
+StopsForMemory (Ok (SavesAll script out undo purpose file)) old new =
+    IsUntouched old new ⊎ SavesFile script (Edits purpose file) old new
+StopsForMemory planned old new = IsUntouched old new
+
+-- What is planned is done; or it stops in a write fault, or for memory; or nothing is changed, for the fault of the plan.
+-- `written` is the count of the last failed save.
 abbrev pub EndsAs : {U : Type 0} → World → Result Action Why → Outside → Outside → ℕ → Result U Fault → Type 0
 EndsAs w planned old new written (Ok u) = IsDone planned old new
 EndsAs w planned old new written (Err (Run (run.Write some n) at)) = IsStopped planned some n at.now old new written
+EndsAs w planned old new written (Err (Run run.Memory at)) = StopsForMemory planned old new
 EndsAs w planned old new written (Err PipeClosed) = IsCutOff planned old new written
 EndsAs w planned old new written (Err fault) = IsEarly w planned fault × IsUntouched old new
 

@@ -14,7 +14,7 @@ use Rattle.program_reports.specs.declared.run_fault.RunFault.TheVariants as run
 use Rattle.sfbank.specs.Outcome.{Done}
 use Rattle.sfbank.specs.Written.{FailsBefore}
 use Rattle.sfbank.specs.Plans.{Explanation, standard_output}
-use Rattle.sfbank.specs.Ends.{IsContent, IsUnexplained}
+use Rattle.sfbank.specs.Ends.{IsContent, IsUnexplained, path_of}
 
 -- a write fault, which is not reported where the reader of the output closed its pipe
 abbrev pub write_fault : Which → ℕ → Bor (List ℕ) → Bool → Fault
@@ -60,11 +60,6 @@ SavesAt path text old new written (Err (Run (run.Write which.Out n) at)) =
     (at.now ≡ path) × (n ≡ written) × Spoils old new path text
 SavesAt path text old new written (Err PipeClosed) = Spoils old new path text
 SavesAt path text old new written (Err fault) = ⊥
-
--- the path that a write fault is about
-abbrev pub path_of : {X : Type 0} → Which → X → X → X
-path_of which.Out out undo = out
-path_of which.Undo out undo = undo
 
 -- both texts are saved whole, or each file is as it was or whole
 abbrev pub SavesPairAt : {U : Type 0} → List ℕ → List ℕ → Done → Option World → Option World → ℕ → Result U Fault

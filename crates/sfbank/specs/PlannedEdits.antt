@@ -1,5 +1,5 @@
 -- Runs whose edits a plan finds.
-use Rattle.std.specs.Prelude.{◌≡◌, ◌⊎◌, ℕ, List, map, None, Some, Result, Ok, Err, true, false, slice_get, ⊤}
+use Rattle.std.specs.Prelude.{◌≡◌, ◌⊎◌, ℕ, List, map, Option, None, Some, Result, Ok, Err, Bool, true, false, slice_get, ⊤}
 use Rattle.bank_parts.specs.declared.parts.Parts.{Parts}
 use Rattle.std.specs.List.{AllByRecursion}
 use Rattle.hydra_records.specs.Records.{AreBytes}
@@ -12,17 +12,18 @@ use Rattle.bank_edits.specs.Runs.{AllAccepted}
 use Rattle.edit_script.specs.Printing.{texts_of}
 use Rattle.plan_edits.specs.declared.fault.PlanFault.{PlanFault}
 use Rattle.plan_edits.specs.declared.fault.PlanFault.TheVariants.{Full, Defect, OutOfMemory}
-use Rattle.plan_edits.specs.Tidying.{IsTidying}
+use Rattle.plan_presets.specs.declared.numbers.CopiedMember.{CopiedMember}
 use Rattle.plan_presets.specs.declared.numbers.PresetNumbers.{PresetNumbers}
 use Rattle.plan_presets.specs.declared.numbers.TakenPreset.{TakenPreset}
 use Rattle.plan_edits.specs.Keeping.{is_played, IsKeeping}
+use Rattle.plan_copy.specs.Copying.{IsCopying, IsPlayed, copies}
 use Rattle.plan_take.specs.Taking.{is_taken, on_preset}
 use Rattle.program_reports.specs.declared.run_fault.RunFault.{RunFault}
 use Rattle.program_reports.specs.declared.run_fault.RunFault.TheVariants as run
 use Rattle.sfbank.specs.Outcome.{Done, both_texts, bank_in, outcome, play_outcome}
 use Rattle.sfbank.specs.Written.{Writers, Runs}
 use Rattle.program_commands.specs.declared.plans.Zones.{Zones}
-use Rattle.sfbank.specs.Purposes.{Promise, Purpose, keeping_played, presets_of, promise_of}
+use Rattle.sfbank.specs.Purposes.{Promise, Purpose, keeping_played, presets_of, promise_of, tidying_with}
 
 -- The plan found edits that keep its promise. Their script, run on the file, gives both texts.
 pub record IsPlanned (promise : Promise) (file : List ℕ) (done : Done) : Type 0 where
@@ -93,9 +94,10 @@ PlanIsUndone promise file =
     → outcome done.out done.undo ≡ Ok (record { out = canon (bank_in file); undo = texts_of p.edits })
 
 -- each note list has the same outcome on the tidied file and on the first
-abbrev pub TidiedRendersSame : List ℕ → Type 0
-TidiedRendersSame file =
-    (done : Done) (notes : List ℕ) → IsPlanned IsTidying file done → play_outcome done.out notes ≡ play_outcome file notes
+abbrev pub TidiedRendersSame : Bool → List ℕ → Type 0
+TidiedRendersSame merge file =
+    (done : Done) (notes : List ℕ) → IsPlanned (promise_of (tidying_with merge)) file done
+    → play_outcome done.out notes ≡ play_outcome file notes
 
 -- the notes, if they have no fault, are of kept presets
 abbrev pub OnlyPlays : List PresetNumbers → Result (List Numbers) NoteFault → Type 0
@@ -132,6 +134,16 @@ TakenRenderSame promise other presets file =
     → IsPlanned promise file done → fault_of other ≡ None → slice_get presets i ≡ Some p
     → notes_of notes ≡ Ok (map (on_preset p.to) ns) → notes_of played ≡ Ok (map (on_preset p.from) ns)
     → play_outcome done.out notes ≡ play_outcome other played
+
+-- where a preset is copied that its numbers play, notes on the copy have the outcome on the written file that they have,
+-- on the original, on the first file
+abbrev pub CopyRendersSame : CopiedMember → Option (List ℕ) → List ℕ → Type 0
+CopyRendersSame member name file =
+    (done : Done) (i : ℕ) (p : TakenPreset) (ns : List Numbers) (notes played : List ℕ)
+    → IsPlanned (IsCopying member name) file done → slice_get (copies (bank_in file) member) i ≡ Some p
+    → IsPlayed (bank_in file) member p
+    → notes_of notes ≡ Ok (map (on_preset p.to) ns) → notes_of played ≡ Ok (map (on_preset p.from) ns)
+    → play_outcome done.out notes ≡ play_outcome file played
 
 -- notes on presets that are not taken have the same outcome on the written file and on the first
 abbrev pub OthersRenderSame : Promise → List TakenPreset → List ℕ → Type 0

@@ -1,6 +1,7 @@
 -- What a request does, as a function of the world of files and of what its inputs give.
 use Rattle.std.specs.Prelude.{◌≡◌, ◌&&◌, ◌||◌, ℕ, List, [], ◌∷◌, Option, Some, None, Result, Ok, Err, Bool, true, false}
 use Rattle.std.specs.Prelude.{if◌then◌else◌, codes, not, ⊤}
+use Rattle.std.specs.Borrow.{Bor}
 use Rattle.std.specs.Path.{path_file_stem}
 use Rattle.std.specs.Option.{unwrap_or}
 use Rattle.base_outputs.specs.declared.output_fault.OutputFault.{OutputFault}
@@ -12,9 +13,9 @@ use Rattle.script_of_bank.specs.declared.samples.SamplePoints.{SamplePoints}
 use Rattle.script_of_bank.specs.declared.samples.SamplePoints.TheVariants.{Kept, LeftOut}
 use Rattle.show_listing.specs.declared.listing.Details.{Details}
 use Rattle.program_commands.specs.declared.words.Request.{Request}
-use Rattle.program_commands.specs.declared.words.Request.TheVariants.{Apply, Canon, Diff, Explain, Import, Keep, Live}
-use Rattle.program_commands.specs.declared.words.Request.TheVariants.{Map, Merge, New, Play, Script, Show, Take, Tidy}
-use Rattle.program_commands.specs.declared.words.Request.TheVariants.{Wave}
+use Rattle.program_commands.specs.declared.words.Request.TheVariants.{Apply, Canon, Copy, Diff, Explain, Import, Keep}
+use Rattle.program_commands.specs.declared.words.Request.TheVariants.{Live, Map, Merge, New, Play, Script, Show, Take}
+use Rattle.program_commands.specs.declared.words.Request.TheVariants.{Tidy, Wave}
 use Rattle.program_commands.specs.declared.plans.Kept as kept
 use Rattle.program_commands.specs.declared.plans.Kept.TheVariants.{Notes, Presets}
 use Rattle.program_commands.specs.declared.words.LivePaths.{LivePaths}
@@ -30,7 +31,7 @@ use Rattle.sfbank.specs.Differences.{TwoBanks, two_banks_of}
 use Rattle.sfbank.specs.NewBanks.{new_outcome}
 use Rattle.sfbank.specs.Maps.{map_outcome}
 use Rattle.sfbank.specs.Recordings.{import_outcome, wave_outcome}
-use Rattle.sfbank.specs.Purposes.{Purpose, keeping_listed, keeping_played, merging, taking, tidying}
+use Rattle.sfbank.specs.Purposes.{Purpose, copying, keeping_listed, keeping_played, merging, taking, tidying}
 
 -- the text of a path
 abbrev pub Path : Type 0
@@ -53,10 +54,12 @@ pub data Texts : Type 0 where
   Known : Done → Texts
   Found : Purpose → List ℕ → Texts
 
--- What a request does: it saves a file, or a bank with its undo script, it prints, or it begins a session on a file.
+-- What a request does: it saves a file, a bank with its undo script, or before these the script of edits that are found,
+-- it prints, or it begins a session on a file.
 pub data Action : Type 0 where
   Saves : Path → Content → Action
   SavesBoth : Path → Path → Texts → Action
+  SavesAll : Path → Path → Path → Purpose → List ℕ → Action
   Prints : Path → Content → Action
   Plays : LivePaths → List ℕ → Action
 
@@ -77,6 +80,7 @@ pub record Inputs : Type 0 where
 abbrev pub first_input : Request → Option Path
 first_input (Apply paths) = Some paths.input.now
 first_input (Canon paths) = Some paths.input.now
+first_input (Copy copy) = Some copy.paths.input.now
 first_input (Diff paths) = Some paths.first.now
 first_input (Explain number) = None
 first_input (Import paths) = Some paths.input.now
@@ -89,7 +93,7 @@ first_input (Play paths) = Some paths.input.now
 first_input (Script paths) = Some paths.input.now
 first_input (Show paths) = Some paths.input.now
 first_input (Take take) = Some take.paths.input.now
-first_input (Tidy paths) = Some paths.input.now
+first_input (Tidy tidy) = Some tidy.paths.input.now
 first_input (Wave paths) = Some paths.input.now
 
 -- the notes whose presets are kept
@@ -160,25 +164,40 @@ abbrev pub with_difference : World → Path → List ℕ → List ℕ → Result
 with_difference world path a b (Ok banks) = Ok (put_at world path (Difference a b))
 with_difference world path a b (Err fault) = Err (Fails path fault)
 
--- edits that are found for a bank: their script is printed, or both texts are saved
+-- edits that are found for a bank: both texts are saved, after the script of the edits if it has a path
+abbrev pub saves_found : Option (Bor Path) → Path → Path → Purpose → List ℕ → Action
+saves_found None out undo purpose file = SavesBoth out undo (Found purpose file)
+saves_found (Some script) out undo purpose file = SavesAll script.now out undo purpose file
+
+-- the same, or the script is printed
 abbrev pub edits_at : PlanPaths → Purpose → List ℕ → Action
 edits_at p purpose file =
-    if p.dry_run then Prints standard_output (Edits purpose file) else SavesBoth p.out.now p.undo.now (Found purpose file)
+    if p.dry_run then Prints standard_output (Edits purpose file) else saves_found p.script p.out.now p.undo.now purpose file
 
 -- the same for the bank of a file, if it is one, and for a purpose, if there is one
 abbrev pub with_edits : PlanPaths → List ℕ → Result Purpose RunFault → Result Action Why
 with_edits p file (Ok purpose) = Ok (edits_at p purpose file)
 with_edits p file (Err fault) = Err (Fails p.out.now fault)
 
--- the checks of the undo script, where the bank is the only input
-abbrev pub undo_apart : {X : Type 0} → World → PlanPaths → Result X Why → Result X Why
-undo_apart world p rest = apart world p.undo.now (p.input.now ∷ p.out.now ∷ []) (no_bank world p.undo.now p.force rest)
+-- the checks of the script of edits, if it has a path: it may be none of these files
+abbrev pub script_apart : {X : Type 0} → World → Option (Bor Path) → List Path → Bool → Result X Why → Result X Why
+script_apart world None others force rest = rest
+script_apart world (Some script) others force rest = apart world script.now others (no_bank world script.now force rest)
 
--- the checks of both outputs, where there is another input
+-- the checks of the scripts, where the bank is the only input
+abbrev pub undo_apart : {X : Type 0} → World → PlanPaths → Result X Why → Result X Why
+undo_apart world p rest =
+    apart world p.undo.now (p.input.now ∷ p.out.now ∷ [])
+    (no_bank world p.undo.now p.force
+    (script_apart world p.script (p.input.now ∷ p.out.now ∷ p.undo.now ∷ []) p.force rest))
+
+-- the checks of all outputs, where there is another input
 abbrev pub both_apart : {X : Type 0} → World → PlanPaths → Path → Result X Why → Result X Why
 both_apart world p other rest =
     apart world p.out.now (other ∷ [])
-    (apart world p.undo.now (p.input.now ∷ other ∷ p.out.now ∷ []) (no_bank world p.undo.now p.force rest))
+    (apart world p.undo.now (p.input.now ∷ other ∷ p.out.now ∷ [])
+    (no_bank world p.undo.now p.force
+    (script_apart world p.script (p.input.now ∷ other ∷ p.out.now ∷ p.undo.now ∷ []) p.force rest)))
 
 -- a listing with details, if one is asked for
 abbrev pub details_of : ShowPaths → Details
@@ -218,6 +237,10 @@ plan (Apply p) world inputs =
     (with_input p.input.now inputs.first
     (λ file. with_input p.script.now inputs.second (λ script. with_both p.out.now p.undo.now (outcome_of p.forms file script))))))
 plan (Canon p) world inputs = with_input p.input.now inputs.first (λ file. with_text world p.out.now (canon_outcome file))
+plan (Copy copy) world inputs =
+    undo_apart world copy.paths
+    (with_input copy.paths.input.now inputs.first
+    (λ file. with_edits copy.paths file (copying file copy.member copy.name)))
 plan (Diff p) world inputs =
     no_bank world p.out.now p.force
     (with_input p.first.now inputs.first
@@ -255,8 +278,9 @@ plan (Take take) world inputs =
     both_apart world take.paths take.from.now
     (with_input take.paths.input.now inputs.first
     (λ file. with_input take.from.now inputs.second (λ other. with_edits take.paths file (taking file other take.presets.items))))
-plan (Tidy p) world inputs =
-    undo_apart world p (with_input p.input.now inputs.first (λ file. with_edits p file (tidying file)))
+plan (Tidy tidy) world inputs =
+    undo_apart world tidy.paths
+    (with_input tidy.paths.input.now inputs.first (λ file. with_edits tidy.paths file (tidying file tidy.merge)))
 plan (Wave p) world inputs =
     no_bank world p.out.now p.force
     (with_input p.input.now inputs.first (λ file. with_text world p.out.now (wave_outcome file p.sample)))

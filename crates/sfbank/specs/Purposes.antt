@@ -1,5 +1,5 @@
 -- What edits are found for, and when they can be found.
-use Rattle.std.specs.Prelude.{ℕ, List, map, Option, Some, None, Result, Ok, Err}
+use Rattle.std.specs.Prelude.{ℕ, List, map, Option, Some, None, Result, Ok, Err, Bool, if◌then◌else◌}
 use Rattle.std.specs.Option.{option_map}
 use Rattle.bank_parts.specs.declared.parts.Parts.{Parts}
 use Rattle.bank_format.specs.ReadChecks.{fault_of}
@@ -10,9 +10,14 @@ use Rattle.plan_presets.specs.declared.numbers.PresetNumbers.{PresetNumbers}
 use Rattle.plan_presets.specs.declared.numbers.TakenPreset.{TakenPreset}
 use Rattle.plan_presets.specs.declared.fault.PresetFault.{PresetFault}
 use Rattle.plan_presets.specs.declared.fault.PresetFault.TheVariants.{Missing}
+use Rattle.plan_presets.specs.declared.numbers.CopiedMember.{CopiedMember}
 use Rattle.plan_edits.specs.Tidying.{IsTidying}
 use Rattle.plan_edits.specs.Keeping.{IsKeeping, first_missing}
 use Rattle.plan_edits.specs.Playing.{IsKeepingPlayed}
+use Rattle.plan_copy.specs.declared.fault.CopyFault.{CopyFault}
+use Rattle.plan_copy.specs.declared.fault.CopyFault.TheVariants as copy
+use Rattle.plan_copy.specs.Copying.{IsCopying, copied}
+use Rattle.plan_take.specs.RemovingDuplicates.{IsRemovingDuplicates}
 use Rattle.plan_take.specs.Taking.{IsTaking}
 use Rattle.plan_take.specs.Merging.{IsMerging, merge_fault, taken_shifted}
 use Rattle.plan_take.specs.TakeFaults.{preset_fault}
@@ -27,19 +32,23 @@ use Rattle.sfbank.specs.Differences.{after_file}
 abbrev pub Promise : Type 1
 Promise = Parts → List Edit → Type 0
 
--- What edits are found for: to tidy a bank, to keep the presets with these numbers or what these notes play, to take
--- presets of another bank, or to add all of another bank.
+-- What edits are found for: to tidy a bank, to remove duplicates of its samples and instruments too, to keep the presets with these numbers or
+-- what these notes play, to copy a member, to take presets of another bank, or to add all of another bank.
 pub data Purpose : Type 0 where
   Tidying : Purpose
+  RemovingDuplicates : Purpose
   Keeping : List PresetNumbers → Purpose
   KeepingPlayed : List Numbers → Purpose
+  Copying : CopiedMember → Option (List ℕ) → Purpose
   Taking : Parts → List TakenPreset → Purpose
   Merging : Parts → ℕ → Purpose
 
 abbrev pub promise_of : Purpose → Promise
 promise_of Tidying = IsTidying
+promise_of RemovingDuplicates = IsRemovingDuplicates
 promise_of (Keeping kept) = IsKeeping kept
 promise_of (KeepingPlayed notes) = IsKeepingPlayed notes
+promise_of (Copying member name) = IsCopying member name
 promise_of (Taking from presets) = IsTaking from presets
 promise_of (Merging from shift) = IsMerging from shift
 
@@ -58,9 +67,27 @@ abbrev pub unless_fault : Option PresetFault → Purpose → Result Purpose RunF
 unless_fault (Some fault) purpose = Err (run.Presets fault)
 unless_fault None purpose = Ok purpose
 
+-- to tidy a bank, and to remove duplicates of its samples and instruments too if `merge` is given
+abbrev pub tidying_with : Bool → Purpose
+tidying_with merge = if merge then RemovingDuplicates else Tidying
+
 -- to tidy the bank of a file
-abbrev pub tidying : List ℕ → Result Purpose RunFault
-tidying file = after_reading (fault_of file) (Ok Tidying)
+abbrev pub tidying : List ℕ → Bool → Result Purpose RunFault
+tidying file merge = after_reading (fault_of file) (Ok (tidying_with merge))
+
+-- the fault of a run for a member that can't be copied
+abbrev pub of_copy : CopyFault → RunFault
+of_copy (copy.NoMember cause) = run.NoMember cause
+of_copy (copy.Numbers fault) = run.Presets fault
+
+-- to copy a member, if a bank with its copy can be made
+abbrev pub copying_to : CopiedMember → Option (List ℕ) → Result Parts CopyFault → Result Purpose RunFault
+copying_to member name (Ok bank) = Ok (Copying member name)
+copying_to member name (Err fault) = Err (of_copy fault)
+
+-- to copy a member of the bank of a file
+abbrev pub copying : List ℕ → CopiedMember → Option (List ℕ) → Result Purpose RunFault
+copying file member name = after_reading (fault_of file) (copying_to member name (copied (bank_in file) member name))
 
 -- to keep the presets of its bank with these numbers
 abbrev pub keeping : List ℕ → List PresetNumbers → Result Purpose RunFault

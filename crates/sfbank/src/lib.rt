@@ -6,6 +6,7 @@
 #![tactic(auto)]
 
 mod canon;
+mod copied_members;
 mod diff;
 mod edit;
 mod edited_bank;
@@ -37,9 +38,9 @@ pub use laws::{
 };
 pub use map::map_run;
 pub use new::new_run;
-pub use plan_edits::PresetNumbers;
+pub use plan_presets::{CopiedMember, PresetNumbers};
 pub use plan_take::TakenPreset;
-pub use planned::{keep_notes_run, keep_run, merge_run, take_run, tidy_run};
+pub use planned::{copy_run, keep_notes_run, keep_run, merge_run, take_run, tidy_run};
 pub use play::{play_run, play_run_with_progress};
 pub use program::{run, run_with_arguments};
 pub use program_commands::Zones;

@@ -2,53 +2,96 @@
 ghost use Rattle.std.specs.Prelude.{◌≡◌, List, ℕ, Result, Ok, IfOk};
 ghost use Rattle.bank_format.specs.ReadChecks.{fault_of};
 ghost use Rattle.plan_edits.specs.Keeping.{IsKeeping};
-ghost use Rattle.plan_edits.specs.Tidying.{IsTidying};
+ghost use Rattle.plan_copy.specs.Copying.{IsCopying, copies};
 ghost use Rattle.plan_take.specs.Merging.{IsMerging};
 ghost use Rattle.plan_take.specs.Taking.{IsTaking};
 ghost use Rattle.program_reports.specs.declared.run_fault.RunFault.{RunFault};
 ghost use Rattle.sfbank.specs.Outcome.{after_reading, bank_in};
-ghost use Rattle.sfbank.specs.Purposes.{Purpose, Serves, added_presets, keeping, keeping_of, keeping_played};
-ghost use Rattle.sfbank.specs.Purposes.{merging, taking, tidying};
-ghost use Rattle.sfbank.specs.PlannedEdits.{HasTexts, KeptRendersSame, NotesAreUndone, NotesRenderSame, OthersRenderSame};
-ghost use Rattle.sfbank.specs.PlannedEdits.{PlanIsUndone, RunsPlan, TakenRenderSame, TidiedRendersSame};
+ghost use Rattle.sfbank.specs.Purposes.{Purpose, Serves, added_presets, copying, keeping, keeping_of, keeping_played};
+ghost use Rattle.sfbank.specs.Purposes.{merging, promise_of, taking, tidying, tidying_with};
+ghost use Rattle.sfbank.specs.PlannedEdits.{CopyRendersSame, HasTexts, KeptRendersSame, NotesAreUndone, NotesRenderSame};
+ghost use Rattle.sfbank.specs.PlannedEdits.{OthersRenderSame, PlanIsUndone, RunsPlan, TakenRenderSame, TidiedRendersSame};
 ghost use Rattle.sfbank.specs.Prepared.{texts_of_bank};
 ghost use Rattle.sfbank.specs.Steps.{IsReadAs};
 
+use crate::copied_members::read_to_copy;
 use crate::edited_bank::{EditedBank, apply_accepted, of_plan};
 use crate::other_banks::{read_to_merge, read_to_take};
 use crate::played_notes::{presets_of, read_to_keep};
 use crate::reading::read_bank;
 use crate::writing::write_edited;
 use bank_core::Bank;
+use plan_copy::CopyMember;
 use plan_edits::{Keep, KeepPlayed, Plan, PlanFault, PresetNumbers, Tidy};
-use plan_take::{Merge, Take, TakenPreset};
+use plan_presets::CopiedMember;
+use plan_take::{Merge, RemoveDuplicates, Take, TakenPreset};
 use program_commands::Zones;
 use program_reports::RunFault;
 use script_notes::Note;
+use sf_base::Name20;
 use std::alloc::Global;
 use std::io::Write;
 
 /// Reads the file, tidies its bank, and writes the tidied bank to `out` and the undo script to `undo`. Both writers are
 /// flushed. It removes unused instruments and samples, repairs links of stereo samples that only one side has, and joins
-/// zones that differ in nothing but neighbouring ranges.
+/// zones that differ in nothing but neighbouring ranges; with `merge`, equal samples and equal instruments become one
+/// first.
 ///
 /// Where the file has a fault, the plan fails or an allocation fails, nothing is written. A fault of a writer has the
 /// number of bytes written to it.
 pub fn tidy_run<W: Write, V: Write>(
     alloc: Global,
     file: &[u8],
+    merge: bool,
     out: &mut W,
     undo: &mut V,
 ) -> Result<(), RunFault>
-    // The fault of the file, else the texts of neutral edits, after which no instrument or sample is unused.
-    ensures runs { RunsPlan (tidying file.now) (record { out = W.contents out.old; out_new = W.contents out.new; undo = V.contents undo.old; undo_new = V.contents undo.new })
+    // The fault of the file, else the texts of edits after which no instrument or sample is unused. Without `merge` they
+    // are neutral.
+    ensures runs { RunsPlan (tidying file.now merge) (record { out = W.contents out.old; out_new = W.contents out.new; undo = V.contents undo.old; undo_new = V.contents undo.new })
         file.now result }
     // Run on the written file, the undo text restores the canonical file of the first bank.
-    ensures restores { PlanIsUndone IsTidying file.now }
+    ensures restores { PlanIsUndone (promise_of (tidying_with merge)) file.now }
     // Each note list renders identically on the written file and on the first file.
-    ensures renders { TidiedRendersSame file.now }
+    ensures renders { TidiedRendersSame merge file.now }
 {
-    run_plan(alloc, file, &Tidy, out, undo)
+    if merge {
+        run_plan(alloc, file, &RemoveDuplicates, out, undo)
+    } else {
+        run_plan(alloc, file, &Tidy, out, undo)
+    }
+}
+
+/// Reads the file, copies a preset, an instrument or a sample of its bank to the end of its list, and writes the bank to
+/// `out` and the undo script to `undo`. Both writers are flushed. The copy gets the name, or keeps that of the original.
+/// The copy of a preset gets the numbers, or free ones: another number of bank 128 if the original is there, else its
+/// number in another bank. The copy of a sample is mono.
+///
+/// Where the file has a fault, there is no such member, the numbers are in use or none are free, the bank would exceed a
+/// limit, the plan fails or an allocation fails, nothing is written. A fault of a writer has the number of bytes written
+/// to it.
+pub fn copy_run<W: Write, V: Write>(
+    alloc: Global,
+    file: &[u8],
+    member: CopiedMember,
+    name: Option<Name20>,
+    out: &mut W,
+    undo: &mut V,
+) -> Result<(), RunFault>
+    // The fault of the file, else of the copy, else the texts of edits that lead to the bank with the copy.
+    ensures runs { RunsPlan (copying file.now member name) (record { out = W.contents out.old; out_new = W.contents out.new; undo = V.contents undo.old; undo_new = V.contents undo.new })
+        file.now result }
+    // Run on the written file, the undo text restores the canonical file of the first bank.
+    ensures restores { PlanIsUndone (IsCopying member name) file.now }
+    // Notes on the copy of a preset render on the written file as they do, on the original, on the first file.
+    ensures copy { CopyRendersSame member name file.now }
+    // Notes on other presets render identically on the written file and on the first file.
+    ensures others { OthersRenderSame (IsCopying member name) (copies (bank_in file.now) member) file.now }
+{
+    match read_to_copy(alloc, file, member) {
+        Ok(bank) => run_edits(alloc, bank, &CopyMember { member, name }, out, undo),
+        Err(fault) => Err(fault),
+    }
 }
 
 /// Reads the file, keeps the presets with these numbers, and writes the bank to `out` and the undo script to `undo`. Both

@@ -6,6 +6,7 @@ ghost use Rattle.sfbank.specs.Meanings.{Answers, IsReported, Means};
 mod apply;
 mod canon;
 mod checks;
+mod copy;
 mod diff;
 mod explain;
 mod import;
@@ -28,6 +29,7 @@ use apply::apply;
 use base_progress::Progress;
 use canon::canon;
 use clap::error::ErrorKind;
+use copy::copy;
 use diff::diff;
 use explain::explain;
 use file_disk::{Disk, System};
@@ -160,6 +162,7 @@ fn serve<'a, H: Host, I: Read, O: Write + ClosedPipe, P: Progress>(
     match request {
         Request::Apply(paths) => apply(host, alloc, paths, progress),
         Request::Canon(paths) => canon(host, alloc, paths, output),
+        Request::Copy(operands) => copy(host, alloc, operands, output),
         Request::Diff(paths) => diff(host, alloc, paths, output),
         Request::Explain(number) => explain(number, output),
         Request::Import(paths) => import(host, alloc, paths),
@@ -172,7 +175,7 @@ fn serve<'a, H: Host, I: Read, O: Write + ClosedPipe, P: Progress>(
         Request::Script(paths) => script(host, alloc, paths, output),
         Request::Show(paths) => show(host, alloc, paths, output),
         Request::Take(operands) => take(host, alloc, operands, output),
-        Request::Tidy(paths) => tidy(host, alloc, paths, output),
+        Request::Tidy(operands) => tidy(host, alloc, operands, output),
         Request::Wave(paths) => wave(host, alloc, paths, output),
     }
 }

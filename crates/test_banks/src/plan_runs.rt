@@ -1,8 +1,10 @@
 //! Runs of plans, from bytes to bytes.
 
-use plan_presets::{PresetNumbers, TakenPreset};
+use plan_presets::{CopiedMember, PresetNumbers, TakenPreset};
+use sf_base::Name20;
 use sfbank::{
-    RunFault, Zones, canon_run, edit_run, keep_notes_run, keep_run, merge_run, take_run, tidy_run,
+    RunFault, Zones, canon_run, copy_run, edit_run, keep_notes_run, keep_run, merge_run, take_run,
+    tidy_run,
 };
 use std::alloc::Global;
 use test_inputs::tone;
@@ -72,12 +74,12 @@ fn a_file_keeps_what_notes_play(rt: HostRuntime) {
     }
 }
 
-/// Whether the file gets smaller, with a neutral undo script that makes it again.
-fn is_tidied(alloc: Global) -> Result<bool, RunFault> {
+/// Whether the file gets smaller, and this is undone.
+fn is_tidied(alloc: Global, merge: bool) -> Result<bool, RunFault> {
     let file = file_with_sides(alloc)?;
     let mut out = Vec::new(alloc);
     let mut undo = Vec::new(alloc);
-    tidy_run(alloc, file.as_slice(), &mut out, &mut undo)?;
+    tidy_run(alloc, file.as_slice(), merge, &mut out, &mut undo)?;
     Ok(
         out.len() < file.len()
             && is_undone(alloc, out.as_slice(), undo.as_slice(), file.as_slice())?,
@@ -86,7 +88,37 @@ fn is_tidied(alloc: Global) -> Result<bool, RunFault> {
 
 #[test]
 fn a_file_is_tidied(rt: HostRuntime) {
-    assert!(rt; matches!(is_tidied(rt.alloc()), Ok(true)));
+    for merge in [false, true] {
+        assert!(rt; matches!(is_tidied(rt.alloc(), merge), Ok(true)));
+    }
+}
+
+/// Whether the file gets larger by a copy of a member, with another name or that of the original, and this is undone.
+fn is_copied(alloc: Global, member: CopiedMember, name: Option<Name20>) -> Result<bool, RunFault> {
+    let file = file_with_sides(alloc)?;
+    let mut out = Vec::new(alloc);
+    let mut undo = Vec::new(alloc);
+    copy_run(alloc, file.as_slice(), member, name, &mut out, &mut undo)?;
+    Ok(
+        out.len() > file.len()
+            && is_undone(alloc, out.as_slice(), undo.as_slice(), file.as_slice())?,
+    )
+}
+
+#[test]
+fn members_of_a_file_are_copied(rt: HostRuntime) {
+    let numbers = PresetNumbers { bank: 1, number: 1 };
+    let members = [
+        CopiedMember::Preset(1, None),
+        CopiedMember::Preset(0, Some(numbers)),
+        CopiedMember::Inst(2),
+        CopiedMember::Sample(1),
+    ];
+    for member in members {
+        for name in [None, Name20::from_bytes(b"copy").ok()] {
+            assert!(rt; matches!(is_copied(rt.alloc(), member, name), Ok(true)));
+        }
+    }
 }
 
 /// Whether the tone gets the preset of the left sample from another file, and this is undone.

@@ -2,6 +2,8 @@
 #![tactic(auto)]
 
 #[cfg(test)]
+mod copied_members;
+#[cfg(test)]
 mod edited_banks;
 #[cfg(test)]
 mod merged_banks;
@@ -9,5 +11,7 @@ mod merged_banks;
 mod plans;
 #[cfg(test)]
 mod played_notes;
+#[cfg(test)]
+mod removed_duplicates;
 #[cfg(test)]
 mod taken_presets;

@@ -1,7 +1,7 @@
 //! Checks of output paths, before anything is read.
 ghost use Rattle.std.specs.Prelude.{◌≡◌, ◌||◌, map};
 ghost use Rattle.file_host.specs.Checks.{is_one_file};
-ghost use Rattle.sfbank.specs.Plans.{apart, both_apart, no_bank, undo_apart};
+ghost use Rattle.sfbank.specs.Plans.{apart, both_apart, no_bank, script_apart, undo_apart};
 ghost use Rattle.sfbank.specs.Steps.{Passes, edit_part, undo_part, fault_of_check};
 
 use base_outputs::OutputFault;
@@ -76,21 +76,52 @@ pub(super) fn reject_outputs<'a, H: Host>(
 fn reject_undo<'a, H: Host>(host: &mut H, paths: EditPaths<'a>) -> Result<(), Fault<'a>>
     ensures { Passes (undo_part paths.entry) (H.world host.old) (H.world host.new) result }
 {
-    match reject_same_file(host, paths.undo, &[paths.input, paths.other, paths.out]) {
-        Ok(()) => reject_bank(host, paths.undo, paths.force),
+    let others = [paths.input, paths.other, paths.out];
+    reject_script(host, paths.undo, &others, paths.force)
+}
+
+// Rejects a script that is one file with one of the others, or that would replace a bank, except with `force`.
+fn reject_script<'a, H: Host>(
+    host: &mut H,
+    script: &'a str,
+    others: &[&str],
+    force: bool,
+) -> Result<(), Fault<'a>>
+    ensures { Passes (λ w rest. apart w script.entry.now (map (λ other. other.now) others.now) (no_bank w script.entry.now force rest)) (H.world host.old) (H.world host.new) result }
+{
+    match reject_same_file(host, script, others) {
+        Ok(()) => reject_bank(host, script, force),
         Err(fault) => Err(fault),
     }
 }
 
-/// Rejects the undo script of a plan whose only input is the bank: it may be neither the bank nor its output.
+// Rejects the script of edits, if it has a path.
+fn reject_optional<'a, H: Host>(
+    host: &mut H,
+    script: Option<&'a str>,
+    others: &[&str],
+    force: bool,
+) -> Result<(), Fault<'a>>
+    ensures { Passes (λ w rest. script_apart w script.entry (map (λ other. other.now) others.now) force rest) (H.world host.old) (H.world host.new) result }
+{
+    match script {
+        Some(path) => reject_script(host, path, others, force),
+        None => Ok(()),
+    }
+}
+
+/// Rejects the scripts of a plan whose only input is the bank: neither may be the bank or its output.
 pub(super) fn reject_undo_of_plan<'a, H: Host>(
     host: &mut H,
     paths: PlanPaths<'a>,
 ) -> Result<(), Fault<'a>>
     ensures { Passes (λ w rest. undo_apart w paths.entry rest) (H.world host.old) (H.world host.new) result }
 {
-    match reject_same_file(host, paths.undo, &[paths.input, paths.out]) {
-        Ok(()) => reject_bank(host, paths.undo, paths.force),
+    match reject_script(host, paths.undo, &[paths.input, paths.out], paths.force) {
+        Ok(()) => {
+            let others = [paths.input, paths.out, paths.undo];
+            reject_optional(host, paths.script, &others, paths.force)
+        }
         Err(fault) => Err(fault),
     }
 }
@@ -110,7 +141,13 @@ pub(super) fn reject_outputs_of_plan<'a, H: Host>(
         undo: paths.undo,
         force: paths.force,
     };
-    reject_outputs(host, outputs)
+    match reject_outputs(host, outputs) {
+        Ok(()) => {
+            let others = [paths.input, other, paths.out, paths.undo];
+            reject_optional(host, paths.script, &others, paths.force)
+        }
+        Err(fault) => Err(fault),
+    }
 }
 
 /// The paths of an edit of a bank by another input: a script, a WAVE file, a note list or a second bank.

@@ -2,8 +2,8 @@
 ghost use Rattle.std.specs.Prelude.{◌≡◌, Ok};
 ghost use Rattle.sfbank.specs.Plans.{Content, put_at, standard_output};
 ghost use Rattle.sfbank.specs.Prepared.{texts_of_bank};
-ghost use Rattle.sfbank.specs.Ends.{EndsFor, IsContent};
-ghost use Rattle.sfbank.specs.Outputs.{PrintsAt, SavesAt, SavesPairAt, path_of, write_fault};
+ghost use Rattle.sfbank.specs.Ends.{EndsFor, IsContent, path_of};
+ghost use Rattle.sfbank.specs.Outputs.{PrintsAt, SavesAt, SavesPairAt, write_fault};
 
 use crate::edited_bank::EditedBank;
 use base_texts::{Text, write_text};
@@ -57,8 +57,12 @@ fn print_at<'a, T: Text, O: Write + ClosedPipe>(
     }
 }
 
-// Saves a text as a file.
-fn save<'a, H: Host, T: Text>(host: &mut H, path: &'a str, text: &T) -> Result<(), Fault<'a>>
+/// Saves a text as a file.
+pub(super) fn save<'a, H: Host, T: Text>(
+    host: &mut H,
+    path: &'a str,
+    text: &T,
+) -> Result<(), Fault<'a>>
     ensures { SavesAt path.entry.now (T.bytes text.now) (H.world host.old) (H.world host.new) (H.written host.new) result }
 {
     match host.save(path, text) {

@@ -1,14 +1,15 @@
 //! Commands whose edits a plan finds.
-ghost use Rattle.std.specs.Prelude.{Ok, List, ℕ};
+ghost use Rattle.std.specs.Prelude.{Ok, List, Option, ℕ};
 ghost use Rattle.bank_edits.specs.Runs.{AllAccepted};
 ghost use Rattle.bank_format.specs.ReadChecks.{fault_of};
-ghost use Rattle.sfbank.specs.Outcome.{after_reading};
+ghost use Rattle.sfbank.specs.Outcome.{after_reading, both_texts};
 ghost use Rattle.sfbank.specs.Purposes.{Purpose, Serves, promise_of};
-ghost use Rattle.sfbank.specs.Plans.{edits_at, with_edits};
+ghost use Rattle.sfbank.specs.Plans.{SavesAll, edits_at, with_edits};
 ghost use Rattle.sfbank.specs.Ends.{EndsFor};
+ghost use Rattle.sfbank.specs.Outputs.{SavesPairAt};
 ghost use Rattle.sfbank.specs.Steps.{IsReadAs};
 
-use super::outputs::{print, save_both};
+use super::outputs::{print, save, save_both};
 use crate::edited_bank::{apply_accepted, of_plan};
 use crate::reading::read_bank;
 use bank_core::Bank;
@@ -42,7 +43,8 @@ pub(super) fn put_planned<'a, 'b, H: Host, P: Plan<'b>, O: Write + ClosedPipe>(
     }
 }
 
-/// Finds the edits of a plan for a bank. Prints their script, or saves the edited bank with its undo script.
+/// Finds the edits of a plan for a bank. Prints their script, or saves the edited bank with its undo script, and before
+/// them the script if it has a path.
 pub(super) fn put_edits<'a, 'b, H: Host, P: Plan<'b>, O: Write + ClosedPipe>(
     host: &mut H,
     alloc: Global,
@@ -62,6 +64,7 @@ pub(super) fn put_edits<'a, 'b, H: Host, P: Plan<'b>, O: Write + ClosedPipe>(
     }
 }
 
+// Prints the script of edits, or saves the edited bank with its undo script, and before them the script if it has a path.
 fn put_found<'a, 'b, H: Host, O: Write + ClosedPipe>(
     host: &mut H,
     alloc: Global,
@@ -79,6 +82,46 @@ fn put_found<'a, 'b, H: Host, O: Write + ClosedPipe>(
     if paths.dry_run {
         return print(&EditLines(edits.as_slice()), output);
     }
+    match paths.script {
+        Some(script) => save_all(host, alloc, paths, script, bank, edits),
+        None => save_edited(host, alloc, paths, bank, edits),
+    }
+}
+
+// Saves the script of edits, and then the edited bank with its undo script.
+fn save_all<'a, 'b, H: Host>(
+    host: &mut H,
+    alloc: Global,
+    paths: PlanPaths<'a>,
+    script: &'a str,
+    bank: Bank<'b>,
+    edits: Vec<Edit<'b>>,
+) -> Result<(), Fault<'a>>
+    requires { AllAccepted bank edits.items }
+    ensures { (purpose : Purpose) (file : List ℕ) (printed : Option (List ℕ)) → promise_of purpose bank.entry edits.entry.items
+        → IsReadAs file bank.entry
+        → EndsFor (λ w. Ok (SavesAll script.entry.now paths.entry.out.now paths.entry.undo.now purpose file))
+        (record { files = H.world host.old; printed = printed }) (record { files = H.world host.new; printed = printed })
+        (H.written host.new) result }
+{
+    match save(host, script, &EditLines(edits.as_slice())) {
+        Ok(()) => save_edited(host, alloc, paths, bank, edits),
+        Err(fault) => Err(fault),
+    }
+}
+
+// Saves the edited bank with its undo script.
+fn save_edited<'a, 'b, H: Host>(
+    host: &mut H,
+    alloc: Global,
+    paths: PlanPaths<'a>,
+    bank: Bank<'b>,
+    edits: Vec<Edit<'b>>,
+) -> Result<(), Fault<'a>>
+    requires { AllAccepted bank edits.items }
+    ensures { SavesPairAt paths.entry.out.now paths.entry.undo.now (both_texts bank.entry edits.entry.items)
+        (H.world host.old) (H.world host.new) (H.written host.new) result }
+{
     match apply_accepted(alloc, bank, edits) {
         Ok(edited_bank) => save_both(host, paths.out, paths.undo, &edited_bank),
         Err(OutOfMemory) => Err(Fault::Run(RunFault::Memory, paths.out)),

@@ -9,7 +9,7 @@ pub loop-operand-preserved : goal.loop-operand-preserved
 loop-operand-preserved c =
     c.in_ok-command.ensures.shape c.arg_of.ensures.local
     ∙ ap₂ with_rule c.loop-operand.invariant c.arg_of.ensures.rule
-    ∙ one_operand_more c.args.levels c.args.entry.now.name.now c.args.entry.now.operands.now
+    ∙ one_operand_more c.args.parsers c.args.entry.now.name.now c.args.entry.now.operands.now
     c.loop-operand.operand-index _ c.loop-operand-test.true
 
 -- All operands are added.
@@ -17,4 +17,5 @@ pub returns : goal.returns
 returns c =
     let all : take c.loop-operand.operand-index c.args.entry.now.operands.now ≡ c.args.entry.now.operands.now =
     take_all _ _ (omega arith) in
-    ap (λ (a : App). a.top) (c.loop-operand.invariant ∙ ap (command_so_far c.args.levels c.args.entry.now.name.now) all)
+    ap (λ (a : App). a.top)
+    (c.loop-operand.invariant ∙ ap (command_so_far c.args.parsers c.args.entry.now.name.now) all)

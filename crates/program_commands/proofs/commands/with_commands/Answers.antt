@@ -14,7 +14,7 @@ loop-entry-preserved c =
     ap (λ (s : Shape). s.is_plain) c.in_ok-subcommand.ensures in
     adds_plain _ _ _ plain c.in_ok-command.ensures
     ∙ ap₂ with_subcommand c.loop-entry.invariant c.in_ok-subcommand.ensures
-    ∙ one_command_more (λ entry. shape_for c.args.levels (command_in entry)) (app_of c.args.command) c.args.entries.now
+    ∙ one_command_more (λ entry. shape_for c.args.parsers (command_in entry)) (app_of c.args.command) c.args.entries.now
     c.loop-entry.entry-index _ c.loop-entry-test.true
 
 -- All entries are added.
@@ -22,4 +22,4 @@ pub returns : goal.returns
 returns c =
     let all : take c.loop-entry.entry-index c.args.entries.now ≡ c.args.entries.now = take_all _ _ (omega arith) in
     c.loop-entry.invariant ∙ ap (λ (entries : List Entry). fold with_subcommand (app_of c.args.command)
-    (map (λ entry. shape_for c.args.levels (command_in entry)) entries)) all
+    (map (λ entry. shape_for c.args.parsers (command_in entry)) entries)) all

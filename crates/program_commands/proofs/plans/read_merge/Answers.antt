@@ -10,4 +10,4 @@ returns-in_err-read_small c =
     (λ n. IsGiven rows (Number (codes "shift") 16 n))
     c.from_residual-in_err-read_small.result c.read_small.result
     c.from_residual-in_err-read_small.ensures c.in_err-read_small.was c.read_small.ensures
-    (λ merge given. (merge.shift, given.1.1.1.1.1.1.0))
+    (λ merge given. (merge.shift, given.1.1.1.1.1.1.1.1.0))

@@ -15,7 +15,7 @@ use Rattle.program_commands.proofs.words.request_of_command.Goals.{in-new+in_ok-
 use Rattle.program_commands.proofs.words.request_of_command.Goals.{in-play+in_ok-read_play-in-play}
 use Rattle.program_commands.proofs.words.request_of_command.Goals.{in-script+in_ok-read_script-in-script}
 use Rattle.program_commands.proofs.words.request_of_command.Goals.{in-show+in_ok-read_show-in-show}
-use Rattle.program_commands.proofs.words.request_of_command.Goals.{in-tidy+in_ok-read_plan-in-tidy}
+use Rattle.program_commands.proofs.words.request_of_command.Goals.{in-tidy+in_ok-read_tidy-in-tidy}
 use Rattle.program_commands.proofs.words.request_of_command.Goals.{in-wave+in_ok-read_wave-in-wave}
 
 -- No request of `explain` is asked for without a number.
@@ -55,8 +55,8 @@ returns c = let rows = rows_in c.args.words.now in (
         asks rows w.result-is w.in-script.is w.in_ok-read_script-in-script.ensures.0
     | in-show+in_ok-read_show-in-show w ↦
         asks rows w.result-is w.in-show.is w.in_ok-read_show-in-show.ensures.0
-    | in-tidy+in_ok-read_plan-in-tidy w ↦
-        asks rows w.result-is w.in-tidy.is w.in_ok-read_plan-in-tidy.ensures.0
+    | in-tidy+in_ok-read_tidy-in-tidy w ↦
+        asks rows w.result-is w.in-tidy.is w.in_ok-read_tidy-in-tidy.ensures.0
     | in-wave+in_ok-read_wave-in-wave w ↦
         asks rows w.result-is w.in-wave.is w.in_ok-read_wave-in-wave.ensures.0
   ],

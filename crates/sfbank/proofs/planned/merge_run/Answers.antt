@@ -40,12 +40,12 @@ returns-in-Err-clause-added g c =
 
 pub returns-in-Ok-clause-others : goal.returns-in-Ok-clause-others
 returns-in-Ok-clause-others g c =
-    others_render_same (IsMerging (bank_in c.args.other.now) c.args.shift) (bank_in c.args.other.now)
-    (added_presets c.args.other.now c.args.shift) c.args.file.now (λ b edits h. h.taken)
+    others_render_same (IsMerging (bank_in c.args.other.now) c.args.shift)
+    (added_presets c.args.other.now c.args.shift) c.args.file.now (λ edits h. h.taken.others)
     (are_bytes c.args.file.now c.type_inv.file)
 
 pub returns-in-Err-clause-others : goal.returns-in-Err-clause-others
 returns-in-Err-clause-others g c =
-    others_render_same (IsMerging (bank_in c.args.other.now) c.args.shift) (bank_in c.args.other.now)
-    (added_presets c.args.other.now c.args.shift) c.args.file.now (λ b edits h. h.taken)
+    others_render_same (IsMerging (bank_in c.args.other.now) c.args.shift)
+    (added_presets c.args.other.now c.args.shift) c.args.file.now (λ edits h. h.taken.others)
     (are_bytes c.args.file.now c.type_inv.file)

@@ -39,10 +39,10 @@ returns-in-Err-clause-taken g c =
 
 pub returns-in-Ok-clause-others : goal.returns-in-Ok-clause-others
 returns-in-Ok-clause-others g c =
-    others_render_same (IsTaking (bank_in c.args.other.now) c.args.presets.now) (bank_in c.args.other.now) c.args.presets.now
-    c.args.file.now (λ b edits h. h) (are_bytes c.args.file.now c.type_inv.file)
+    others_render_same (IsTaking (bank_in c.args.other.now) c.args.presets.now) c.args.presets.now c.args.file.now
+    (λ edits h. h.others) (are_bytes c.args.file.now c.type_inv.file)
 
 pub returns-in-Err-clause-others : goal.returns-in-Err-clause-others
 returns-in-Err-clause-others g c =
-    others_render_same (IsTaking (bank_in c.args.other.now) c.args.presets.now) (bank_in c.args.other.now) c.args.presets.now
-    c.args.file.now (λ b edits h. h) (are_bytes c.args.file.now c.type_inv.file)
+    others_render_same (IsTaking (bank_in c.args.other.now) c.args.presets.now) c.args.presets.now c.args.file.now
+    (λ edits h. h.others) (are_bytes c.args.file.now c.type_inv.file)

@@ -1,7 +1,7 @@
+use Rattle.std.proofs.Common.{refl}
 use Rattle.edit_script.specs.Printing.{texts_of}
-use Rattle.plan_edits.specs.declared.fault.PlanFault.TheVariants.{OutOfMemory}
-use Rattle.sfbank.specs.Prepared.{texts_of_bank}
-use Rattle.sfbank.proofs.FoundEdits.{edits_print, edits_saved, is_planned, is_script, no_edits}
+use Rattle.sfbank.specs.Outcome.{both_texts}
+use Rattle.sfbank.proofs.FoundEdits.{all_saved, edits_print, edits_saved, is_planned, is_script}
 use Rattle.sfbank.proofs.program.planned.put_found.Goals as goal
 
 pub returns-then-paths : goal.returns-then-paths
@@ -11,13 +11,14 @@ returns-then-paths g c purpose file promised read =
     (is_script purpose file c.args.bank edits read promised c.requires)
     (rw c.as_slice.ensures.value at c.print.ensures)
 
-pub returns-in-Ok : goal.returns-in-Ok
-returns-in-Ok g c purpose file promised read =
-    let done = texts_of_bank c.in-Ok.edited_bank in
-    edits_saved _ _ c.args.paths purpose file done _ _ c.save_both.result c.if-paths.false
-    (is_planned purpose file c.args.bank c.args.edits.items done read promised c.requires c.in-Ok.ensures)
-    c.save_both.ensures
+pub returns-in-Some : goal.returns-in-Some
+returns-in-Some g c purpose file promised read =
+    all_saved _ _ c.args.paths c.in-Some.script purpose file _ c.save_all.result c.if-paths.false c.in-Some.is
+    (c.save_all.ensures purpose file _ promised read)
 
-pub returns-in-Err : goal.returns-in-Err
-returns-in-Err g c purpose file promised read =
-    no_edits _ _ _ c.args.paths purpose file c.args.paths.out OutOfMemory
+pub returns-in-None : goal.returns-in-None
+returns-in-None g c purpose file promised read =
+    let edits = c.args.edits.items in
+    edits_saved _ _ c.args.paths purpose file (both_texts c.args.bank edits) _ _ c.save_edited.result c.if-paths.false
+    c.in-None.is (is_planned purpose file c.args.bank edits (both_texts c.args.bank edits) read promised c.requires refl)
+    c.save_edited.ensures

@@ -1,30 +1,33 @@
 use Rattle.std.proofs.Common.{refl}
 use Rattle.program_commands.specs.declared.words.Request.TheVariants.{Tidy}
-use Rattle.sfbank.specs.Purposes.{Tidying, tidying}
+use Rattle.sfbank.specs.Purposes.{tidying}
 use Rattle.sfbank.specs.Plans.{undo_apart, with_edits}
 use Rattle.sfbank.proofs.PlanLaws.{after_one, checks_fail, one_goes_on, one_fails}
 use Rattle.sfbank.proofs.program.tidy.tidy.Goals as goal
 
 pub returns-in-Ok-read_input : goal.returns-in-Ok-read_input
 returns-in-Ok-read_input g c =
-    let p = c.args.paths in
-    one_goes_on (Tidy p) (λ w rest. undo_apart w p rest)
-    (λ w file. with_edits p file (tidying file)) p.input.now _
-    (g.H.Host.world c.reject_undo_of_plan.new.host) _ _ _ _ c.put_planned.result tt c.in-Ok-read_input.file.items
+    let o = c.args.operands in
+    let p = o.paths in
+    one_goes_on (Tidy o) (λ w rest. undo_apart w p rest)
+    (λ w file. with_edits p file (tidying file o.merge)) p.input.now _
+    (g.H.Host.world c.reject_undo_of_plan.new.host) _ _ _ _ c.put_tidied.result tt c.in-Ok-read_input.file.items
     (λ w i. refl) (λ w r s h k. (h, tt)) c.in-Ok.ensures c.in-Ok-read_input.ensures
-    (rw c.as_slice.ensures.value at (c.put_planned.ensures Tidying (λ b edits h. h)))
+    (rw c.as_slice.ensures.value at c.put_tidied.ensures)
 
 pub returns-in-Err-read_input : goal.returns-in-Err-read_input
 returns-in-Err-read_input g c =
-    let p = c.args.paths in
-    one_fails (Tidy p) (λ w rest. undo_apart w p rest)
-    (λ w file. with_edits p file (tidying file)) p.input.now _
+    let o = c.args.operands in
+    let p = o.paths in
+    one_fails (Tidy o) (λ w rest. undo_apart w p rest)
+    (λ w file. with_edits p file (tidying file o.merge)) p.input.now _
     (g.H.Host.world c.reject_undo_of_plan.new.host) _ _ _ c.in-Err-read_input.fault tt
     (λ w i. refl) (λ w r s h k. (h, tt)) c.in-Ok.ensures c.in-Err-read_input.ensures
 
 pub returns-in-Err : goal.returns-in-Err
 returns-in-Err g c =
-    let p = c.args.paths in
-    checks_fail (Tidy p) (λ w rest. undo_apart w p rest)
-    (after_one p.input.now (λ w file. with_edits p file (tidying file)))
+    let o = c.args.operands in
+    let p = o.paths in
+    checks_fail (Tidy o) (λ w rest. undo_apart w p rest)
+    (after_one p.input.now (λ w file. with_edits p file (tidying file o.merge)))
     p.input.now p.input.now _ _ _ _ c.in-Err.fault (λ w i. refl) (λ w r s h k. (h, tt)) c.in-Err.ensures

@@ -1,0 +1,4 @@
+pub mod NumberLaws
+pub mod StepLaws
+pub mod FaultLaws
+pub mod CopyLaws
