@@ -35,7 +35,7 @@ use Rattle.bank_changes.proofs.OwnerReferences.{OfOwners, owners_always, owners_
 use Rattle.bank_changes.proofs.OwnerReferences.{owners_within, owners_valid, owners_fit, owners_kept, owners_back}
 use Rattle.bank_changes.proofs.OwnerReferences.{removal_keeps, untargeted, not_targeted}
 use Rattle.bank_changes.proofs.TotalsLaws.{totals-instruments_renumbered, level_inserted, level_removed, level_moved}
-use Rattle.bank_changes.proofs.TotalsLaws.{level_headed, owners_grow}
+use Rattle.bank_changes.proofs.TotalsLaws.{level_headed, fewer_owners_within}
 
 -- ---- renaming
 
@@ -195,7 +195,7 @@ module _ (b : Parts) (i : ℕ) where
       (targets_within b sound.valid))
       (all_remove (IsInstrument (length b.samples)) b.instruments i sound.valid.instruments)
       (all_remove (FitsOwner IsName) b.instruments i sound.fits.instruments)
-      ((owners_grow level.Inst).within (totals_of (instrument_removed b i)) (records_of_owner x)
+      (fewer_owners_within level.Inst (totals_of (instrument_removed b i)) (records_of_owner x)
       (ap broken (totals-removed_instrument x e) ∙ no_limit_of b sound.valid.limits))
 
   pub restored_removed_instrument : (x : ZoneOwner (List ℕ)) → slice_get b.instruments i ≡ Some x

@@ -5,7 +5,6 @@ pub mod OwnerLaws
 pub mod OwnerReferences
 pub mod References
 pub mod TotalsLaws
-pub mod RecordLaws
 pub mod ZoneLaws
 pub mod ZoneChangeLaws
 pub mod SplitLaws
@@ -15,5 +14,4 @@ pub mod InstrumentLaws
 pub mod PresetLaws
 pub mod TextLaws
 pub mod PlaceLaws
-pub mod RecountLaws
 pub mod SettingLaws

@@ -1,16 +1,15 @@
 -- A change of one place: what it keeps, and the totals after it.
-use Rattle.std.proofs.Common.{◌≡◌, false, ◌≤◌, ◌+◌, ℕ, List, [], length, Option, Some, None, IsSome, refl, sym, ◌∙◌}
+use Rattle.std.proofs.Common.{◌≡◌, false, ◌≤◌, ◌+◌, ℕ, List, length, Option, Some, None, IsSome, refl, ◌∙◌}
 use Rattle.std.proofs.Common.{ap, subst, arith}
 use Rattle.std.specs.Prelude.{slice_get, sum_by, if◌then◌else◌, ◌==◌}
-use Rattle.std.specs.Option.{is_some, option_map, option_map_or}
-use Rattle.std.specs.FinMap.{len, len-empty}
+use Rattle.std.specs.Option.{is_some, option_map_or}
+use Rattle.std.specs.FinMap.{len}
 use Rattle.std.proofs.lemmas.Bool.Decides.{nat_tests}
 use Rattle.base_numbered_lists.specs.Moved.{changed}
 use Rattle.base_numbered_lists.proofs.Lists.{slice_get-within, changed-found, length-changed}
-use Rattle.generators.specs.Gens.{no_gens, operator_cmp}
 use Rattle.generators.specs.declared.level.Level.{Level}
 use Rattle.bank_parts.specs.declared.counting.Records.{Records}
-use Rattle.bank_validity.specs.declared.totals.Totals.{Totals}
+use Rattle.bank_parts.specs.Counts.{records_sum}
 use Rattle.bank_parts.specs.declared.owners.ZonePlace.{ZonePlace}
 use Rattle.bank_parts.specs.declared.owners.ZonePlace.TheVariants as place
 use Rattle.bank_parts.specs.declared.parts.Zone.{Zone}
@@ -23,20 +22,17 @@ use Rattle.bank_parts.specs.Valid.{IsZone, IsOwner, AreGenerators, zone_count, g
 use Rattle.bank_parts.specs.Valid.{global_count}
 use Rattle.bank_parts.specs.Fits.{FitsGlobal, FitsZone, FitsOwner}
 use Rattle.bank_parts.specs.Sound.{IsSound}
-use Rattle.bank_validity.specs.declared.totals.LevelTotals.{LevelTotals}
-use Rattle.bank_validity.specs.Limits.{totals_of, level_totals, totals_at, plus_records, broken, broken_limit}
-use Rattle.bank_validity.proofs.LevelLaws.{changed_at}
+use Rattle.bank_validity.specs.Limits.{totals_of, level_totals, plus_records, with_records, broken_limit}
 use Rattle.bank_validity.proofs.LimitLaws.{no_limit_of}
-use Rattle.bank_parts.proofs.SettingLaws.{source, given, place_read}
+use Rattle.bank_parts.proofs.SettingLaws.{source, given}
 use Rattle.bank_changes.specs.declared.members.Owner.{Owner}
 use Rattle.bank_changes.specs.declared.members.Owner.TheVariants.{Preset, Inst}
 use Rattle.bank_changes.specs.declared.members.Place.{Place}
 use Rattle.bank_changes.specs.Members.{zone_place, settings_of, level_of, target_count}
 use Rattle.bank_changes.specs.Settings.{owner_place_changed, records_of_place, no_records, place_records}
-use Rattle.bank_changes.specs.Totals.{with_records, HasRecords}
 use Rattle.bank_changes.proofs.Changes.{all_changed, all_found, sum-exchanged}
 use Rattle.bank_changes.proofs.OwnerLaws.{of_sound, sound_owner_changed}
-use Rattle.bank_changes.proofs.RecountLaws.{AreNoMore, no_more_within}
+use Rattle.bank_changes.proofs.TotalsLaws.{AreNoMore, no_more_within, with_more_records}
 
 -- ---- a place that exists
 
@@ -273,68 +269,7 @@ records_found b (Preset p) at s e = ap (λ found. option_map_or (records_of_plac
 records_found b (Inst i) at s e =
     ap (λ found. option_map_or (records_of_place (zone_place at)) found no_records) e
 
-pub settings_read : (b : Parts) (o : Owner) (at : Place) (f : Settings → Settings)
-    → settings_of (owner_place_changed b o at f) o at ≡ option_map f (settings_of b o at)
-settings_read b (Preset p) at f = place_read b.presets p (zone_place at) f
-settings_read b (Inst i) at f = place_read b.instruments i (zone_place at) f
-
-module _ (b : Parts) (o : Owner) (at : Place) (f : Settings → Settings) (s : Settings)
-    (there : settings_of b o at ≡ Some s) where
-  pub changed_there : settings_of (owner_place_changed b o at f) o at ≡ Some (f s)
-  changed_there = settings_read b o at f ∙ ap (option_map f) there
-
-  -- the records of the place are replaced in the totals
-  pub recount : with_records (level_of o) (totals_of (owner_place_changed b o at f)) (place_records b o at)
-      ≡ with_records (level_of o) (totals_of b) (place_records (owner_place_changed b o at f) o at)
-  recount =
-      ap (with_records (level_of o) (totals_of (owner_place_changed b o at f))) (records_found b o at s there)
-      ∙
-      (totals_place_changed b o at f s there
-      ∙ ap (with_records (level_of o) (totals_of b))
-      (sym (records_found (owner_place_changed b o at f) o at (f s) changed_there)))
-
-abbrev nothing_set : Settings
-nothing_set = record { gens = no_gens; mods = [] }
-
-nothing_counts : (at : ZonePlace) → records_of_place at nothing_set ≡ no_records
-nothing_counts place.Global =
-    let none = len-empty operator_cmp ℕ in
-    λ k.
-    record {
-      zones =
-          ap (λ (n : ℕ). let counted : ℕ = if n + 0 == 0 then 0 else 1 in counted) none k;
-      gens =
-          none k;
-      mods = 0;
-    }
-nothing_counts (place.Zone k) =
-    let none = len-empty operator_cmp ℕ in λ k. record { zones = 0; gens = none k; mods = 0 }
-
-within : (a b n : ℕ) → a + n ≡ b + 0 → n ≤ b
-within a b n e = omega (arith, e)
-
-pub has_records : (b : Parts) (o : Owner) (at : Place) (s : Settings) → settings_of b o at ≡ Some s
-    → HasRecords (level_of o) (totals_of b) (records_of_place (zone_place at) s)
-has_records b o at s e =
-    let t : Totals = totals_of (owner_place_changed b o at (λ _. nothing_set)) in
-    let u : Totals = totals_of b in
-    let r : Records = records_of_place (zone_place at) s in
-    let same =
-    totals_place_changed b o at (λ _. nothing_set) s e
-    ∙ ap (with_records (level_of o) u) (nothing_counts (zone_place at)) in
-    let level =
-    sym (changed_at (level_of o) (plus_records r) t)
-    ∙ (ap (totals_at (level_of o)) same ∙ changed_at (level_of o) (plus_records no_records) u) in
-    let records = ap (λ (l : LevelTotals). l.records) level in
-    let had : Records = (totals_at (level_of o) t).records in
-    let have : Records = (totals_at (level_of o) u).records in
-    record {
-      zones = within had.zones have.zones r.zones (ap (λ (s : Records). s.zones) records);
-      gens = within had.gens have.gens r.gens (ap (λ (s : Records). s.gens) records);
-      mods = within had.mods have.mods r.mods (ap (λ (s : Records). s.mods) records);
-    }
-
--- ---- what the code keeps
+-- ---- found or not
 
 pub found_there : {X : Type 0} (o : Option X) → IsSome o → (x : X) × (o ≡ Some x)
 found_there None h = cc
@@ -344,33 +279,15 @@ pub not_some : {X : Type 0} (o : Option X) → is_some o ≡ false → o ≡ Non
 not_some None h = refl
 not_some (Some x) h = cc
 
-module _ (b : Parts) (o : Owner) (at : Place) (there : IsSome (settings_of b o at)) (t : Totals)
-    (counts : t ≡ totals_of b) (lvl : Level) (is_level : lvl ≡ level_of o) (before : Records)
-    (had : before ≡ place_records b o at) where
-  pub counted_there : HasRecords lvl t before
-  counted_there =
-      let (s, e) = found_there (settings_of b o at) there in
-      subst (λ (r : Records). HasRecords lvl t r) (sym (had ∙ records_found b o at s e))
-      (subst (λ (l : Level). HasRecords l t (records_of_place (zone_place at) s)) (sym is_level)
-      (subst (λ (u : Totals). HasRecords (level_of o) u (records_of_place (zone_place at) s)) (sym counts)
-      (has_records b o at s e)))
-
-  module _ (f : Settings → Settings) (new : Parts) (is : new ≡ owner_place_changed b o at f) (after : Records)
-      (has : after ≡ place_records new o at) where
-    pub became : with_records lvl (totals_of new) before ≡ with_records lvl t after
-    became =
-        let (s, e) = found_there (settings_of b o at) there in
-        (λ k. with_records (is_level k) (totals_of (is k)) (had k))
-        ∙
-        (recount b o at f s e
-        ∙ sym (λ k. with_records (is_level k) (counts k) ((has ∙ ap (λ (c : Parts). place_records c o at) is) k)))
-
-    pub kept_totals : IsSound new → (result : Totals)
-        →
-        ((now : Totals) → broken now ≡ None → with_records lvl now before ≡ with_records lvl t after
-        → result ≡ now)
-        → result ≡ totals_of new
-    kept_totals sound result value = value (totals_of new) (no_limit_of new sound.valid.limits) became
+-- more records at a place
+pub place_grown : (b : Parts) (o : Owner) (at : Place) (f : Settings → Settings) (s : Settings)
+    → settings_of b o at ≡ Some s → (more : Records)
+    → records_of_place (zone_place at) (f s) ≡ records_sum (records_of_place (zone_place at) s) more
+    → totals_of (owner_place_changed b o at f) ≡ with_records (level_of o) (totals_of b) more
+place_grown b o at f s there more grown =
+    with_more_records (level_of o) (totals_of b) (totals_of (owner_place_changed b o at f))
+    (records_of_place (zone_place at) s) more
+    (totals_place_changed b o at f s there ∙ ap (with_records (level_of o) (totals_of b)) grown)
 
 -- ---- a change that adds no records
 

@@ -109,12 +109,11 @@ module _ (b : Parts) (i : ℕ) (f : Sample → Sample) (s : Sample) (e : slice_g
         };
       }
 
--- the totals that the code keeps, if f keeps the number of points
+-- f keeps the number of points
 pub totals_stay : (b : Parts) (i : ℕ) (f : Sample → Sample) → i < length b.samples
-    → ((s : Sample) → length (f s).points ≡ length s.points)
-    → (t : Totals) → t ≡ totals_of b → t ≡ totals_of (sample_changed b i f)
-totals_stay b i f lt same t counted =
-    let (s, e) = slice_get-found b.samples i lt in counted ∙ sym (totals-kept b i f s e (same s))
+    → ((s : Sample) → length (f s).points ≡ length s.points) → totals_of b ≡ totals_of (sample_changed b i f)
+totals_stay b i f lt same =
+    let (s, e) = slice_get-found b.samples i lt in sym (totals-kept b i f s e (same s))
 
 -- ---- removal of points
 
@@ -287,54 +286,41 @@ module _ (b : Parts) (i : ℕ) (front back : List ℕ) (lt : i < length b.sample
       (slice_get-changed b.samples i (extended front back) s e) sound in
       rw e fits.looped
 
-  pub room_then : IsSound (sample_extended b i front back) → (t : Totals) → t ≡ totals_of b
-      → t.points + (length front + length back) ≤ POINTS
+  pub points_extended : point_total (changed b.samples i (extended front back))
+      ≡ point_total b.samples + (length front + length back)
   unfolding totals_of
-  room_then sound t counted =
-      let (s, e) = slice_get-found b.samples i lt in
-      let few = ap (λ (u : Totals). u.points) (totals-extended b i front back s e) in
-      let within = sound.valid.limits.points in
-      let here = ap (λ (u : Totals). u.points) counted in
-      omega (arith, few, within, here)
+  points_extended =
+      let (s, e) = slice_get-found b.samples i lt in ap (λ (u : Totals). u.points) (totals-extended b i front back s e)
 
-  pub totals_then : (t : Totals) (more : ℕ) → t ≡ totals_of b → more ≡ length front + length back
-      → (let u : Totals = record t { points = t.points + more } in u) ≡ totals_of (sample_extended b i front back)
-  unfolding totals_of
-  totals_then t more counted many =
-      let (s, e) = slice_get-found b.samples i lt in
-      (λ k. let u : Totals = counted k in let v : Totals = record u { points = u.points + many k } in v)
-      ∙ sym (totals-extended b i front back s e)
+  pub room_then : IsSound (sample_extended b i front back)
+      → point_total b.samples + (length front + length back) ≤ POINTS
+  room_then sound =
+      let points = points_extended in
+      let within = sound.valid.limits.points in
+      omega (arith, points, within)
 
 -- ---- the same when points are removed
 
-module _ (b : Parts) (i front back : ℕ) (lt : i < length b.samples) (le : front + back ≤ length (points_of b i))
-    (t : Totals) (counted : t ≡ totals_of b) where
-  pub had_points : front + back ≤ t.points
-  unfolding totals_of
+module _ (b : Parts) (i front back : ℕ) (lt : i < length b.samples) (le : front + back ≤ length (points_of b i)) where
+  pub had_points : front + back ≤ point_total b.samples
   had_points =
       let (s, e) = slice_get-found b.samples i lt in
       let inside : front + back ≤ length s.points = rw e at le in
       let all = among b.samples i s e in
-      let here = ap (λ (u : Totals). u.points) counted in
-      omega (arith, inside, all, here)
+      omega (arith, inside, all)
 
-  pub totals_left : (let u : Totals = record t { points = t.points - (front + back) } in u)
-      ≡ totals_of (sample_trimmed b i front back)
+  pub points_trimmed : point_total (changed b.samples i (trimmed front back)) ≡ point_total b.samples - (front + back)
   unfolding totals_of
-  totals_left =
+  points_trimmed =
       let (s, e) = slice_get-found b.samples i lt in
       let inside : front + back ≤ length s.points = rw e at le in
-      ap (λ (u : Totals). let v : Totals = record u { points = u.points - (front + back) } in v) counted
-      ∙ sym (totals-trimmed b i front back s e inside)
+      ap (λ (u : Totals). u.points) (totals-trimmed b i front back s e inside)
 
--- ---- the limit that the totals break
+-- ---- the limit of points
 
-module _ (b : Parts) (sound : IsSound b) (t : Totals) (known : t ≡ totals_of b) where
+module _ (b : Parts) (sound : IsSound b) where
   w : AreWithin (totals_of b)
   w = within_totals (totals_of b) (no_limit_of b sound.valid.limits)
-
-  pub points_within : t.points ≤ POINTS
-  points_within = let few = w.points in let here = ap (λ (u : Totals). u.points) known in omega (arith, few, here)
 
   module _ (more i : ℕ) (front back : List ℕ) (lt : i < length b.samples)
       (many : more ≡ counted (length front + length back)) where
@@ -345,23 +331,20 @@ module _ (b : Parts) (sound : IsSound b) (t : Totals) (known : t ≡ totals_of b
         ap broken (totals-extended b i front back s e)
         ∙ broken_points (totals_of b) w (point_total b.samples + (length front + length back))
 
-    pub points_full : POINTS - t.points < more → Some limit.Points ≡ broken_limit (sample_extended b i front back)
-    unfolding totals_of
+    pub points_full : POINTS - point_total b.samples < more
+        → Some limit.Points ≡ broken_limit (sample_extended b i front back)
     points_full over =
-        let here = ap (λ (u : Totals). u.points) known in
-        let few = points_within in
+        let few = sound.valid.limits.points in
         let past : nat_lt POINTS (point_total b.samples + (length front + length back)) ≡ true =
-        grind (arith, nat_tests, here, few, many, over) in
+        grind (arith, nat_tests, few, many, over) in
         sym (limit_found ∙ rw past refl)
 
-    pub points_fit : more ≤ POINTS - t.points → None ≡ broken_limit (sample_extended b i front back)
-    unfolding totals_of
+    pub points_fit : more ≤ POINTS - point_total b.samples → None ≡ broken_limit (sample_extended b i front back)
     points_fit room =
-        let here = ap (λ (u : Totals). u.points) known in
-        let few = points_within in
+        let few = sound.valid.limits.points in
         let past : nat_lt POINTS (point_total b.samples + (length front + length back)) ≡ false =
         not_over POINTS (point_total b.samples + (length front + length back))
-        (omega (arith, here, few, many, room)) in
+        (omega (arith, few, many, room)) in
         sym (limit_found ∙ rw past refl)
 
 -- ---- undo

@@ -24,7 +24,8 @@ use Rattle.bank_changes.specs.Presets.{preset_added, preset_removed, preset_move
 use Rattle.bank_changes.proofs.Changes.{all_changed}
 use Rattle.bank_changes.proofs.Everywhere.{all_insert, all_remove}
 use Rattle.bank_changes.proofs.Moves.{all_moved}
-use Rattle.bank_changes.proofs.TotalsLaws.{level_inserted, level_removed, level_moved, level_headed, owners_grow}
+use Rattle.bank_changes.proofs.TotalsLaws.{level_inserted, level_removed, level_moved, level_headed}
+use Rattle.bank_changes.proofs.TotalsLaws.{fewer_owners_within}
 
 -- the bank with other presets
 abbrev with_presets : Parts → List (ZoneOwner Head) → Parts
@@ -87,7 +88,7 @@ sound_removed_preset b i sound lt =
     presets_sound b sound (remove b.presets i)
     (all_remove (IsPreset (length b.instruments)) b.presets i sound.valid.presets)
     (all_remove (FitsOwner FitsHead) b.presets i sound.fits.presets)
-    ((owners_grow level.Preset).within (totals_of (preset_removed b i)) (records_of_owner p)
+    (fewer_owners_within level.Preset (totals_of (preset_removed b i)) (records_of_owner p)
     (ap broken (totals-removed_preset b i p e) ∙ no_limit_of b sound.valid.limits))
 
 -- ---- moving

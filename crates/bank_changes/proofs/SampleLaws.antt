@@ -36,7 +36,7 @@ use Rattle.bank_changes.proofs.References.{refs_kept, refs_back, unused, not_in_
 use Rattle.sf_base.specs.declared.limits.TheConstants.{ZERO_POINTS}
 use Rattle.bank_validity.proofs.LimitLaws.{limits_of, no_limit_of}
 use Rattle.bank_changes.proofs.Changes.{all_changed, sum-changed, sum-removed}
-use Rattle.bank_changes.proofs.TotalsLaws.{without_sample_within, with_sample_same, level_kept, points_kept}
+use Rattle.bank_changes.proofs.TotalsLaws.{without_sample_within, level_kept, points_kept}
 
 -- ---- renaming
 
@@ -418,31 +418,14 @@ module _ (b : Parts) (i j : ℕ) (lt : i < length b.samples) (lu : j < length b.
       ∙ refs_back (Move i j) (Move j i) b
       (refs_always (λ x. renumbered (Move j i) (renumbered (Move i j) x) ≡ x) (λ x. move_returned i j x) b)
 
--- ---- the totals that the code keeps
+-- ---- the points of one sample more, or less
 
-module _ (b : Parts) (t : Totals) (i : ℕ) (s : Sample) (n : ℕ) (counted : t ≡ totals_of b)
-    (many : n ≡ length s.points) where
-  pub totals_with_sample : i ≤ length b.samples → with_sample t n ≡ totals_of (sample_added b i s)
-  totals_with_sample le =
-      ap (λ (u : Totals). with_sample u n) counted
-      ∙ (ap (with_sample (totals_of b)) many ∙ sym (totals-added b i s le))
+pub points_added : (b : Parts) (i : ℕ) (s : Sample) → i ≤ length b.samples
+    → point_total (sample_added b i s).samples ≡ point_total b.samples + (length s.points + ZERO_POINTS)
+unfolding totals_of
+points_added b i s le = ap (λ (t : Totals). t.points) (totals-added b i s le)
 
-  pub room_for : i ≤ length b.samples → IsValid (sample_added b i s) → broken (with_sample t n) ≡ None
-  room_for le v = ap broken (totals_with_sample le) ∙ no_limit_of (sample_added b i s) v.limits
-
-  pub had_sample : slice_get b.samples i ≡ Some s → (0 < t.samples) × (n + ZERO_POINTS ≤ t.points)
-  had_sample e =
-      let whole : with_sample (totals_of (sample_removed b i)) n ≡ t =
-      ap (with_sample (totals_of (sample_removed b i))) many ∙ (totals-removed b i s e ∙ sym counted) in
-      let samples = ap (λ (u : Totals). u.samples) whole in
-      let points = ap (λ (u : Totals). u.points) whole in
-      (omega (arith, samples), omega (arith, points))
-
-  pub totals_shrunk : (less : Totals) → slice_get b.samples i ≡ Some s → with_sample less n ≡ t
-      → less ≡ totals_of (sample_removed b i)
-  totals_shrunk less e whole =
-      with_sample_same less (totals_of (sample_removed b i)) n
-      (whole
-      ∙
-      (counted
-      ∙ (sym (totals-removed b i s e) ∙ ap (with_sample (totals_of (sample_removed b i))) (sym many))))
+pub points_removed : (b : Parts) (i : ℕ) (s : Sample) → slice_get b.samples i ≡ Some s
+    → point_total (sample_removed b i).samples + (length s.points + ZERO_POINTS) ≡ point_total b.samples
+unfolding totals_of
+points_removed b i s e = ap (λ (t : Totals). t.points) (totals-removed b i s e)

@@ -1,7 +1,6 @@
 -- The raw changes of generators and modulators: each keeps a bank sound, and can be undone.
 use Rattle.std.proofs.Common.{◌≡◌, ◌<◌, ◌≤◌, ◌+◌, ◌^◌, ℕ, List, length, insert, remove, take, drop, ◌∷◌, Some, None}
-use Rattle.std.proofs.Common.{IsSome, sym, ◌∙◌, ap, subst, arith}
-use Rattle.sf_base.specs.declared.limits.TheConstants.{GENERATORS, MODULATORS}
+use Rattle.std.proofs.Common.{IsSome, refl, sym, ◌∙◌, ap, subst, arith}
 use Rattle.std.specs.Prelude.{◌-◌, slice_set, if◌then◌else◌, ◌==◌}
 use Rattle.std.specs.Option.{option_and_then}
 use Rattle.std.specs.List.{AllByRecursion}
@@ -18,28 +17,23 @@ use Rattle.generators.proofs.MapLaws as gens
 use Rattle.modulators.specs.declared.modulator.Modulator.{Modulator}
 use Rattle.modulators.specs.Modulators.{FitsModulator}
 use Rattle.bank_parts.specs.declared.counting.Records.{Records}
-use Rattle.bank_validity.specs.declared.totals.Totals.{Totals}
 use Rattle.bank_parts.specs.declared.parts.Parts.{Parts}
 use Rattle.bank_parts.specs.Settings.{Settings, with_gens, with_mods}
 use Rattle.bank_parts.specs.Valid.{IsGenerator}
 use Rattle.bank_parts.specs.Sound.{IsSound}
-use Rattle.bank_parts.specs.Counts.{counted}
-use Rattle.bank_validity.specs.Limits.{totals_of, broken, broken_limit}
-use Rattle.bank_parts.proofs.Counts.{counted_same}
-use Rattle.bank_validity.proofs.LimitLaws.{within_at, within_totals, no_limit_of}
+use Rattle.bank_validity.specs.Limits.{totals_of, broken_limit, with_records}
 use Rattle.bank_parts.proofs.UndoneLaws.{amount_of_settings}
 use Rattle.bank_changes.specs.declared.members.Owner.{Owner}
 use Rattle.bank_changes.specs.declared.members.Owner.TheVariants.{Preset, Inst}
 use Rattle.bank_changes.specs.declared.members.Place.{Place}
 use Rattle.bank_changes.specs.declared.members.Place.TheVariants as place
 use Rattle.bank_changes.specs.Members.{zone_place, settings_of, level_of, amount_of}
-use Rattle.bank_changes.specs.Settings.{owner_place_changed, gen_set, gen_cleared, mod_added, mod_removed, mod_set}
+use Rattle.bank_changes.specs.Settings.{gen_set, gen_cleared, mod_added, mod_removed, mod_set}
 use Rattle.bank_changes.specs.Settings.{records_of_place, place_records, zones_at}
-use Rattle.bank_changes.specs.Totals.{HasRecords}
 use Rattle.bank_changes.proofs.Changes.{all_set}
 use Rattle.bank_changes.proofs.Everywhere.{all_insert, all_remove}
-use Rattle.bank_changes.proofs.PlaceLaws.{Keeps, sound_place_changed, within_no_more, records_found, has_records}
-use Rattle.bank_changes.proofs.PlaceLaws.{changed_there}
+use Rattle.bank_changes.proofs.PlaceLaws.{Keeps, sound_place_changed, within_no_more, records_found, found_there}
+use Rattle.bank_changes.proofs.PlaceLaws.{place_grown}
 
 -- ---- each keeps what holds of all settings
 
@@ -179,61 +173,71 @@ module _ (b : Parts) (o : Owner) (at : Place) (j : ℕ) (s : Settings) (there : 
       within_no_more b o at (λ s. with_mods (slice_set s.mods j m) s) s there sound (omega arith)
       (same_length (length (slice_set s.mods j m)) (length s.mods) (length-slice_set s.mods j m))
 
-few_records : (lvl : Level) (t : Totals) (r : Records) → HasRecords lvl t r → broken t ≡ None
-    → (r.gens ≤ GENERATORS) × (r.mods ≤ MODULATORS)
-few_records lvl t r h e =
-    let l = within_at lvl t (within_totals t e) in
-    (omega arith, omega arith)
+-- ---- the records of one more generator or modulator
 
-one_more : (n most : ℕ) → n ≤ most → most < 2 ^ 64 - 1 → counted (n + 1) ≡ n + 1
-one_more n most h small = counted_same (n + 1) (omega (arith, h, small))
+bags_there : (at : Place) (s : Settings) → (records_of_place (zone_place at) s).zones ≤ zones_at at
+bags_there place.Global s = grind (arith, nat_tests)
+bags_there (place.Zone k) s = omega arith
 
-module _ (b : Parts) (o : Owner) (at : Place) (s : Settings) (there : settings_of b o at ≡ Some s)
-    (sound : IsSound b) (before : Records) (had : before ≡ place_records b o at) where
-  was_there : before ≡ records_of_place (zone_place at) s
-  was_there = had ∙ records_found b o at s there
+pub bags_within : (b : Parts) (o : Owner) (at : Place) → IsSome (settings_of b o at)
+    → (place_records b o at).zones ≤ zones_at at
+bags_within b o at there =
+    let (s, e) = found_there (settings_of b o at) there in
+    subst (λ (r : Records). r.zones ≤ zones_at at) (sym (records_found b o at s e)) (bags_there at s)
 
-  few_there : (before.gens ≤ GENERATORS) × (before.mods ≤ MODULATORS)
-  few_there =
-      subst (λ (r : Records). (r.gens ≤ GENERATORS) × (r.mods ≤ MODULATORS)) (sym was_there)
-      (few_records (level_of o) (totals_of b) (records_of_place (zone_place at) s) (has_records b o at s there)
-      (no_limit_of b sound.valid.limits))
+pub few_bags : (at : Place) (had : Records) → zones_at at - had.zones < 2 ^ 64
+few_bags place.Global had = omega arith
+few_bags (place.Zone k) had = omega arith
 
-  gens_there : (at : Place) → before ≡ records_of_place (zone_place at) s → before.gens ≡ len s.gens
-  gens_there place.Global e = ap (λ (r : Records). r.gens) e
-  gens_there (place.Zone k) e = ap (λ (r : Records). r.gens) e
+minus_plus : (n m : ℕ) → n ≤ m → n + (m - n) ≡ m
+minus_plus n m h = omega (arith, h)
 
-  mods_there : (at : Place) → before ≡ records_of_place (zone_place at) s → before.mods ≡ length s.mods
-  mods_there place.Global e = ap (λ (r : Records). r.mods) e
-  mods_there (place.Zone k) e = ap (λ (r : Records). r.mods) e
+module _ (b : Parts) (o : Owner) (at : Place) (s : Settings) (there : settings_of b o at ≡ Some s) where
+  abbrev had : Records
+  had = records_of_place (zone_place at) s
 
-  module _ (z n : ℕ) (zones : z ≡ zones_at at) where
-    pub gen_records : (op amount : ℕ) → map.get s.gens op ≡ None → n ≡ counted (before.gens + 1)
-        → (let r : Records = record { zones = z; gens = n; mods = before.mods } in r)
-        ≡ place_records (gen_set b o at op amount) o at
-    gen_records op amount unset count =
-        let f = λ (s : Settings). with_gens (map.insert s.gens op amount) s in
-        let gens =
-        count
-        ∙
-        (one_more before.gens GENERATORS few_there.0 (omega arith)
-        ∙ ap (λ n. n + 1) (gens_there at was_there))
-        in
-        (λ k. let r : Records = record { zones = zones k; gens = gens k; mods = mods_there at was_there k } in r)
-        ∙ (sym (gen_more at s op amount unset)
-        ∙ sym (records_found (owner_place_changed b o at f) o at (f s) (changed_there b o at f s there)))
+  zones_more : had.zones + (zones_at at - (place_records b o at).zones) ≡ zones_at at
+  zones_more =
+      ap (λ (r : Records). had.zones + (zones_at at - r.zones)) (records_found b o at s there)
+      ∙ minus_plus had.zones (zones_at at) (bags_there at s)
 
-    pub mod_records : (j : ℕ) (m : Modulator) → n ≡ counted (before.mods + 1)
-        → (let r : Records = record { zones = z; gens = before.gens; mods = n } in r)
-        ≡ place_records (mod_added b o at j m) o at
-    mod_records j m count =
-        let f = λ (s : Settings). with_mods (insert s.mods j m) s in
-        let mods =
-        count
-        ∙
-        (one_more before.mods MODULATORS few_there.1 (omega arith)
-        ∙ ap (λ n. n + 1) (mods_there at was_there))
-        in
-        (λ k. let r : Records = record { zones = zones k; gens = gens_there at was_there k; mods = mods k } in r)
-        ∙ (sym (mod_more at s j m)
-        ∙ sym (records_found (owner_place_changed b o at f) o at (f s) (changed_there b o at f s there)))
+  gens_had : (at : Place) → (records_of_place (zone_place at) s).gens ≡ len s.gens
+  gens_had place.Global = refl
+  gens_had (place.Zone k) = refl
+
+  mods_had : (at : Place) → (records_of_place (zone_place at) s).mods ≡ length s.mods
+  mods_had place.Global = refl
+  mods_had (place.Zone k) = refl
+
+  pub totals_gen_more : (op amount : ℕ) → map.get s.gens op ≡ None
+      → totals_of (gen_set b o at op amount)
+      ≡ with_records (level_of o) (totals_of b)
+      (record { zones = zones_at at - (place_records b o at).zones; gens = 1; mods = 0 })
+  totals_gen_more op amount unset =
+      place_grown b o at (λ s. with_gens (map.insert s.gens op amount) s) s there
+      (record { zones = zones_at at - (place_records b o at).zones; gens = 1; mods = 0 })
+      (gen_more at s op amount unset
+      ∙ (λ k. record {
+        zones = sym zones_more k;
+        gens = sym (gens_had at) k + 1;
+        mods = (sym (mods_had at) ∙ plus_none) k;
+      }))
+    where
+      plus_none : had.mods ≡ had.mods + 0
+      plus_none = omega arith
+
+  pub totals_mod_more : (j : ℕ) (m : Modulator) → totals_of (mod_added b o at j m)
+      ≡ with_records (level_of o) (totals_of b)
+      (record { zones = zones_at at - (place_records b o at).zones; gens = 0; mods = 1 })
+  totals_mod_more j m =
+      place_grown b o at (λ s. with_mods (insert s.mods j m) s) s there
+      (record { zones = zones_at at - (place_records b o at).zones; gens = 0; mods = 1 })
+      (mod_more at s j m
+      ∙ (λ k. record {
+        zones = sym zones_more k;
+        gens = (sym (gens_had at) ∙ plus_none) k;
+        mods = sym (mods_had at) k + 1;
+      }))
+    where
+      plus_none : had.gens ≡ had.gens + 0
+      plus_none = omega arith

@@ -7,6 +7,7 @@ use Rattle.std.specs.FinMap.{len}
 use Rattle.std.proofs.lemmas.List.Sums.{sum_by-insert}
 use Rattle.base_numbered_lists.proofs.Lists.{slice_get-within}
 use Rattle.generators.proofs.MapLaws.{len-insert_absent, len-insert_present, len-remove_present}
+use Rattle.bank_parts.specs.declared.counting.Records.{Records}
 use Rattle.bank_parts.specs.declared.parts.GlobalZone.{GlobalZone}
 use Rattle.bank_parts.specs.declared.parts.Zone.{Zone}
 use Rattle.bank_parts.specs.declared.parts.Parts.{Parts}
@@ -15,14 +16,14 @@ use Rattle.bank_parts.specs.declared.parts.ZoneOwner.{ZoneOwner}
 use Rattle.bank_parts.specs.Valid.{IsZone}
 use Rattle.bank_parts.specs.Fits.{FitsZone}
 use Rattle.bank_parts.specs.Sound.{IsSound}
-use Rattle.bank_validity.specs.Limits.{totals_of, broken, broken_limit}
+use Rattle.bank_validity.specs.Limits.{totals_of, broken, broken_limit, with_records}
 use Rattle.bank_validity.proofs.LimitLaws.{no_limit_of}
 use Rattle.bank_zone_ranges.specs.declared.axes.Axis.{Axis}
 use Rattle.bank_zone_ranges.specs.declared.axes.Keep.{Keep}
 use Rattle.bank_zone_ranges.specs.declared.axes.Keep.TheVariants as keeping
 use Rattle.bank_zone_ranges.specs.Ranges.{range_operator, low_end, high_end, range_from, range_of, own_range, with_range}
 use Rattle.bank_zone_ranges.specs.Splits.{is_split_point, lower_zone, upper_zone, split_in_two, merged, joint_range, joined}
-use Rattle.bank_zone_ranges.specs.Splits.{are_joinable, split_records, join_records}
+use Rattle.bank_zone_ranges.specs.Splits.{are_joinable, records_with, split_records}
 use Rattle.bank_zone_ranges.specs.Undone.{own_amount}
 use Rattle.bank_zone_ranges.proofs.SplitLists.{halves_at, all_split, all_merged, all_at, left_first}
 use Rattle.bank_zone_ranges.proofs.SplitLaws.{split_at, joined_at}
@@ -33,14 +34,18 @@ use Rattle.bank_changes.specs.declared.members.Owner.{Owner}
 use Rattle.bank_changes.specs.declared.members.Owner.TheVariants as owner
 use Rattle.bank_changes.specs.declared.members.Place.TheVariants as place
 use Rattle.bank_changes.specs.Members.{owner_zone_count, settings_of, zones_of, zone_of, level_of, target_count}
-use Rattle.bank_changes.specs.Totals.{with_records}
 use Rattle.bank_changes.specs.Zones.{zone_split, zone_joined, can_split, can_join}
 use Rattle.bank_changes.proofs.Changes.{sum-removed, sum-exchanged}
 use Rattle.bank_changes.proofs.PlaceLaws.{gens_of_sound}
-use Rattle.bank_changes.proofs.TotalsLaws.{records_grow}
+use Rattle.bank_changes.proofs.TotalsLaws.{fewer_records_within}
 use Rattle.bank_changes.proofs.ZoneChangeLaws.{own_count, zone_is, with_presets, with_instruments}
 use Rattle.bank_changes.proofs.ZoneLaws.{zones_put, sound_zones_put, zones_valid, zones_fit, records_of_zones}
 use Rattle.bank_changes.proofs.ZoneLaws.{totals_zones_more, totals_zones_less}
+
+-- the records that a join removes: those of the second zone, and the range of the first if none is kept
+abbrev join_records : Keep → Zone → Records
+join_records keeping.Keep z = records_with 1 z
+join_records keeping.Bare z = records_with 2 z
 
 -- ---- zones that exist
 
@@ -303,7 +308,7 @@ module _ (b : Parts) (o : Owner) (k : ℕ) (axis : Axis) (keep : Keep) (can : ca
       joined_range axis own.global own.zone s.second keep s.joinable
       (own_holds (level_of o) axis own.zone v.gens) (own_holds (level_of o) axis s.second w.gens) in
       let within =
-      (records_grow (level_of o)).within (totals_of (zone_joined b o k axis keep)) (join_records keep s.second)
+      fewer_records_within (level_of o) (totals_of (zone_joined b o k axis keep)) (join_records keep s.second)
       (ap broken totals-zone_joined ∙ no_limit_of b sound.valid.limits) in
       rw s.put
       (sound_zones_put b o (merged own.zones k one) sound

@@ -1,6 +1,6 @@
 -- Totals of a bank, and their sums.
 use Rattle.std.proofs.Common.{◌≡◌, ◌<◌, ◌≤◌, ◌+◌, ◌-◌, ℕ, List, length, map, insert, remove, slice_get, Some, None}
-use Rattle.std.proofs.Common.{refl, ap, arith}
+use Rattle.std.proofs.Common.{refl, ap, sym, subst, ◌∙◌, arith}
 use Rattle.std.specs.FinMap.{len}
 use Rattle.std.proofs.lemmas.List.{length-map}
 use Rattle.std.proofs.lemmas.List.Sums.{sum_by-insert}
@@ -17,14 +17,13 @@ use Rattle.bank_parts.specs.declared.parts.Sample.{Sample}
 use Rattle.bank_parts.specs.declared.parts.Parts.{Parts}
 use Rattle.bank_parts.specs.Renumbered.{sample_renumbered, zone_renumbered, owner_renumbered, instruments_renumbered}
 use Rattle.bank_parts.specs.Valid.{owner_total, zone_count, gen_count, mod_count, point_total}
-use Rattle.bank_parts.specs.Counts.{all_counted, records_sum, records_of_owner}
+use Rattle.bank_parts.specs.Counts.{records_sum, records_of_owner}
 use Rattle.bank_parts.specs.Owners.{with_head}
-use Rattle.bank_validity.specs.Limits.{totals_of, level_totals, totals_at, level_changed, plus_owner, broken}
-use Rattle.bank_validity.specs.Limits.{with_sample, with_owner, AreCounted, HasOwner}
-use Rattle.bank_changes.specs.Totals.{with_records, HasRecords}
-use Rattle.bank_parts.proofs.Counts.{counted_same}
-use Rattle.bank_validity.proofs.LevelLaws.{changed_at, same_before}
-use Rattle.bank_validity.proofs.LimitLaws.{within_totals, none_broken, level_within, unchanged_within}
+use Rattle.bank_validity.specs.Limits.{totals_of, level_totals, totals_at, level_changed, plus_owner, plus_records}
+use Rattle.bank_validity.specs.Limits.{broken, with_sample, with_owner, with_records}
+use Rattle.bank_validity.proofs.LevelLaws.{changed_by, changed_at, changed_twice, same_before, same_beside}
+use Rattle.bank_validity.proofs.LimitLaws.{LevelWithin, most_at, within_totals, none_broken, level_within, within_at}
+use Rattle.bank_validity.proofs.LimitLaws.{put_within, unchanged_within}
 use Rattle.base_numbered_lists.specs.Moved.{moved, changed}
 use Rattle.base_numbered_lists.proofs.Lists.{slice_get-within, length-changed, length-moved}
 use Rattle.std.proofs.lemmas.List.Edits.{length-insert, length-remove}
@@ -40,23 +39,6 @@ module _ (t : Totals) (n : ℕ) where
       let w = within_totals (with_sample t n) e in
       none_broken t
       (record { presets = w.presets; instruments = w.instruments; samples = omega arith; points = omega arith })
-
-plus_same : (a b n : ℕ) → a + n ≡ b + n → a ≡ b
-plus_same a b n e = omega (arith, e)
-
-pub with_sample_same : (t u : Totals) (n : ℕ) → with_sample t n ≡ with_sample u n → t ≡ u
-with_sample_same t u n e =
-    let samples = plus_same t.samples u.samples 1 (ap (λ (w : Totals). w.samples) e) in
-    let points = plus_same t.points u.points (n + ZERO_POINTS) (ap (λ (w : Totals). w.points) e) in
-    λ i.
-    record {
-      presets =
-          let w = e i in
-          w.presets;
-      instruments = let w = e i in w.instruments;
-      samples = samples i;
-      points = points i;
-    }
 
 -- ---- sums that a renumbering does not change
 
@@ -162,15 +144,30 @@ module _ {H : Type 0} (owners : List (ZoneOwner H)) (i : ℕ) where
     };
   }
 
--- ---- more records, with or without one more owner
+-- ---- fewer records, with or without one less owner
 
--- if no limit is broken, no number is saturated
-few_counted : (r : Records) → r.zones ≤ ZONES → r.gens ≤ GENERATORS → r.mods ≤ MODULATORS → all_counted r ≡ r
-few_counted r zones gens mods = λ i. record {
-  zones = counted_same r.zones (omega arith) i;
-  gens = counted_same r.gens (omega arith) i;
-  mods = counted_same r.mods (omega arith) i;
-}
+-- the number of owners becomes `count` of it, which is no smaller
+module _ (count : ℕ → ℕ) (rises : (n : ℕ) → n ≤ count n) (at : Level) where
+  abbrev plus : Records → LevelTotals → LevelTotals
+  plus r l = record { count = count l.count; records = records_sum l.records r }
+
+  fewer_within : (t : Totals) (r : Records) → broken (level_changed at (plus r) t) ≡ None → broken t ≡ None
+  fewer_within t r e =
+      let w = within_totals (level_changed at (plus r) t) e in
+      let l = level_within at (plus r) t w in
+      let more = rises (totals_at at t).count in
+      none_broken t
+      (unchanged_within at (plus r) t w
+      (record { count = omega arith; zones = omega arith; gens = omega arith; mods = omega arith }))
+
+pub fewer_owners_within : (at : Level) (t : Totals) (r : Records) → broken (with_owner at t r) ≡ None → broken t ≡ None
+fewer_owners_within at = fewer_within (λ n. n + 1) (λ n. omega arith) at
+
+pub fewer_records_within : (at : Level) (t : Totals) (r : Records) → broken (with_records at t r) ≡ None
+    → broken t ≡ None
+fewer_records_within at = fewer_within (λ n. n) (λ n. omega arith) at
+
+-- ---- more records
 
 minus_more : (a n : ℕ) → a + n - n ≡ a
 minus_more a n = omega arith
@@ -189,60 +186,74 @@ minus_sum a r =
       mods = minus_more a.mods r.mods i;
     }
 
-in_sum : (a r : Records) (l : LevelTotals) → l.records ≡ records_sum a r → AreCounted r l
-in_sum a r l e =
-    let zones = ap (λ (s : Records). s.zones) e in
-    let gens = ap (λ (s : Records). s.gens) e in
-    let mods = ap (λ (s : Records). s.mods) e in
-    record { zones = omega arith; gens = omega arith; mods = omega arith }
+-- if the totals with the same records more are equal, the totals are
+pub same_with_records : (at : Level) (t u : Totals) (r : Records) → with_records at t r ≡ with_records at u r → t ≡ u
+same_with_records at t u r e =
+    same_before at (plus_records r) (λ l. record { count = l.count; records = records_minus l.records r })
+    (λ l i. record { count = l.count; records = minus_sum l.records r i }) t u e
 
--- a way to add records to totals, and what the totals count then
-pub record Grow (plus : Totals → Records → Totals) (Has : Totals → Records → Type 0) : Type 0 where
-  pub within : (t : Totals) (r : Records) → broken (plus t r) ≡ None → broken t ≡ None
-  pub whole : (t : Totals) (r : Records) → broken (plus t r) ≡ None → all_counted r ≡ r
-  pub same : (t u : Totals) (r : Records) → plus t r ≡ plus u r → t ≡ u
-  pub has : (t : Totals) (r : Records) → Has (plus t r) r
-
--- the number of owners becomes `count` of it, which is no smaller, and `back` undoes that
-module _ (count back : ℕ → ℕ) (returns : (n : ℕ) → back (count n) ≡ n) (rises : (n : ℕ) → n ≤ count n) (at : Level)
+pub with_records_sum : (at : Level) (t : Totals) (r s : Records)
+    → with_records at t (records_sum r s) ≡ with_records at (with_records at t s) r
+with_records_sum at t r s =
+    let l = totals_at at t in
+    changed_by at (plus_records (records_sum r s)) (λ l. plus_records r (plus_records s l)) t
+    (λ i. record l { records = sum_twice l.records r s i })
+    ∙ sym (changed_twice at (plus_records s) (plus_records r) t)
   where
-    abbrev plus : Records → LevelTotals → LevelTotals
-    plus r l = record { count = count l.count; records = records_sum l.records r }
+    plus_twice : (a r s : ℕ) → a + (r + s) ≡ a + s + r
+    plus_twice a r s = omega arith
 
-    grow : (Has : Totals → Records → Type 0)
-        →
-        ((t : Totals) (r : Records) → AreCounted r (totals_at at (level_changed at (plus r) t))
-        → Has (level_changed at (plus r) t) r)
-        → Grow (λ t r. level_changed at (plus r) t) Has
-    grow Has has = record {
-      within = λ t r e.
-          let w = within_totals (level_changed at (plus r) t) e in
-          let l = level_within at (plus r) t w in
-          let more = rises (totals_at at t).count in
-          none_broken t
-          (unchanged_within at (plus r) t w
-          (record { count = omega arith; zones = omega arith; gens = omega arith; mods = omega arith }));
-      whole = λ t r e.
-          let l = level_within at (plus r) t (within_totals (level_changed at (plus r) t) e) in
-          few_counted r (omega arith) (omega arith) (omega arith);
-      same = λ t u r e.
-          same_before at (plus r) (λ l. record { count = back l.count; records = records_minus l.records r })
-          (λ l i. record { count = returns l.count i; records = minus_sum l.records r i }) t u e;
-      has = λ t r.
-          has t r
-          (in_sum (totals_at at t).records r (totals_at at (level_changed at (plus r) t))
-          (ap (λ (l : LevelTotals). l.records) (changed_at at (plus r) t)));
-    }
+    sum_twice : (a r s : Records) → records_sum a (records_sum r s) ≡ records_sum (records_sum a s) r
+    sum_twice a r s =
+        λ i.
+        record {
+          zones =
+              plus_twice a.zones r.zones s.zones i;
+          gens =
+              plus_twice a.gens r.gens s.gens i;
+          mods = plus_twice a.mods r.mods s.mods i;
+        }
 
--- one more owner
-one_there : (at : Level) (t : Totals) (r : Records) → 0 < (totals_at at (with_owner at t r)).count
-one_there at t r = let count = ap (λ (l : LevelTotals). l.count) (changed_at at (plus_owner r) t) in omega arith
+-- some records replaced by them and others
+pub with_more_records : (at : Level) (t now : Totals) (had more : Records)
+    → with_records at now had ≡ with_records at t (records_sum had more) → now ≡ with_records at t more
+with_more_records at t now had more e =
+    same_with_records at now (with_records at t more) had (e ∙ with_records_sum at t had more)
 
-pub owners_grow : (at : Level) → Grow (with_owner at) (HasOwner at)
-owners_grow at =
-    grow (λ n. n + 1) (λ n. n - 1) (λ n. minus_more n 1) (λ n. omega arith) at (HasOwner at)
-    (λ t r counted. (one_there at t r, counted))
+-- ---- some records replaced by no more
 
--- no more owners
-pub records_grow : (at : Level) → Grow (with_records at) (HasRecords at)
-records_grow at = grow (λ n. n) (λ n. n) (λ n. refl) (λ n. omega arith) at (HasRecords at) (λ t r counted. counted)
+pub record AreNoMore (after before : Records) : Type 0 where
+  pub zones : after.zones ≤ before.zones
+  pub gens : after.gens ≤ before.gens
+  pub mods : after.mods ≤ before.mods
+
+least : (most now t before after : ℕ) → now + before ≡ t + after → after ≤ before → t ≤ most → now ≤ most
+least most now t before after e fewer h = omega (arith, e, fewer, h)
+
+pub no_more_within : (at : Level) (t now : Totals) (before after : Records)
+    → with_records at now before ≡ with_records at t after → AreNoMore after before → broken t ≡ None
+    → broken now ≡ None
+no_more_within at t now before after became fewer e =
+    let w = within_totals t e in
+    let l = within_at at t w in
+    let here = totals_at at now in
+    let there = totals_at at t in
+    let level : plus_records before here ≡ plus_records after there =
+    sym (changed_at at (plus_records before) now)
+    ∙ (ap (totals_at at) became ∙ changed_at at (plus_records after) t) in
+    let count = ap (λ (l : LevelTotals). l.count) level in
+    let records = ap (λ (l : LevelTotals). l.records) level in
+    let own : LevelWithin (most_at at) here = record {
+      count = subst (λ n. n ≤ most_at at) (sym count) l.count;
+      zones =
+          least ZONES here.records.zones there.records.zones before.zones after.zones
+          (ap (λ (r : Records). r.zones) records) fewer.zones l.zones;
+      gens =
+          least GENERATORS here.records.gens there.records.gens before.gens after.gens
+          (ap (λ (r : Records). r.gens) records) fewer.gens l.gens;
+      mods =
+          least MODULATORS here.records.mods there.records.mods before.mods after.mods
+          (ap (λ (r : Records). r.mods) records) fewer.mods l.mods;
+    } in
+    ap broken (same_beside at (plus_records before) (plus_records after) now t became)
+    ∙ none_broken (level_changed at (λ _. here) t) (put_within at here t w own)

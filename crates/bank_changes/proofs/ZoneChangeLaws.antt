@@ -15,7 +15,7 @@ use Rattle.bank_parts.specs.ZoneChanges.{with_target}
 use Rattle.bank_parts.specs.Valid.{IsZone}
 use Rattle.bank_parts.specs.Fits.{FitsZone}
 use Rattle.bank_parts.specs.Sound.{IsSound}
-use Rattle.bank_validity.specs.Limits.{totals_of, broken, broken_limit}
+use Rattle.bank_validity.specs.Limits.{totals_of, broken, broken_limit, with_records}
 use Rattle.bank_validity.proofs.LimitLaws.{no_limit_of}
 use Rattle.bank_parts.proofs.SettingLaws.{source}
 use Rattle.bank_parts.proofs.UndoneLaws as list
@@ -23,12 +23,11 @@ use Rattle.bank_parts.proofs.UndoneLaws.{Existing}
 use Rattle.bank_changes.specs.declared.members.Owner.{Owner}
 use Rattle.bank_changes.specs.declared.members.Owner.TheVariants as owner
 use Rattle.bank_changes.specs.Members.{owner_zone_count, zones_of, zone_of, target_of, level_of, target_count}
-use Rattle.bank_changes.specs.Totals.{with_records}
 use Rattle.bank_changes.specs.Zones.{zone_added, zone_removed, zone_moved, target_set}
 use Rattle.bank_changes.proofs.Changes.{all_changed, sum-changed, sum-removed}
 use Rattle.bank_changes.proofs.Everywhere.{all_insert, all_remove}
 use Rattle.bank_changes.proofs.Moves.{all_moved, sum-moved}
-use Rattle.bank_changes.proofs.TotalsLaws.{records_grow}
+use Rattle.bank_changes.proofs.TotalsLaws.{fewer_records_within}
 use Rattle.bank_changes.proofs.ZoneLaws.{zones_put, zones_put_is, sound_zones_put, zones_valid, zones_fit}
 use Rattle.bank_changes.proofs.ZoneLaws.{records_of_zones, totals_zones_more, totals_zones_less, totals_zones_same}
 
@@ -161,7 +160,7 @@ sound_zone_removed b o k h sound =
     let t = zone_there b o k zone e in
     let same = removed_put k b o t.member t.there in
     let within =
-    (records_grow (level_of o)).within (totals_of (zone_removed b o k)) (records_of_zone zone)
+    fewer_records_within (level_of o) (totals_of (zone_removed b o k)) (records_of_zone zone)
     (ap broken (totals-zone_removed b o k zone e) ∙ no_limit_of b sound.valid.limits) in
     rw same
     (sound_zones_put b o (remove t.member k) sound

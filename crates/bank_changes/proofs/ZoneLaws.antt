@@ -6,9 +6,7 @@ use Rattle.std.specs.List.{AllByRecursion}
 use Rattle.std.specs.FinMap.{len}
 use Rattle.std.proofs.lemmas.List.Sums.{sum_by-cons}
 use Rattle.base_numbered_lists.proofs.Lists.{changed-found, length-changed}
-use Rattle.generators.specs.declared.level.Level.{Level}
 use Rattle.bank_parts.specs.declared.counting.Records.{Records}
-use Rattle.bank_validity.specs.declared.totals.Totals.{Totals}
 use Rattle.bank_parts.specs.declared.parts.GlobalZone.{GlobalZone}
 use Rattle.bank_parts.specs.declared.parts.Head.{Head}
 use Rattle.bank_parts.specs.declared.parts.Zone.{Zone}
@@ -20,17 +18,15 @@ use Rattle.bank_parts.specs.Valid.{IsZone, owner_total, global_count, zone_count
 use Rattle.bank_parts.specs.Valid.{gen_count, mod_count}
 use Rattle.bank_parts.specs.Fits.{FitsZone}
 use Rattle.bank_parts.specs.Sound.{IsSound}
-use Rattle.bank_validity.specs.Limits.{totals_of, level_totals, totals_at, plus_records, broken_limit}
-use Rattle.bank_validity.proofs.LevelLaws.{changed_by, changed_twice}
+use Rattle.bank_validity.specs.Limits.{totals_of, level_totals, plus_records, broken_limit, with_records}
 use Rattle.bank_parts.proofs.SettingLaws.{source}
 use Rattle.bank_changes.specs.declared.members.Owner.{Owner}
 use Rattle.bank_changes.specs.declared.members.Owner.TheVariants as owner
 use Rattle.bank_changes.specs.Members.{zones_of, level_of, target_count}
-use Rattle.bank_changes.specs.Totals.{with_records}
 use Rattle.bank_changes.specs.Zones.{owner_zones_changed}
 use Rattle.bank_changes.proofs.OwnerLaws.{of_sound, sound_owner_changed}
 use Rattle.bank_changes.proofs.Changes.{sum-exchanged}
-use Rattle.bank_changes.proofs.TotalsLaws.{records_grow}
+use Rattle.bank_changes.proofs.TotalsLaws.{same_with_records, with_more_records}
 
 -- ---- a list of owners, of which one gets other zones
 
@@ -161,48 +157,21 @@ totals_zones_put b (owner.Preset p) zones put e =
 totals_zones_put b (owner.Inst i) zones put e =
     λ k. record (totals_of b) { instruments = level_follows b.instruments i zones put e k }
 
-with_records_sum : (at : Level) (t : Totals) (r s : Records)
-    → with_records at t (records_sum r s) ≡ with_records at (with_records at t s) r
-with_records_sum at t r s =
-    let l = totals_at at t in
-    changed_by at (plus_records (records_sum r s)) (λ l. plus_records r (plus_records s l)) t
-    (λ i. record l { records = sum_twice l.records r s i })
-    ∙ sym (changed_twice at (plus_records s) (plus_records r) t)
-  where
-    plus_twice : (a r s : ℕ) → a + (r + s) ≡ a + s + r
-    plus_twice a r s = omega arith
-
-    sum_twice : (a r s : Records) → records_sum a (records_sum r s) ≡ records_sum (records_sum a s) r
-    sum_twice a r s =
-        λ i.
-        record {
-          zones =
-              plus_twice a.zones r.zones s.zones i;
-          gens =
-              plus_twice a.gens r.gens s.gens i;
-          mods = plus_twice a.mods r.mods s.mods i;
-        }
-
 module _ (b : Parts) (o : Owner) (zones put : List Zone) (e : zones_of b o ≡ Some zones) where
   pub totals_zones_more : (r : Records) → records_of_zones put ≡ records_sum (records_of_zones zones) r
       → totals_of (zones_put b o put) ≡ with_records (level_of o) (totals_of b) r
   totals_zones_more r more =
-      (records_grow (level_of o)).same (totals_of (zones_put b o put)) (with_records (level_of o) (totals_of b) r)
-      (records_of_zones zones)
-      (totals_zones_put b o zones put e
-      ∙
-      (ap (with_records (level_of o) (totals_of b)) more
-      ∙ with_records_sum (level_of o) (totals_of b) (records_of_zones zones) r))
+      with_more_records (level_of o) (totals_of b) (totals_of (zones_put b o put)) (records_of_zones zones) r
+      (totals_zones_put b o zones put e ∙ ap (with_records (level_of o) (totals_of b)) more)
 
   pub totals_zones_less : (r : Records) → records_of_zones zones ≡ records_sum (records_of_zones put) r
       → with_records (level_of o) (totals_of (zones_put b o put)) r ≡ totals_of b
   totals_zones_less r less =
-      (records_grow (level_of o)).same (with_records (level_of o) (totals_of (zones_put b o put)) r) (totals_of b)
-      (records_of_zones put)
-      (sym (with_records_sum (level_of o) (totals_of (zones_put b o put)) (records_of_zones put) r)
-      ∙ (ap (with_records (level_of o) (totals_of (zones_put b o put))) (sym less) ∙ totals_zones_put b o zones put e))
+      sym
+      (with_more_records (level_of o) (totals_of (zones_put b o put)) (totals_of b) (records_of_zones put) r
+      (sym (totals_zones_put b o zones put e) ∙ ap (with_records (level_of o) (totals_of (zones_put b o put))) less))
 
   pub totals_zones_same : records_of_zones put ≡ records_of_zones zones → totals_of (zones_put b o put) ≡ totals_of b
   totals_zones_same same =
-      (records_grow (level_of o)).same (totals_of (zones_put b o put)) (totals_of b) (records_of_zones zones)
+      same_with_records (level_of o) (totals_of (zones_put b o put)) (totals_of b) (records_of_zones zones)
       (totals_zones_put b o zones put e ∙ ap (with_records (level_of o) (totals_of b)) same)

@@ -7,6 +7,5 @@ pub mod Points
 pub mod Instruments
 pub mod Presets
 pub mod Zones
-pub mod Totals
 pub mod Settings
 pub mod Texts

@@ -9,7 +9,6 @@ mod presets;
 mod samples;
 mod settings;
 mod texts;
-mod totals;
 mod zones;
 
 pub use instruments::{add_instrument, move_instrument, remove_instrument, rename_instrument};
@@ -20,8 +19,6 @@ pub use presets::{add_preset, move_preset, remove_preset, set_head};
 pub use samples::{add_sample, move_sample, remove_sample, rename_sample};
 pub use settings::{add_mod, clear_gen, place_records, remove_mod, set_gen, set_mod};
 pub use texts::set_info;
-pub use totals::{broken_with_records, recounted, with_records, without_records};
 pub use zones::{
-    add_zone, join_records, join_zone, move_zone, remove_zone, set_target, split_records,
-    split_zone,
+    add_zone, join_zone, move_zone, remove_zone, set_target, split_records, split_zone,
 };

@@ -2,7 +2,7 @@
 ghost use Rattle.std.specs.Prelude.{◌≡◌, ◌<◌, ◌≤◌, Some, IsSomeAnd, OnOk, OnErr, IfOk, IfErr, ◌+◌, true, IfSome};
 ghost use Rattle.bank_parts.specs.Counts.{all_counted};
 ghost use Rattle.bank_parts.specs.Room.{IsStorable};
-ghost use Rattle.bank_zone_ranges.specs.Splits.{split_records, join_records};
+ghost use Rattle.bank_zone_ranges.specs.Splits.{split_records};
 ghost use Rattle.bank_changes.specs.Members.{owner_zone_count, zone_of, target_of};
 ghost use Rattle.bank_changes.specs.Zones.{zone_added, zone_removed, zone_moved, target_set, can_split, can_join, zone_split, zone_joined};
 
@@ -78,16 +78,6 @@ pub fn split_records(parts: &Parts<'_>, owner: Owner, zone: u32, axis: Axis) -> 
 {
     with_owners!(parts, owner, |owners, number| {
         bank_zone_ranges::split_records(owners, number, zone, axis)
-    })
-}
-
-/// The records that a join of a zone and the next one removes. Each number saturates at 2^64 - 1.
-pub fn join_records(parts: &Parts<'_>, owner: Owner, zone: u32, keep: Keep) -> Records
-    requires { IsSomeAnd (owner_zone_count parts.now owner) (λ count. zone + 1 < count) }
-    ensures { IfSome (zone_of parts.now owner (zone + 1)) (λ z. result ≡ all_counted (join_records keep z)) }
-{
-    with_owners!(parts, owner, |owners, number| {
-        bank_zone_ranges::join_records(owners, number, zone, keep)
     })
 }
 

@@ -8,8 +8,8 @@ use Rattle.generators.specs.Levels.{target_operator}
 use Rattle.generators.specs.declared.level.Level.{Level}
 use Rattle.generators.specs.declared.level.Level.TheVariants as level
 use Rattle.flat_records.specs.Bags.{Tables}
-use Rattle.bank_owner_bags.specs.Begins as owned
-use Rattle.bank_owner_bags.proofs.Converse.{same_owners}
+use Rattle.flat_records.specs.Begins as owned
+use Rattle.flat_records.proofs.OwnerConverse.{same_owners}
 use Rattle.bank_parts.specs.declared.parts.ZoneOwner.{ZoneOwner}
 use Rattle.bank_parts.specs.declared.parts.Parts.{Parts}
 use Rattle.bank_parts.specs.Bagged.{bags_of, IsPlainOwner}

@@ -13,7 +13,7 @@ ghost use Rattle.bank_core.specs.Faults.{IsPartsFault};
 use crate::fault::PartsFault;
 use bank_changes::List;
 use bank_parts::{Head, InfoId, OwnerHead, Owners, Parts, Sample, copy_parts};
-use bank_validity::{Totals, totals_of, valid_totals};
+use bank_validity::{Totals, totals_of, totals_with, valid_totals};
 use sf_base::{Name20, OutOfMemory};
 use std::alloc::Global;
 use std::marker::Model;
@@ -22,8 +22,9 @@ use std::marker::Model;
 /// and of the script's pool.
 pub struct Bank<'a> {
     pub(crate) parts: Parts<'a>,
-    // Kept beside the parts, so that no edit has to count the whole bank.
-    pub(crate) totals: Totals,
+    // The points of all samples, with the zero points after each, so that no edit has to count them. All other totals
+    // are lengths of lists.
+    pub(crate) points: usize,
 }
 
 // Not derived: a derived drop is expanded at each exit of every function that holds a bank; this one is a call.
@@ -31,7 +32,7 @@ impl Drop for Bank<'_> {
     fn drop(self) {
         let Bank {
             parts: _,
-            totals: _,
+            points: _,
         } = self;
     }
 }
@@ -40,7 +41,7 @@ impl<'a> Model for Bank<'a> {
     ghost use Rattle.std.specs.Prelude.{◌≡◌};
     ghost use Rattle.bank_parts.specs.declared.parts.Parts.{Parts};
     ghost use Rattle.bank_parts.specs.Sound.{IsSound};
-    ghost use Rattle.bank_validity.specs.Limits.{totals_of};
+    ghost use Rattle.bank_parts.specs.Valid.{point_total};
     ghost use Rattle.generators.specs.contracts.gen_map.GenMap as gens;
     ghost use Rattle.std.specs.Coded.{codes};
 
@@ -50,7 +51,7 @@ impl<'a> Model for Bank<'a> {
 
     ghost view = { λ bank. bank.parts };
 
-    ghost invariant = { λ bank. IsSound bank.parts × (bank.totals ≡ totals_of bank.parts) };
+    ghost invariant = { λ bank. IsSound bank.parts × (bank.points ≡ point_total bank.parts.samples) };
 }
 
 impl<'a> Bank<'a> {
@@ -64,12 +65,14 @@ impl<'a> Bank<'a> {
     }
 
     // The bank of these parts, which are sound and have these totals.
+    #[tactic(auto, unfolding(bank_validity::specs::Limits::totals_of))]
     pub(crate) fn with_totals(parts: Parts<'a>, totals: Totals) -> Bank<'a>
         requires sound { IsSound parts }
         requires totals { totals ≡ totals_of parts }
         ensures { result ≡ parts.entry }
     {
-        Bank { parts, totals }
+        let points = totals.points;
+        Bank { parts, points }
     }
 
     /// Returns the bank of these parts if they are valid. It uses the lists of the parts, so it allocates nothing and
@@ -93,7 +96,7 @@ impl<'a> Bank<'a> {
         let parts = copy_parts(alloc, &self.parts)?;
         Ok(Bank {
             parts,
-            totals: self.totals,
+            points: self.points,
         })
     }
 
@@ -158,19 +161,19 @@ impl<'a> Bank<'a> {
         }
     }
 
-    /// The lengths of the lists in a file. They are kept up to date, so this counts nothing.
+    /// The lengths of the lists in a file. It counts nothing.
     pub fn totals(&self) -> Totals
         ensures value { result ≡ totals_of self.now }
         ensures sound { IsSound self.now }
     {
-        self.totals
+        totals_with(&self.parts, self.points)
     }
 
     /// The law that the bank is sound, and so within the limits. It does nothing.
     pub fn soundness(&self)
         ensures { IsSound self.now }
     {
-        let _totals = self.totals;
+        let _points = self.points;
     }
 
     /// The head of the preset with this number; none if there is no such preset.

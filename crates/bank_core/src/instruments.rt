@@ -7,7 +7,6 @@ ghost use Rattle.bank_changes.specs.Instruments.{instrument_renamed, instrument_
 use crate::bank::Bank;
 use bank_changes::{add_instrument, move_instrument, remove_instrument, rename_instrument};
 use bank_parts::Instrument;
-use generators::Level;
 use sf_base::{Name20, OutOfMemory};
 use std::alloc::Global;
 
@@ -31,10 +30,7 @@ impl<'a> Bank<'a> {
         ensures err { OnErr result (self.new ≡ self.old) }
         ensures value_returned { IfErr result (λ back. back ≡ instrument) }
     {
-        let totals = self.totals.with_owner(Level::Inst, instrument.records());
-        add_instrument(&mut self.parts, number, instrument)?;
-        self.totals = totals;
-        Ok(())
+        add_instrument(&mut self.parts, number, instrument)
     }
 
     /// Removes an instrument and returns it; later instruments move down by one, and the targets of presets follow.
@@ -50,9 +46,7 @@ impl<'a> Bank<'a> {
         ensures change { OnOk result (self.new ≡ instrument_removed self.old number) }
         ensures err { OnErr result (self.new ≡ self.old) }
     {
-        let instrument = remove_instrument(&mut self.parts, alloc, number)?;
-        self.totals = self.totals.without_owner(Level::Inst, instrument.records());
-        Ok(instrument)
+        remove_instrument(&mut self.parts, alloc, number)
     }
 
     /// Moves instrument `from` to number `to`; the others keep their order, and the targets of presets follow.

@@ -34,7 +34,7 @@ impl<'a> Bank<'a> {
         ensures err { OnErr result (self.new ≡ self.old) }
     {
         let cut = trim_sample(&mut self.parts, alloc, number, front, back)?;
-        self.totals.points -= front as usize + back as usize;
+        self.points -= front as usize + back as usize;
         Ok(cut)
     }
 
@@ -55,7 +55,7 @@ impl<'a> Bank<'a> {
     {
         let more = front.len() + back.len();
         extend_sample(&mut self.parts, number, front, back)?;
-        self.totals.points += more;
+        self.points += more;
         Ok(())
     }
 
@@ -99,7 +99,7 @@ impl<'a> Bank<'a> {
         ensures { (number : ℕ) (front back : List ℕ) → number < length self.now.samples → more ≡ counted (length front + length back)
             → result ≡ broken_limit (sample_extended self.now number front back) }
     {
-        let room = POINTS as usize - self.totals.points;
+        let room = POINTS as usize - self.points;
         if more > room {
             return Some(Limit::Points);
         }

@@ -7,7 +7,6 @@ ghost use Rattle.bank_changes.specs.Presets.{preset_added, preset_removed, prese
 use crate::bank::Bank;
 use bank_changes::{add_preset, move_preset, remove_preset, set_head};
 use bank_parts::{Head, Preset};
-use generators::Level;
 use sf_base::{Name20, OutOfMemory};
 use std::alloc::Global;
 
@@ -21,10 +20,7 @@ impl<'a> Bank<'a> {
         ensures err { OnErr result (self.new ≡ self.old) }
         ensures value_returned { IfErr result (λ back. back ≡ preset) }
     {
-        let totals = self.totals.with_owner(Level::Preset, preset.records());
-        add_preset(&mut self.parts, number, preset)?;
-        self.totals = totals;
-        Ok(())
+        add_preset(&mut self.parts, number, preset)
     }
 
     /// Removes a preset and returns it; later presets move down by one. On `OutOfMemory` the bank is unchanged.
@@ -35,9 +31,7 @@ impl<'a> Bank<'a> {
         ensures change { OnOk result (self.new ≡ preset_removed self.old number) }
         ensures err { OnErr result (self.new ≡ self.old) }
     {
-        let preset = remove_preset(&mut self.parts, alloc, number)?;
-        self.totals = self.totals.without_owner(Level::Preset, preset.records());
-        Ok(preset)
+        remove_preset(&mut self.parts, alloc, number)
     }
 
     /// Moves preset `from` to number `to`; the others keep their order. Allocates nothing.

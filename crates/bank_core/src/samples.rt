@@ -7,6 +7,7 @@ use crate::bank::Bank;
 use bank_changes::{add_sample, move_sample, remove_sample, rename_sample};
 use bank_parts::Sample;
 use sf_base::Name20;
+use sf_base::limits::ZERO_POINTS;
 
 impl<'a> Bank<'a> {
     /// Renames a sample and returns the old name. Allocates nothing.
@@ -29,9 +30,9 @@ impl<'a> Bank<'a> {
         ensures err { OnErr result (self.new ≡ self.old) }
         ensures value_returned { IfErr result (λ back. back ≡ sample.entry) }
     {
-        let totals = self.totals.with_sample(sample.points.len());
+        let more = sample.points.len() + ZERO_POINTS;
         add_sample(&mut self.parts, number, sample)?;
-        self.totals = totals;
+        self.points += more;
         Ok(())
     }
 
@@ -44,7 +45,7 @@ impl<'a> Bank<'a> {
         ensures change { self.new ≡ sample_removed self.old number }
     {
         let sample = remove_sample(&mut self.parts, number);
-        self.totals = self.totals.without_sample(sample.points.len());
+        self.points -= sample.points.len() + ZERO_POINTS;
         sample
     }
 

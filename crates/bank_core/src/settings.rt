@@ -1,5 +1,5 @@
 //! The raw changes of the generators and modulators at a place, and the limits that they may break.
-ghost use Rattle.std.specs.Prelude.{◌≡◌, ◌<◌, ◌≤◌, Some, ℕ, length, IsSome, IsOk, IfOk, IfSome, OnOk, OnErr, unwrap_or, []};
+ghost use Rattle.std.specs.Prelude.{◌≡◌, ◌<◌, ◌≤◌, ◌-◌, Some, ℕ, length, IsSome, IsOk, IfOk, IfSome, OnOk, OnErr, unwrap_or, []};
 ghost use Rattle.std.specs.Option.{option_map};
 ghost use Rattle.std.specs.List.{list_any};
 ghost use Rattle.modulators.specs.declared.modulator.Modulator.{Modulator};
@@ -8,14 +8,14 @@ ghost use Rattle.bank_parts.specs.Owners.{mods_at};
 ghost use Rattle.bank_parts.specs.Sound.{IsSound};
 ghost use Rattle.bank_validity.specs.Limits.{broken_limit};
 ghost use Rattle.bank_changes.specs.Members.{zone_place, settings_of, mods_of, amount_of, mod_at};
-ghost use Rattle.bank_changes.specs.Settings.{gen_set, gen_cleared, mod_added, mod_removed, mod_set, zones_at};
+ghost use Rattle.bank_changes.specs.Settings.{gen_set, gen_cleared, mod_added, mod_removed, mod_set, place_records, zones_at};
 
 use crate::bank::Bank;
 use bank_changes::{
-    Owner, Place, add_mod, clear_gen, place_of, place_records, recounted, remove_mod, set_gen,
-    set_mod, with_owners,
+    Owner, Place, add_mod, clear_gen, place_of, place_records, remove_mod, set_gen, set_mod,
+    with_owners,
 };
-use bank_parts::{OwnerHead, Owners, Records};
+use bank_parts::{OwnerHead, Owners, Parts, Records};
 use bank_validity::Limit;
 use modulators::Modulator;
 use sf_base::OutOfMemory;
@@ -37,11 +37,7 @@ impl<'a> Bank<'a> {
         ensures err { OnErr result (self.new ≡ self.old) }
         ensures needs_no_memory { IsSome (amount_of self.old owner place operator) → IsOk result }
     {
-        let before = place_records(&self.parts, owner, place);
-        let was = set_gen(&mut self.parts, owner, place, operator, amount)?;
-        let after = place_records(&self.parts, owner, place);
-        self.totals = recounted(self.totals, owner.level(), before, after);
-        Ok(was)
+        set_gen(&mut self.parts, owner, place, operator, amount)
     }
 
     /// Clears an operator at a place, and returns the amount that it had. Allocates nothing.
@@ -51,11 +47,7 @@ impl<'a> Bank<'a> {
         ensures was { result ≡ amount_of self.old owner place operator }
         ensures change { self.new ≡ gen_cleared self.old owner place operator }
     {
-        let before = place_records(&self.parts, owner, place);
-        let was = clear_gen(&mut self.parts, owner, place, operator);
-        let after = place_records(&self.parts, owner, place);
-        self.totals = recounted(self.totals, owner.level(), before, after);
-        was
+        clear_gen(&mut self.parts, owner, place, operator)
     }
 
     /// Inserts a modulator as number `index` at a place; later ones move up by one. On `OutOfMemory` the bank is
@@ -73,11 +65,7 @@ impl<'a> Bank<'a> {
         ensures ok { OnOk result (self.new ≡ mod_added self.old owner place index modulator) }
         ensures err { OnErr result (self.new ≡ self.old) }
     {
-        let before = place_records(&self.parts, owner, place);
-        add_mod(&mut self.parts, owner, place, index, modulator)?;
-        let after = place_records(&self.parts, owner, place);
-        self.totals = recounted(self.totals, owner.level(), before, after);
-        Ok(())
+        add_mod(&mut self.parts, owner, place, index, modulator)
     }
 
     /// Removes a modulator at a place and returns it; later ones move down by one. Allocates nothing.
@@ -88,11 +76,7 @@ impl<'a> Bank<'a> {
         ensures value { mod_at self.old owner place index ≡ Some result }
         ensures change { self.new ≡ mod_removed self.old owner place index }
     {
-        let before = place_records(&self.parts, owner, place);
-        let modulator = remove_mod(&mut self.parts, owner, place, index);
-        let after = place_records(&self.parts, owner, place);
-        self.totals = recounted(self.totals, owner.level(), before, after);
-        modulator
+        remove_mod(&mut self.parts, owner, place, index)
     }
 
     /// Replaces a modulator at a place and returns the old one. Allocates nothing.
@@ -109,11 +93,7 @@ impl<'a> Bank<'a> {
         ensures value { mod_at self.old owner place index ≡ Some result }
         ensures change { self.new ≡ mod_set self.old owner place index modulator }
     {
-        let before = place_records(&self.parts, owner, place);
-        let replaced = set_mod(&mut self.parts, owner, place, index, modulator);
-        let after = place_records(&self.parts, owner, place);
-        self.totals = recounted(self.totals, owner.level(), before, after);
-        replaced
+        set_mod(&mut self.parts, owner, place, index, modulator)
     }
 
     /// How many modulators a place has; none if there is no such place.
@@ -139,16 +119,16 @@ impl<'a> Bank<'a> {
         requires { IsSome (settings_of self.now owner place) }
         ensures { (amount : ℕ) → result ≡ broken_limit (gen_set self.now owner place operator amount) }
     {
-        let before = place_records(&self.parts, owner, place);
+        let totals = self.totals();
         if self.gen_of(owner, place, operator).is_some() {
             return None;
         }
-        let after = Records {
-            zones: zones_at(place),
-            gens: before.gens.saturating_add(1),
-            mods: before.mods,
+        let more = Records {
+            zones: bags_more(&self.parts, owner, place),
+            gens: 1,
+            mods: 0,
         };
-        recounted(self.totals, owner.level(), before, after).broken()
+        totals.broken_with_records(owner.level(), more)
     }
 
     /// The first limit that is broken after one more modulator at a place.
@@ -156,14 +136,21 @@ impl<'a> Bank<'a> {
         requires { IsSome (settings_of self.now owner place) }
         ensures { (index : ℕ) → (modulator : Modulator) → result ≡ broken_limit (mod_added self.now owner place index modulator) }
     {
-        let before = place_records(&self.parts, owner, place);
-        let after = Records {
-            zones: zones_at(place),
-            gens: before.gens,
-            mods: before.mods.saturating_add(1),
+        let more = Records {
+            zones: bags_more(&self.parts, owner, place),
+            gens: 0,
+            mods: 1,
         };
-        recounted(self.totals, owner.level(), before, after).broken()
+        self.totals().broken_with_records(owner.level(), more)
     }
+}
+
+// How many bags the next generator or modulator of a place adds: the first of a global zone brings its bag.
+fn bags_more(parts: &Parts<'_>, owner: Owner, place: Place) -> usize
+    requires { IsSome (settings_of parts.now owner place) }
+    ensures { result ≡ zones_at place - (place_records parts.now owner place).zones }
+{
+    zones_at(place) - place_records(parts, owner, place).zones
 }
 
 // How many bags a place adds when it is not empty. The bag of a zone that is not global is always counted elsewhere.

@@ -9,8 +9,8 @@ ghost use Rattle.bank_changes.specs.Zones.{zone_added, zone_removed, zone_moved,
 
 use crate::bank::Bank;
 use bank_changes::{
-    Owner, add_zone, broken_with_records, join_records, join_zone, move_zone, remove_zone,
-    set_target, split_records, split_zone, with_owners, with_records, without_records,
+    Owner, add_zone, join_zone, move_zone, remove_zone, set_target, split_records, split_zone,
+    with_owners,
 };
 use bank_parts::Zone;
 use bank_validity::Limit;
@@ -29,10 +29,7 @@ impl<'a> Bank<'a> {
         ensures err { OnErr result (self.new ≡ self.old) }
         ensures value_returned { IfErr result (λ back. back ≡ zone) }
     {
-        let totals = with_records(self.totals, owner.level(), zone.records());
-        add_zone(&mut self.parts, owner, at, zone)?;
-        self.totals = totals;
-        Ok(())
+        add_zone(&mut self.parts, owner, at, zone)
     }
 
     /// Removes a zone of an owner and returns it; its later zones move down by one. On `OutOfMemory` the bank is
@@ -49,9 +46,7 @@ impl<'a> Bank<'a> {
         ensures change { OnOk result (self.new ≡ zone_removed self.old owner zone) }
         ensures err { OnErr result (self.new ≡ self.old) }
     {
-        let removed = remove_zone(&mut self.parts, alloc, owner, zone)?;
-        self.totals = without_records(self.totals, owner.level(), removed.records());
-        Ok(removed)
+        remove_zone(&mut self.parts, alloc, owner, zone)
     }
 
     /// Moves zone `from` of an owner to number `to`; its other zones keep their order. Allocates nothing.
@@ -78,7 +73,8 @@ impl<'a> Bank<'a> {
     pub fn broken_with_zone(&self, owner: Owner, zone: &Zone) -> Option<Limit>
         ensures { (at : ℕ) → IsSomeAnd (owner_zone_count self.now owner) (λ count. at ≤ count) → result ≡ broken_limit (zone_added self.now owner at zone.now) }
     {
-        broken_with_records(self.totals, owner.level(), zone.records())
+        self.totals()
+            .broken_with_records(owner.level(), zone.records())
     }
 
     /// The effective key or velocity range of a zone: its own, else that of its global zone, else 0 to 127.
@@ -128,11 +124,7 @@ impl<'a> Bank<'a> {
         ensures ok { OnOk result (self.new ≡ zone_split self.old owner zone axis at) }
         ensures err { OnErr result (self.new ≡ self.old) }
     {
-        let more = split_records(&self.parts, owner, zone, axis);
-        let totals = with_records(self.totals, owner.level(), more);
-        split_zone(&mut self.parts, alloc, owner, zone, axis, at)?;
-        self.totals = totals;
-        Ok(())
+        split_zone(&mut self.parts, alloc, owner, zone, axis, at)
     }
 
     /// Joins a zone and the next one. On `OutOfMemory` the bank is unchanged.
@@ -149,10 +141,7 @@ impl<'a> Bank<'a> {
         ensures ok { OnOk result (self.new ≡ zone_joined self.old owner zone axis keep) }
         ensures err { OnErr result (self.new ≡ self.old) }
     {
-        let less = join_records(&self.parts, owner, zone, keep);
-        join_zone(&mut self.parts, alloc, owner, zone, axis, keep)?;
-        self.totals = without_records(self.totals, owner.level(), less);
-        Ok(())
+        join_zone(&mut self.parts, alloc, owner, zone, axis, keep)
     }
 
     /// The first limit that is broken after a zone is split. It counts only the zone.
@@ -161,6 +150,6 @@ impl<'a> Bank<'a> {
         ensures { (at : ℕ) → can_split self.now owner zone axis at ≡ true → result ≡ broken_limit (zone_split self.now owner zone axis at) }
     {
         let more = split_records(&self.parts, owner, zone, axis);
-        broken_with_records(self.totals, owner.level(), more)
+        self.totals().broken_with_records(owner.level(), more)
     }
 }

@@ -10,7 +10,7 @@ use Rattle.modulators.specs.declared.modulator.Modulator.{Modulator}
 use Rattle.hydra_records.specs.declared.zone.Generator.{Generator}
 use Rattle.flat_records.specs.Bags.{Bag, past_bag, gens_in, mods_in}
 use Rattle.flat_records.specs.Runs as runs
-use Rattle.bank_owner_bags.specs.Owned as owned
+use Rattle.flat_records.specs.Owned as owned
 use Rattle.bank_parts.specs.declared.parts.GlobalZone.{GlobalZone}
 use Rattle.bank_parts.specs.declared.parts.Zone.{Zone}
 use Rattle.bank_parts.specs.declared.parts.ZoneOwner.{ZoneOwner}

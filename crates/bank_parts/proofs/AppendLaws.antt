@@ -12,9 +12,9 @@ use Rattle.base_numbered_lists.proofs.Lists.{slice_get-found, slice_get-changed,
 use Rattle.base_numbered_lists.proofs.Lists.{slice_set_same}
 use Rattle.flat_records.specs.Runs.{put}
 use Rattle.flat_records.specs.Bags.{Bag, gens_in, mods_in, with_gens}
-use Rattle.bank_owner_bags.specs.Owned.{all_bags, bag_at, bag_changed}
+use Rattle.flat_records.specs.Owned.{all_bags, bag_at, bag_changed}
 use Rattle.flat_records.specs.Stored.{Counts}
-use Rattle.bank_owner_bags.specs.Stored.{Stored}
+use Rattle.flat_records.specs.OwnersStored.{Stored}
 use Rattle.bank_parts.specs.declared.counting.Records.{Records}
 use Rattle.bank_parts.specs.Counts.{records_of_global, records_of_zone, records_sum}
 use Rattle.bank_parts.specs.declared.parts.GlobalZone.{GlobalZone}

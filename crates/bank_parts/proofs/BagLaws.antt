@@ -8,7 +8,7 @@ use Rattle.base_numbered_lists.specs.Moved.{changed}
 use Rattle.base_numbered_lists.proofs.Lists.{slice_get-found}
 use Rattle.modulators.specs.declared.modulator.Modulator.{Modulator}
 use Rattle.flat_records.specs.Bags.{Bag}
-use Rattle.bank_owner_bags.specs.Owned.{bag_at, bag_changed}
+use Rattle.flat_records.specs.Owned.{bag_at, bag_changed}
 use Rattle.bank_parts.specs.Changes.{bag_size, record_removed}
 
 pub some_of : {X : Type 0} (P : X → Type 0) (o : Option X) → IsSomeAnd o P → IsSome o

@@ -5,7 +5,7 @@ use Rattle.generators.specs.Levels.{target_operator}
 use Rattle.generators.specs.declared.level.Level.{Level}
 use Rattle.flat_records.specs.Bags.{Bag, past_bag, gens_in, mods_in, no_modulator}
 use Rattle.flat_records.proofs.Starts.{length-starts}
-use Rattle.bank_owner_bags.specs.Owned.{past_owner, all_bags}
+use Rattle.flat_records.specs.Owned.{past_owner, all_bags}
 use Rattle.bank_parts.specs.declared.parts.ZoneOwner.{ZoneOwner}
 use Rattle.bank_parts.specs.Valid.{owner_total, zone_count, gen_count, mod_count}
 use Rattle.bank_parts.specs.Bagged.{bags_of}

@@ -16,9 +16,9 @@ use Rattle.generators.proofs.Entries.{both_true}
 use Rattle.generators.proofs.EntryLaws.{set_is_entry}
 use Rattle.generators.proofs.Maps.{entries_rise, entries-no_gens}
 use Rattle.flat_records.specs.Bags.{Bag, Tables, gens_in}
-use Rattle.bank_owner_bags.specs.Owned.{all_bags}
-use Rattle.bank_owner_bags.specs.Begins as owned
-use Rattle.bank_owner_bags.proofs.Converse.{same_owners}
+use Rattle.flat_records.specs.Owned.{all_bags}
+use Rattle.flat_records.specs.Begins as owned
+use Rattle.flat_records.proofs.OwnerConverse.{same_owners}
 use Rattle.bank_parts.specs.declared.parts.GlobalZone.{GlobalZone}
 use Rattle.bank_parts.specs.declared.parts.Zone.{Zone}
 use Rattle.bank_parts.specs.declared.parts.ZoneOwner.{ZoneOwner}

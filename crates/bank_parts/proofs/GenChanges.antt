@@ -10,7 +10,7 @@ use Rattle.generators.specs.Indexes.{IsAt, IsInsertionIndex}
 use Rattle.modulators.specs.declared.modulator.Modulator.{Modulator}
 use Rattle.flat_records.specs.Runs.{put, cut}
 use Rattle.flat_records.specs.Bags.{Bag, with_gens, with_mods}
-use Rattle.bank_owner_bags.specs.Owned.{bag_at, bag_changed}
+use Rattle.flat_records.specs.Owned.{bag_at, bag_changed}
 use Rattle.bank_parts.specs.declared.parts.ZoneOwner.{ZoneOwner}
 use Rattle.bank_parts.specs.declared.owners.ZonePlace.{ZonePlace}
 use Rattle.bank_parts.specs.Owners.{entries_at, mods_at, amount_at}

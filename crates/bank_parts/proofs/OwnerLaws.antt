@@ -6,8 +6,8 @@ use Rattle.std.specs.List.{AllByRecursion, list_any}
 use Rattle.std.specs.FinMap.{get}
 use Rattle.base_numbered_lists.specs.Moved.{moved}
 use Rattle.flat_records.specs.Bags.{Bag, gens_in, mods_in}
-use Rattle.bank_owner_bags.specs.Owned.{all_bags}
-use Rattle.bank_owner_bags.specs.Stored.{Stored}
+use Rattle.flat_records.specs.Owned.{all_bags}
+use Rattle.flat_records.specs.OwnersStored.{Stored}
 use Rattle.bank_parts.specs.declared.counting.Records.{Records}
 use Rattle.bank_parts.specs.declared.parts.Zone.{Zone}
 use Rattle.bank_parts.specs.declared.parts.ZoneOwner.{ZoneOwner}

@@ -8,7 +8,7 @@ use Rattle.std.proofs.lemmas.List.{length-map}
 use Rattle.std.proofs.lemmas.Bool.Decides.{nat_tests}
 use Rattle.base_numbered_lists.proofs.Lists.{slice_get-found, slice_get-within}
 use Rattle.flat_records.specs.Bags.{Bag}
-use Rattle.bank_owner_bags.specs.Owned.{bag_at}
+use Rattle.flat_records.specs.Owned.{bag_at}
 use Rattle.bank_parts.specs.declared.parts.GlobalZone.{GlobalZone}
 use Rattle.bank_parts.specs.declared.parts.Zone.{Zone}
 use Rattle.bank_parts.specs.declared.parts.ZoneOwner.{ZoneOwner}

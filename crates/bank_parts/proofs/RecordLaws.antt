@@ -15,7 +15,7 @@ use Rattle.generators.specs.declared.level.Level.{Level}
 use Rattle.generators.specs.declared.level.Level.TheVariants as level
 use Rattle.generators.proofs.EntryLaws.{entries_are_set}
 use Rattle.flat_records.specs.Bags.{Bag, gens_in, mods_in}
-use Rattle.bank_owner_bags.specs.Owned.{all_bags}
+use Rattle.flat_records.specs.Owned.{all_bags}
 use Rattle.bank_parts.specs.declared.parts.GlobalZone.{GlobalZone}
 use Rattle.bank_parts.specs.declared.parts.Zone.{Zone}
 use Rattle.bank_parts.specs.declared.parts.ZoneOwner.{ZoneOwner}

@@ -10,7 +10,7 @@ use Rattle.base_numbered_lists.specs.declared.renumbering.Renumbering.{Renumberi
 use Rattle.base_numbered_lists.specs.Renumbered.{renumbered}
 use Rattle.flat_records.specs.Bags.{Bag, gens_in}
 use Rattle.flat_records.specs.Renumbered.{gen_renumbered, bag_renumbered, CanRenumber}
-use Rattle.bank_owner_bags.specs.Owned.{all_bags}
+use Rattle.flat_records.specs.Owned.{all_bags}
 use Rattle.bank_parts.specs.declared.parts.GlobalZone.{GlobalZone}
 use Rattle.bank_parts.specs.declared.parts.Zone.{Zone}
 use Rattle.bank_parts.specs.declared.parts.ZoneOwner.{ZoneOwner}

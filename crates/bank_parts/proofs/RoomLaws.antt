@@ -6,8 +6,8 @@ use Rattle.std.proofs.lemmas.List.Concat.{flat_map-append}
 use Rattle.base_numbered_lists.specs.Moved.{changed}
 use Rattle.base_numbered_lists.proofs.Lists.{slice_get-changed, changed-found}
 use Rattle.flat_records.specs.Bags.{Bag, gens_in, mods_in}
-use Rattle.bank_owner_bags.specs.Owned.{all_bags, bag_changed}
-use Rattle.bank_owner_bags.specs.Stored.{Stored}
+use Rattle.flat_records.specs.Owned.{all_bags, bag_changed}
+use Rattle.flat_records.specs.OwnersStored.{Stored}
 use Rattle.bank_parts.specs.declared.counting.Records.{Records}
 use Rattle.bank_parts.specs.Counts.{records_sum}
 use Rattle.bank_parts.specs.Room.{HasRoom}

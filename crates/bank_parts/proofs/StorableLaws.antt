@@ -2,7 +2,7 @@
 use Rattle.std.proofs.Common.{◌≡◌, ◌≢◌, ℕ, ◌≤◌, ◌<◌, ◌+◌, ◌^◌, ◌||◌, ◌∙◌, false, cond, Option, List, [], ◌∷◌, length, insert}
 use Rattle.std.proofs.Common.{slice_get, set, Some, None, suc, zero, refl, sym, subst, ap, length-append, arith}
 use Rattle.std.specs.Prelude.{is_some, sum_by}
-use Rattle.std.specs.List.{AllByRecursion, flat_map, list_any}
+use Rattle.std.specs.List.{AllByRecursion, list_any}
 use Rattle.std.specs.Option.{IfSome, option_map}
 use Rattle.std.specs.FinMap as map
 use Rattle.std.specs.FinMap.{entries, len, len-entries}
@@ -20,7 +20,7 @@ use Rattle.modulators.specs.declared.modulator.Modulator.{Modulator}
 use Rattle.flat_records.specs.Runs.{put}
 use Rattle.flat_records.specs.Bags as records
 use Rattle.flat_records.specs.Bags.{Bag, gens_in, mods_in}
-use Rattle.bank_owner_bags.specs.Owned.{all_bags, bag_changed}
+use Rattle.flat_records.specs.Owned.{all_bags, bag_changed}
 use Rattle.bank_parts.specs.declared.counting.Records.{Records}
 use Rattle.bank_parts.specs.declared.parts.Zone.{Zone}
 use Rattle.bank_parts.specs.declared.parts.ZoneOwner.{ZoneOwner}
@@ -40,7 +40,7 @@ use Rattle.bank_parts.proofs.ListLaws.{everywhere-insert, everywhere-inserted, e
 use Rattle.bank_parts.proofs.RoomLaws.{grows, sent_count, one_each}
 use Rattle.bank_parts.proofs.RecordLaws.{zones_in_all, gens_in_all, mods_in_all}
 use Rattle.bank_parts.proofs.ListLaws.{put-one, length-insert}
-use Rattle.bank_parts.proofs.PlaceLaws.{OwnerAt, of_some}
+use Rattle.bank_parts.proofs.PlaceLaws.{of_some}
 use Rattle.bank_parts.proofs.ZoneLaws.{ZonesAt, zone_put}
 use Rattle.bank_parts.proofs.BagSettings.{PlaceAt}
 use Rattle.bank_parts.proofs.PlaceChanges.{BagPlace, BarePlace, place_at, place_gap, gens_size, of_mods}

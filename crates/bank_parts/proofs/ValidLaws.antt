@@ -13,7 +13,7 @@ use Rattle.generators.specs.Levels.{is_allowed, target_operator}
 use Rattle.generators.specs.declared.level.Level.{Level}
 use Rattle.modulators.specs.Modulators.{FitsModulator}
 use Rattle.flat_records.specs.Bags.{Bag, gens_in, mods_in}
-use Rattle.bank_owner_bags.specs.Owned.{all_bags}
+use Rattle.flat_records.specs.Owned.{all_bags}
 use Rattle.bank_parts.specs.declared.parts.Zone.{Zone}
 use Rattle.bank_parts.specs.declared.parts.ZoneOwner.{ZoneOwner}
 use Rattle.bank_parts.specs.Fits.{FitsOwner, FitsZone}

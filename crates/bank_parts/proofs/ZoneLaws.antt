@@ -9,7 +9,7 @@ use Rattle.base_numbered_lists.specs.Moved.{moved, changed}
 use Rattle.base_numbered_lists.proofs.Lists.{slice_get-found, slice_get-within, changed-found, map-slice_set, map-moved}
 use Rattle.base_numbered_lists.proofs.Lists.{map-insert, map-remove}
 use Rattle.flat_records.specs.Bags.{Bag, with_gens}
-use Rattle.bank_owner_bags.specs.Owned.{bag_at, bag_changed}
+use Rattle.flat_records.specs.Owned.{bag_at, bag_changed}
 use Rattle.bank_parts.specs.declared.parts.Zone.{Zone}
 use Rattle.bank_parts.specs.declared.parts.ZoneOwner.{ZoneOwner}
 use Rattle.bank_parts.specs.declared.owners.ZonePlace.TheVariants as place

@@ -3,7 +3,7 @@ use Rattle.std.specs.Prelude.{ℕ, ◌+◌, ◌==◌, if◌then◌else◌, List,
 use Rattle.base_numbered_lists.specs.Moved.{changed}
 use Rattle.flat_records.specs.Runs.{cut}
 use Rattle.flat_records.specs.Bags.{Bag, with_gens, with_mods}
-use Rattle.bank_owner_bags.specs.Owned.{bag_changed}
+use Rattle.flat_records.specs.Owned.{bag_changed}
 
 -- how many records a bag has
 abbrev pub bag_size : Bag → ℕ

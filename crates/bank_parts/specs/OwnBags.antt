@@ -4,7 +4,7 @@ use Rattle.std.specs.List.{list_any}
 use Rattle.std.specs.FinMap.{is_sorted}
 use Rattle.generators.specs.Gens.{operator_cmp}
 use Rattle.flat_records.specs.Bags.{Bag}
-use Rattle.bank_owner_bags.specs.Owned.{bag_at}
+use Rattle.flat_records.specs.Owned.{bag_at}
 use Rattle.bank_parts.specs.Bagged.{ends_in, without_last}
 
 -- the sorted entries of a map without a target

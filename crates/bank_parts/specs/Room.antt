@@ -6,8 +6,8 @@ use Rattle.generators.specs.Levels.{target_operator}
 use Rattle.generators.specs.declared.level.Level.{Level}
 use Rattle.generators.specs.declared.level.Level.TheVariants as level
 use Rattle.flat_records.specs.Bags.{Bag, gens_in, mods_in}
-use Rattle.bank_owner_bags.specs.Owned.{all_bags}
-use Rattle.bank_owner_bags.specs.Stored.{Stored}
+use Rattle.flat_records.specs.Owned.{all_bags}
+use Rattle.flat_records.specs.OwnersStored.{Stored}
 use Rattle.bank_parts.specs.declared.counting.Records.{Records}
 use Rattle.bank_parts.specs.declared.parts.Zone.{Zone}
 use Rattle.bank_parts.specs.declared.parts.ZoneOwner.{ZoneOwner}

@@ -3,7 +3,7 @@
 ghost use Rattle.std.specs.Prelude.{◌≡◌, ◌==◌, ◌≤◌, ◌<◌, ◌++◌, ◌∷◌, [], length, insert, slice_get, map, IfSome, IsSomeAnd, OnOk, OnErr, IsSome};
 ghost use Rattle.base_numbered_lists.specs.Moved.{changed};
 ghost use Rattle.flat_records.specs.Bags.{Bag};
-ghost use Rattle.bank_owner_bags.specs.Owned.{bag_at};
+ghost use Rattle.flat_records.specs.Owned.{bag_at};
 ghost use Rattle.bank_parts.specs.declared.counting.Records.{Records};
 ghost use Rattle.bank_parts.specs.Counts.{records_of_global, records_of_zone, records_of_owner, records_sum};
 ghost use Rattle.bank_parts.specs.Bagged.{zone_bag, global_bags, bags_of};
@@ -13,7 +13,7 @@ ghost use Rattle.bank_parts.specs.Changes.{bag_size, gen_record_removed, mod_rec
 use crate::counting::Records;
 use crate::parts::{GlobalZone, Zone, ZoneOwner};
 use crate::room::make_room;
-use bank_owner_bags::OwnerBags;
+use flat_records::OwnerBags;
 use modulators::Modulator;
 use sf_base::OutOfMemory;
 

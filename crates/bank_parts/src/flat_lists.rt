@@ -11,9 +11,8 @@ use crate::level_contents::gens_fit;
 use crate::own_bags::are_all_bags;
 use crate::owners::Owners;
 use bank_linked_members::DoubleEndedList;
-use bank_owner_bags::OwnerBags;
 use base_numbered_lists::NumberedList;
-use flat_records::Recs;
+use flat_records::{OwnerBags, Recs};
 use modulators::Modulator;
 
 impl<H: OwnerHead> Owners<H> {

@@ -4,7 +4,7 @@ ghost use Rattle.std.specs.List.{list_any};
 ghost use Rattle.bank_parts.specs.OwnBags.{is_plain, is_own_bag, AreOwnBags, AreAllBags};
 
 use crate::bag_targets::{ends_in, without_last};
-use bank_owner_bags::OwnerBags;
+use flat_records::OwnerBags;
 use generators::are_in_order;
 use modulators::Modulator;
 

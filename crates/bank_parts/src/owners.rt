@@ -9,7 +9,7 @@ ghost use Rattle.bank_parts.specs.Bagged.{global_bags};
 use crate::bag_targets::ends_in;
 use crate::heads::OwnerHead;
 use bank_linked_members::DoubleEndedList;
-use bank_owner_bags::OwnerBags;
+use flat_records::OwnerBags;
 use sf_base::OutOfMemory;
 use std::alloc::Global;
 use std::marker::Model;

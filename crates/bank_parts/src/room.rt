@@ -8,7 +8,7 @@ ghost use Rattle.bank_parts.specs.Room.{CanHold, HasRoom, has_operator};
 
 use crate::counting::Records;
 use crate::parts::{Zone, ZoneOwner};
-use bank_owner_bags::OwnerBags;
+use flat_records::OwnerBags;
 use generators::GenMap;
 use sf_base::OutOfMemory;
 

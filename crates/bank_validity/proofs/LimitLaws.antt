@@ -15,7 +15,8 @@ use Rattle.bank_parts.specs.Valid.{IsWithin}
 use Rattle.bank_parts.specs.Counts.{counted, all_counted, records_sum}
 use Rattle.bank_parts.proofs.Counts.{counted_same}
 use Rattle.bank_validity.specs.Limits.{totals_of, totals_at, level_changed, level_counted, plus_owner, broken}
-use Rattle.bank_validity.specs.Limits.{broken_limit, with_sample, with_owner, with_owner_counted}
+use Rattle.bank_validity.specs.Limits.{broken_limit, with_sample, with_owner, with_owner_counted, plus_records}
+use Rattle.bank_validity.specs.Limits.{with_records, with_records_counted}
 
 -- ---- no limit is broken
 
@@ -284,3 +285,11 @@ owner_broken at t more r e m =
 pub owner_within : (at : Level) (t : Totals) (r : Records) → broken (with_owner at t r) ≡ None
     → with_owner_counted at t r ≡ with_owner at t r
 owner_within at t r e = changed_same at (plus_owner r) t e
+
+pub records_broken : (at : Level) (t : Totals) (more r : Records) → broken t ≡ None → more ≡ all_counted r
+    → broken (with_records_counted at t more) ≡ broken (with_records at t r)
+records_broken at t more r e m =
+    let l = totals_at at t in
+    let count = count_few at t (within_totals t e) in
+    changed_broken at (λ (l : LevelTotals). record l { records = all_counted (records_sum l.records more) })
+    (plus_records r) t e (λ i. record { count = sym count i; records = records_plus l.records more r m i })

@@ -1,5 +1,5 @@
 -- How long the lists of a bank are in a file, and the first limit that it breaks.
-use Rattle.std.specs.Prelude.{ℕ, ◌+◌, ◌<◌, ◌≤◌, ◌||◌, nat_lt, if◌then◌else◌, Option, Some, None, List, length, codes}
+use Rattle.std.specs.Prelude.{ℕ, ◌+◌, ◌||◌, nat_lt, if◌then◌else◌, Option, Some, None, List, length, codes}
 use Rattle.sf_base.specs.declared.limits.TheConstants.{PRESETS, INSTRUMENTS, SAMPLES, ZONES, GENERATORS, MODULATORS}
 use Rattle.sf_base.specs.declared.limits.TheConstants.{POINTS, ZERO_POINTS}
 use Rattle.generators.specs.declared.level.Level.{Level}
@@ -91,15 +91,14 @@ with_owner at t r = level_changed at (plus_owner r) t
 abbrev pub with_owner_counted : Level → Totals → Records → Totals
 with_owner_counted at t r = level_changed at (λ l. level_counted (plus_owner r l)) t
 
--- the level counts at least the records r
-pub record AreCounted (r : Records) (l : LevelTotals) : Type 0 where
-  pub zones : r.zones ≤ l.records.zones
-  pub gens : r.gens ≤ l.records.gens
-  pub mods : r.mods ≤ l.records.mods
+-- the totals after the records r are added to a preset or an instrument
+abbrev pub with_records : Level → Totals → Records → Totals
+with_records at t r = level_changed at (plus_records r) t
 
--- the totals count at least one preset or instrument, and the records r
-abbrev pub HasOwner : Level → Totals → Records → Type 0
-HasOwner at t r = (0 < (totals_at at t).count) × AreCounted r (totals_at at t)
+-- the same, each number of records saturated at 2 ^ 64 - 1
+abbrev pub with_records_counted : Level → Totals → Records → Totals
+with_records_counted at t r =
+    level_changed at (λ (l : LevelTotals). record l { records = all_counted (records_sum l.records r) }) t
 
 -- the name of the limit in a fault line
 abbrev pub word_of : Limit → List ℕ

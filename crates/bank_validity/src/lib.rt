@@ -8,5 +8,5 @@ mod validity;
 
 pub use laws::limits_agree;
 pub use limits::Limit;
-pub use totals::{LevelTotals, Totals, totals_of};
+pub use totals::{LevelTotals, Totals, totals_of, totals_with};
 pub use validity::{is_valid, valid_totals};

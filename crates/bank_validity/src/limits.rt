@@ -1,7 +1,6 @@
 //! The limits of a bank, and the first one that it breaks.
 ghost use Rattle.std.specs.Prelude.{◌≡◌, ◌<◌, ◌+◌, ◌≤◌, None};
-ghost use Rattle.sf_base.specs.declared.limits.TheConstants.{ZERO_POINTS};
-ghost use Rattle.bank_validity.specs.Limits.{broken, with_sample, with_owner, with_owner_counted, plus_records, AreCounted, HasOwner, word_of};
+ghost use Rattle.bank_validity.specs.Limits.{broken, with_sample, with_owner, with_owner_counted, with_records, with_records_counted, word_of};
 ghost use Rattle.bank_parts.specs.Counts.{all_counted, records_sum};
 ghost use Rattle.bank_parts.specs.declared.counting.Records.{Records};
 
@@ -86,31 +85,6 @@ impl Totals {
         None
     }
 
-    /// The totals after a sample with `points` points is added.
-    pub fn with_sample(self, points: usize) -> Totals
-        requires { broken (with_sample self points) ≡ None }
-        ensures { result ≡ with_sample self points }
-    {
-        Totals {
-            samples: self.samples + 1,
-            points: self.points + (points + ZERO_POINTS),
-            ..self
-        }
-    }
-
-    /// The totals after a sample with `points` points is removed.
-    pub fn without_sample(self, points: usize) -> Totals
-        requires samples { 0 < self.samples }
-        requires points { points + ZERO_POINTS ≤ self.points }
-        ensures { with_sample result points ≡ self }
-    {
-        Totals {
-            samples: self.samples - 1,
-            points: self.points - (points + ZERO_POINTS),
-            ..self
-        }
-    }
-
     /// The first limit that is broken after a preset or an instrument with `more` records is added. Their numbers
     /// may be saturated, as those of `ZoneOwner::records` are.
     pub fn broken_with_owner(self, at: Level, more: Records) -> Option<Limit>
@@ -120,25 +94,20 @@ impl Totals {
         self.plus_owner(at, more).broken()
     }
 
-    /// The totals after a preset or an instrument with `more` records is added.
-    pub fn with_owner(self, at: Level, more: Records) -> Totals
-        requires { broken (with_owner at self more) ≡ None }
-        ensures { result ≡ with_owner at self more }
+    /// The first limit that is broken after `more` records are added to a preset or an instrument. Their numbers may be
+    /// saturated, as those of `Zone::records` are.
+    pub fn broken_with_records(self, at: Level, more: Records) -> Option<Limit>
+        requires { broken self ≡ None }
+        ensures { (r : Records) → more ≡ all_counted r → result ≡ broken (with_records at self r) }
     {
-        self.plus_owner(at, more)
+        self.plus_records(at, more).broken()
     }
 
-    /// The totals after a preset or an instrument with `less` records is removed.
-    pub fn without_owner(self, at: Level, less: Records) -> Totals
-        requires { HasOwner at self less }
-        ensures { with_owner at result less ≡ self }
+    // Each number saturates at 2^64 - 1.
+    fn plus_records(self, at: Level, more: Records) -> Totals
+        ensures { result ≡ with_records_counted at self more }
     {
-        let level = self.at(at);
-        let level = LevelTotals {
-            count: level.count - 1,
-            records: level.without(less).records,
-        };
-        self.with_level(at, level)
+        self.with_level(at, self.at(at).plus(more))
     }
 
     // Each number saturates at 2^64 - 1.
@@ -164,21 +133,6 @@ impl LevelTotals {
                 zones: self.records.zones.saturating_add(more.zones),
                 gens: self.records.gens.saturating_add(more.gens),
                 mods: self.records.mods.saturating_add(more.mods),
-            },
-            ..self
-        }
-    }
-
-    /// The totals of a level after `less` of the records are removed.
-    pub fn without(self, less: Records) -> LevelTotals
-        requires { AreCounted less self }
-        ensures { plus_records less result ≡ self }
-    {
-        LevelTotals {
-            records: Records {
-                zones: self.records.zones - less.zones,
-                gens: self.records.gens - less.gens,
-                mods: self.records.mods - less.mods,
             },
             ..self
         }

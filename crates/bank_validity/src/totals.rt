@@ -53,8 +53,19 @@ impl Totals {
     }
 }
 
-/// Counts all lists in one pass. Each number saturates at 2^64 - 1, far above each limit. Allocates nothing.
+/// Counts the points of all samples, and reads the lengths of the other lists. Each number saturates at 2^64 - 1, far
+/// above each limit. Allocates nothing.
 pub fn totals_of(parts: &Parts<'_>) -> Totals
+    ensures value { IsWithin parts.now → result ≡ totals_of parts.now }
+    ensures limits { broken result ≡ broken_limit parts.now }
+{
+    totals_with(parts, points_in(parts.samples.as_slice()))
+}
+
+/// The totals of parts whose samples have so many points, with the zero points after each. It reads the lengths of
+/// lists and counts nothing. Each number saturates at 2^64 - 1.
+pub fn totals_with(parts: &Parts<'_>, points: usize) -> Totals
+    requires { points ≡ counted (point_total parts.now.samples) }
     ensures value { IsWithin parts.now → result ≡ totals_of parts.now }
     ensures limits { broken result ≡ broken_limit parts.now }
 {
@@ -62,7 +73,7 @@ pub fn totals_of(parts: &Parts<'_>) -> Totals
         presets: level_totals(&parts.presets),
         instruments: level_totals(&parts.instruments),
         samples: parts.samples.len(),
-        points: points_in(parts.samples.as_slice()),
+        points,
     }
 }
 

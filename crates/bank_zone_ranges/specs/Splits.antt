@@ -149,8 +149,3 @@ records_with more z = record { zones = 1; gens = len z.gens + more; mods = lengt
 -- the records that a split of the zone adds: its own again, and two ranges if it had none
 abbrev pub split_records : Axis → Zone → Records
 split_records axis z = records_with (option_map_or (λ _. 1) (own_range axis z) 3) z
-
--- the records that a join removes: those of the second zone, and the range of the first if none is kept
-abbrev pub join_records : Keep → Zone → Records
-join_records keep.Keep z = records_with 1 z
-join_records keep.Bare z = records_with 2 z

@@ -12,5 +12,5 @@ mod splitting;
 pub use axes::{Axis, Keep};
 pub use laws::splits_and_joins_undone;
 pub use ranges::{range_operator, zone_range};
-pub use records::{join_records, split_records};
+pub use records::split_records;
 pub use splitting::{is_joinable, is_splittable, join_zones, split_zone};

@@ -1,11 +1,11 @@
-//! How many records a split of a zone adds, and how many a join removes.
-ghost use Rattle.std.specs.Prelude.{◌≡◌, ◌+◌, IfSome};
+//! How many records a split of a zone adds.
+ghost use Rattle.std.specs.Prelude.{◌≡◌, IfSome};
 ghost use Rattle.bank_parts.specs.declared.owners.ZonePlace.TheVariants as place;
 ghost use Rattle.bank_parts.specs.Counts.{all_counted};
 ghost use Rattle.bank_parts.specs.Owners.{HasPlace, zone_at};
-ghost use Rattle.bank_zone_ranges.specs.Splits.{records_with, split_records, join_records};
+ghost use Rattle.bank_zone_ranges.specs.Splits.{records_with, split_records};
 
-use crate::axes::{Axis, Keep};
+use crate::axes::Axis;
 use crate::ranges::own_range;
 use bank_parts::{OwnerHead, Owners, Records, ZonePlace};
 
@@ -20,19 +20,6 @@ pub fn split_records<H: OwnerHead>(owners: &Owners<H>, i: u32, k: u32, axis: Axi
         None => 3,
     };
     records_with(owners, i as usize, k as usize, more)
-}
-
-/// The records that a join of zones `k` and `k + 1` of owner `i` removes: those of the second zone, and the range of
-/// the first if the joined zone is to have none. Each number saturates at 2^64 - 1.
-pub fn join_records<H: OwnerHead>(owners: &Owners<H>, i: u32, k: u32, keep: Keep) -> Records
-    requires { HasPlace owners.now i (place.Zone (k + 1)) }
-    ensures { IfSome (zone_at owners.now i (k + 1)) (λ z. result ≡ all_counted (join_records keep z)) }
-{
-    let more = match keep {
-        Keep::Keep => 1,
-        Keep::Bare => 2,
-    };
-    records_with(owners, i as usize, k as usize + 1, more)
 }
 
 // The records of a zone with `more` generators in addition.

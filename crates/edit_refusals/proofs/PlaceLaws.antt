@@ -11,7 +11,7 @@ use Rattle.bank_parts.specs.declared.parts.ZoneOwner.{ZoneOwner}
 use Rattle.bank_parts.specs.declared.parts.Parts.{Parts}
 use Rattle.bank_parts.specs.Owners.{zone_count_at}
 use Rattle.bank_parts.specs.Settings.{Settings, settings_of_zone, zone_with_settings, settings_changed, place_changed}
-use Rattle.bank_parts.proofs.SettingLaws.{changed_unseen, mods_of_settings}
+use Rattle.bank_parts.proofs.SettingLaws.{changed_unseen, mods_of_settings, place_read}
 use Rattle.bank_parts.proofs.UndoneLaws.{settings_there}
 use Rattle.bank_changes.specs.declared.members.Owner.{Owner}
 use Rattle.bank_changes.specs.declared.members.Owner.TheVariants.{Preset, Inst}
@@ -19,7 +19,6 @@ use Rattle.bank_changes.specs.declared.members.Place.{Place}
 use Rattle.bank_changes.specs.declared.members.Place.TheVariants as place
 use Rattle.bank_changes.specs.Members.{zone_place, settings_of, mods_of}
 use Rattle.bank_changes.specs.Settings.{owner_place_changed}
-use Rattle.bank_changes.proofs.PlaceLaws.{settings_read}
 use Rattle.edit_forms.specs.Causes.{no_such_owner, no_such_zone_at, zone_total, mods_there}
 use Rattle.edit_refusals.proofs.Accepted.{below}
 
@@ -99,6 +98,11 @@ place_stays_there b o place.Global f h = refl
 place_stays_there b o (place.Zone k) f h = ap (λ n. nat_le n k) (zone_total_stays b o (place.Zone k) f) ∙ h
 
 -- what the place has after the change
+settings_read : (b : Parts) (o : Owner) (at : Place) (f : Settings → Settings)
+    → settings_of (owner_place_changed b o at f) o at ≡ option_map f (settings_of b o at)
+settings_read b (Preset p) at f = place_read b.presets p (zone_place at) f
+settings_read b (Inst i) at f = place_read b.instruments i (zone_place at) f
+
 pub settings_after : (b : Parts) (o : Owner) (at : Place) (f : Settings → Settings) (s : Settings)
     → settings_of b o at ≡ Some s → settings_of (owner_place_changed b o at f) o at ≡ Some (f s)
 settings_after b o at f s e = settings_read b o at f ∙ ap (option_map f) e

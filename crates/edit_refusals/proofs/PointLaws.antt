@@ -34,7 +34,7 @@ pub within_change : (b : Parts) (i : ℕ) (f : Sample → Sample) → IsSound b 
     → ((s : Sample) → length (f s).points ≡ length s.points)
     → broken_limit (sample_changed b i f) ≡ None
 within_change b i f sound lt same =
-    ap broken (sym (totals_stay b i f lt same (totals_of b) refl)) ∙ no_limit_of b sound.valid.limits
+    ap broken (sym (totals_stay b i f lt same)) ∙ no_limit_of b sound.valid.limits
 
 -- ---- trim
 

@@ -8,3 +8,9 @@ pub mod BagRotations
 pub mod Ends
 pub mod Converse
 pub mod RenumberLaws
+pub mod Owners
+pub mod OwnerPlaces
+pub mod OwnerRotations
+pub mod OwnerInsertions
+pub mod OwnerConverse
+pub mod Following

@@ -4,3 +4,6 @@ pub mod Tables
 pub mod Raised
 pub mod Stored
 pub mod Renumbered
+pub mod Owned
+pub mod Begins
+pub mod OwnersStored

@@ -7,7 +7,8 @@ ghost use Rattle.flat_records.specs.Bags.{Bag, no_bag, gens_in, mods_in, with_ge
 ghost use Rattle.flat_records.specs.Stored.{Uses, Frees, counts_of, no_records};
 
 use crate::bags::Bags;
-use crate::index_shift::{exchange_indexes, index, lower_from, raise_from};
+use crate::index_pairs::index;
+use crate::index_shift::{exchange_indexes, lower_from, raise_from};
 use crate::pieces::{cut_within, exchange_within, put_within};
 use modulators::Modulator;
 
@@ -32,7 +33,8 @@ impl Bags {
         let at = self.bags[k];
         put_within(&mut self.gens, at.0 as usize + j, gens);
         put_within(&mut self.mods, at.1 as usize + i, mods);
-        raise_from(&mut self.bags, k + 1, (gens.len(), mods.len()));
+        let by = (gens.len() as u16, mods.len() as u16);
+        raise_from(&mut self.bags, k + 1, by);
     }
 
     // Removes n generators and m modulators of bag k, from an index each.
@@ -41,10 +43,11 @@ impl Bags {
         ensures bags { self.new.bags ≡ changed self.old.bags k (λ (b : Bag). record { gens = cut b.gens j n; mods = cut b.mods i m }) }
         ensures spare { Frees self.old.spare self.new.spare (record { bags = 0; gens = n; mods = m }) }
     {
+        Bags::records_fit(self);
         let at = self.bags[k];
         cut_within(&mut self.gens, at.0 as usize + j, n);
         cut_within(&mut self.mods, at.1 as usize + i, m);
-        lower_from(&mut self.bags, k + 1, (n, m));
+        lower_from(&mut self.bags, k + 1, (n as u16, m as u16));
     }
 
     // Inserts an empty bag as number k.
@@ -199,6 +202,8 @@ impl Bags {
         let stop = index(&self.bags, c);
         exchange_within(&mut self.gens, start.0, middle.0, stop.0);
         exchange_within(&mut self.mods, start.1, middle.1, stop.1);
-        exchange_indexes(&mut self.bags, a, b, c, start, middle, stop);
+        let down = ((middle.0 - start.0) as u16, (middle.1 - start.1) as u16);
+        let up = ((stop.0 - middle.0) as u16, (stop.1 - middle.1) as u16);
+        exchange_indexes(&mut self.bags, a, b, c, down, up);
     }
 }

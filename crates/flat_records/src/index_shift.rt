@@ -1,145 +1,100 @@
-//! Shifts of the indexes of later bags.
-ghost use Rattle.std.specs.Prelude.{◌≡◌, ◌≤◌, ◌<◌, ◌^◌, slice_index_or, length, map, All, take, drop, ◌-◌, vec_len, vec_capacity};
-ghost use Rattle.flat_records.specs.Raised.{raised, lowered, CanRaise, CanLower};
+//! Shifts of the indexes of later bags or owners.
+ghost use Rattle.std.specs.Prelude.{◌≡◌, ◌≤◌, length, map, All, take, drop, vec_len, vec_capacity};
 ghost use Rattle.base_numbered_lists.specs.Moved.{changed_within};
 ghost use Rattle.flat_records.specs.Runs.{changed_from, changed_exchanged, AreAdjacentRanges};
 
+use crate::indexes::Index;
 use crate::pieces::exchange;
 
-// Adds to both indexes.
-fn raise_one(bag: &mut (u16, u16), by: (usize, usize))
-    requires { CanRaise by bag.old }
-    ensures { bag.new ≡ raised by bag.old }
+// One statement without a branch in the loop, so that the compiler vectorizes it.
+fn raise_all<I: Index>(list: &mut [I], by: I)
+    requires { All (I.CanRaise by) list.old }
+    ensures { list.new ≡ map (I.raised by) list.old }
 {
-    bag.0 = (bag.0 as usize + by.0) as u16;
-    bag.1 = (bag.1 as usize + by.1) as u16;
-}
-
-// Subtracts from both indexes.
-fn lower_one(bag: &mut (u16, u16), by: (usize, usize))
-    requires { CanLower by bag.old }
-    ensures { bag.new ≡ lowered by bag.old }
-{
-    bag.0 = (bag.0 as usize - by.0) as u16;
-    bag.1 = (bag.1 as usize - by.1) as u16;
-}
-
-/// Adds to the indexes of all these bags.
-pub(crate) fn raise_all(bags: &mut [(u16, u16)], by: (usize, usize))
-    requires { All (CanRaise by) bags.old }
-    ensures { bags.new ≡ map (raised by) bags.old }
-{
-    if by.0 > 0 || by.1 > 0 {
-        for bag in bags.iter_mut() {
-            raise_one(bag, by);
+    if !by.is_origin() {
+        for at in list.iter_mut() {
+            at.raise(by);
         }
     }
 }
 
-/// Subtracts from the indexes of all these bags.
-pub(crate) fn lower_all(bags: &mut [(u16, u16)], by: (usize, usize))
-    requires { All (CanLower by) bags.old }
-    ensures { bags.new ≡ map (lowered by) bags.old }
+fn lower_all<I: Index>(list: &mut [I], by: I)
+    requires { All (I.CanLower by) list.old }
+    ensures { list.new ≡ map (I.lowered by) list.old }
 {
-    if by.0 > 0 || by.1 > 0 {
-        for bag in bags.iter_mut() {
-            lower_one(bag, by);
+    if !by.is_origin() {
+        for at in list.iter_mut() {
+            at.lower(by);
         }
     }
 }
 
-/// Adds to the indexes of bag `k` and of all later ones.
-pub(crate) fn raise_from(bags: &mut Vec<(u16, u16)>, k: usize, by: (usize, usize))
-    requires place { k ≤ length bags.old.items }
-    requires fits { All (CanRaise by) (drop k bags.old.items) }
-    ensures list { bags.new.items ≡ changed_from k (raised by) bags.old.items }
-    ensures len { vec_len bags.new ≡ vec_len bags.old }
-    ensures capacity { vec_capacity bags.new ≡ vec_capacity bags.old }
+/// Adds to index `k` and to all later ones.
+pub(crate) fn raise_from<I: Index>(list: &mut Vec<I>, k: usize, by: I)
+    requires place { k ≤ length list.old.items }
+    requires fits { All (I.CanRaise by) (drop k list.old.items) }
+    ensures list { list.new.items ≡ changed_from k (I.raised by) list.old.items }
+    ensures len { vec_len list.new ≡ vec_len list.old }
+    ensures capacity { vec_capacity list.new ≡ vec_capacity list.old }
 {
-    raise_all(&mut bags[k..], by);
+    raise_all(&mut list[k..], by);
 }
 
-/// Subtracts from the indexes of bag `k` and of all later ones.
-pub(crate) fn lower_from(bags: &mut Vec<(u16, u16)>, k: usize, by: (usize, usize))
-    requires place { k ≤ length bags.old.items }
-    requires fits { All (CanLower by) (drop k bags.old.items) }
-    ensures list { bags.new.items ≡ changed_from k (lowered by) bags.old.items }
-    ensures len { vec_len bags.new ≡ vec_len bags.old }
-    ensures capacity { vec_capacity bags.new ≡ vec_capacity bags.old }
+/// Subtracts from index `k` and from all later ones.
+pub(crate) fn lower_from<I: Index>(list: &mut Vec<I>, k: usize, by: I)
+    requires place { k ≤ length list.old.items }
+    requires fits { All (I.CanLower by) (drop k list.old.items) }
+    ensures list { list.new.items ≡ changed_from k (I.lowered by) list.old.items }
+    ensures len { vec_len list.new ≡ vec_len list.old }
+    ensures capacity { vec_capacity list.new ≡ vec_capacity list.old }
 {
-    lower_all(&mut bags[k..], by);
+    lower_all(&mut list[k..], by);
 }
 
-// Adds to the indexes of the bags `a..b`.
-fn raise_within(bags: &mut [(u16, u16)], a: usize, b: usize, by: (usize, usize))
+fn raise_within<I: Index>(list: &mut [I], a: usize, b: usize, by: I)
     requires first { a ≤ b }
-    requires last { b ≤ length bags.old }
-    requires fits { All (CanRaise by) (drop a (take b bags.old)) }
-    ensures { bags.new ≡ changed_within a b (raised by) bags.old }
+    requires last { b ≤ length list.old }
+    requires fits { All (I.CanRaise by) (drop a (take b list.old)) }
+    ensures { list.new ≡ changed_within a b (I.raised by) list.old }
 {
-    raise_all(&mut bags[a..b], by);
+    raise_all(&mut list[a..b], by);
 }
 
-// Subtracts from the indexes of the bags `a..b`.
-fn lower_within(bags: &mut [(u16, u16)], a: usize, b: usize, by: (usize, usize))
+fn lower_within<I: Index>(list: &mut [I], a: usize, b: usize, by: I)
     requires first { a ≤ b }
-    requires last { b ≤ length bags.old }
-    requires fits { All (CanLower by) (drop a (take b bags.old)) }
-    ensures { bags.new ≡ changed_within a b (lowered by) bags.old }
+    requires last { b ≤ length list.old }
+    requires fits { All (I.CanLower by) (drop a (take b list.old)) }
+    ensures { list.new ≡ changed_within a b (I.lowered by) list.old }
 {
-    lower_all(&mut bags[a..b], by);
+    lower_all(&mut list[a..b], by);
 }
 
-// Exchanges the indexes `a..b`, which are raised, with the indexes `b..c`, which are lowered.
-fn exchange_slices(
-    bags: &mut [(u16, u16)],
+fn exchange_slices<I: Index>(list: &mut [I], a: usize, b: usize, c: usize, down: I, up: I)
+    requires places { AreAdjacentRanges a b c (length list.old) }
+    requires lower { All (I.CanLower down) (drop b (take c list.old)) }
+    requires raise { All (I.CanRaise up) (drop a (take b list.old)) }
+    ensures { list.new ≡ changed_exchanged a b c (I.lowered down) (I.raised up) list.old }
+{
+    raise_within(list, a, b, up);
+    lower_within(list, b, c, down);
+    exchange(list, a, b, c);
+}
+
+/// Exchanges the indexes `a..b`, which are raised, with the indexes `b..c`, which are lowered.
+pub(crate) fn exchange_indexes<I: Index>(
+    list: &mut Vec<I>,
     a: usize,
     b: usize,
     c: usize,
-    down: (usize, usize),
-    up: (usize, usize),
+    down: I,
+    up: I,
 )
-    requires places { AreAdjacentRanges a b c (length bags.old) }
-    requires lower { All (CanLower down) (drop b (take c bags.old)) }
-    requires raise { All (CanRaise up) (drop a (take b bags.old)) }
-    ensures { bags.new ≡ changed_exchanged a b c (lowered down) (raised up) bags.old }
+    requires places { AreAdjacentRanges a b c (length list.old.items) }
+    requires lower { All (I.CanLower down) (drop b (take c list.old.items)) }
+    requires raise { All (I.CanRaise up) (drop a (take b list.old.items)) }
+    ensures list { list.new.items ≡ changed_exchanged a b c (I.lowered down) (I.raised up) list.old.items }
+    ensures len { vec_len list.new ≡ vec_len list.old }
+    ensures capacity { vec_capacity list.new ≡ vec_capacity list.old }
 {
-    raise_within(bags, a, b, up);
-    lower_within(bags, b, c, down);
-    exchange(bags, a, b, c);
-}
-
-/// Exchanges the bags `a..b`, whose records are `start..middle`, with the bags `b..c`, whose records are
-/// `middle..stop`.
-pub(crate) fn exchange_indexes(
-    bags: &mut Vec<(u16, u16)>,
-    a: usize,
-    b: usize,
-    c: usize,
-    start: (usize, usize),
-    middle: (usize, usize),
-    stop: (usize, usize),
-)
-    requires places { AreAdjacentRanges a b c (length bags.old.items) }
-    requires gens { (start.0 ≤ middle.0) × (middle.0 ≤ stop.0) }
-    requires mods { (start.1 ≤ middle.1) × (middle.1 ≤ stop.1) }
-    requires lower { All (CanLower (middle.0 - start.0, middle.1 - start.1)) (drop b (take c bags.old.items)) }
-    requires raise { All (CanRaise (stop.0 - middle.0, stop.1 - middle.1)) (drop a (take b bags.old.items)) }
-    ensures list { bags.new.items ≡ changed_exchanged a b c (lowered (middle.0 - start.0, middle.1 - start.1)) (raised (stop.0 - middle.0, stop.1 - middle.1)) bags.old.items }
-    ensures len { vec_len bags.new ≡ vec_len bags.old }
-    ensures capacity { vec_capacity bags.new ≡ vec_capacity bags.old }
-{
-    let down = (middle.0 - start.0, middle.1 - start.1);
-    let up = (stop.0 - middle.0, stop.1 - middle.1);
-    exchange_slices(bags.as_mut_slice(), a, b, c, down, up);
-}
-
-/// The indexes of bag `k`.
-pub(crate) fn index(bags: &[(u16, u16)], k: usize) -> (usize, usize)
-    requires { k < length bags.now }
-    ensures index { result ≡ slice_index_or bags.now k result }
-    ensures fits { (result.0 < 2 ^ 16) × (result.1 < 2 ^ 16) }
-{
-    let (gens, mods) = bags[k];
-    (gens as usize, mods as usize)
+    exchange_slices(list.as_mut_slice(), a, b, c, down, up);
 }

@@ -2,8 +2,9 @@
 ghost use Rattle.std.specs.Prelude.{◌≡◌, ◌+◌, ◌-◌, ◌≤◌, ◌<◌, length, insert, remove, take, drop, vec_len, vec_capacity};
 ghost use Rattle.flat_records.specs.Runs.{put, cut, exchanged, AreAdjacentRanges};
 
+/// Inserts a member at index `i` of a `Vec` with spare capacity.
 // A single insertion is a plain shift of the later members, which is faster than a rotation.
-fn put_one_within<T>(list: &mut Vec<T>, i: usize, item: T)
+pub(crate) fn put_one_within<T>(list: &mut Vec<T>, i: usize, item: T)
     requires place { i ≤ length list.old.items }
     requires room { vec_len list.old < vec_capacity list.old }
     ensures list { list.new.items ≡ insert list.old.items i item }

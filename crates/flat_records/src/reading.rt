@@ -1,9 +1,10 @@
 //! Which records are those of a list of bags.
-ghost use Rattle.std.specs.Prelude.{◌≡◌, ◌↔◌, ◌+◌, ◌<◌, ◌-◌, ℕ, List, length, IsTrue, MatchOption};
+ghost use Rattle.std.specs.Prelude.{◌≡◌, ◌↔◌, ◌-◌, List, IsTrue, MatchOption};
 ghost use Rattle.flat_records.specs.Bags.{Bag, no_modulator, tables_of};
-ghost use Rattle.flat_records.specs.Tables.{Rises, EndsIn, AreTables};
+ghost use Rattle.flat_records.specs.Tables.{EndsIn, AreTables};
 
 use crate::bags::{Bags, Recs};
+use crate::indexes::are_rising;
 use modulators::Modulator;
 
 impl Bags {
@@ -60,16 +61,4 @@ fn end_in_counts(bags: &[(u16, u16)], gens: usize, mods: usize) -> bool
         }
         None => false,
     }
-}
-
-fn are_rising(bags: &[(u16, u16)]) -> bool
-    ensures { IsTrue result ↔ ((k : ℕ) → k + 1 < length bags.now → Rises bags.now k) }
-{
-    for k in 1..bags.len() {
-        let (before, here) = (bags[k - 1], bags[k]);
-        if here.0 < before.0 || here.1 < before.1 {
-            return false;
-        }
-    }
-    true
 }

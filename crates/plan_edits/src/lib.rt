@@ -1,5 +1,5 @@
-//! Plans: what finds edits for a bank, and what it promises of them. One tidies a bank, others keep some presets or what
-//! some notes play.
+//! Plans: what finds edits for a bank, and what it promises of them. One tidies a bank, others keep some presets or
+//! what some notes play.
 #![tactic(auto)]
 
 mod distinct_notes;
@@ -26,4 +26,4 @@ pub use keep_played::KeepPlayed;
 pub use plan::Plan;
 pub use plan_presets::PresetNumbers;
 pub use presets::check_presets;
-pub use tidy::Tidy;
+pub use tidy::{Tidy, tidy_draft};

@@ -1,6 +1,8 @@
 //! The plan that tidies a bank.
-ghost use Rattle.std.specs.Prelude.{IfOk};
+ghost use Rattle.std.specs.Prelude.{IfOk, OnOk};
+ghost use Rattle.plan_edits.specs.NeutralRuns.{AddsNeutralEdits};
 ghost use Rattle.plan_edits.specs.Tidying.{IsTidying};
+ghost use Rattle.plan_edits.specs.Uses.{HasNoUnused};
 
 use crate::fault::PlanFault;
 use crate::joins::join_zones;
@@ -32,11 +34,20 @@ fn tidy_edits<'a>(alloc: Global, bank: &Bank<'a>) -> Result<Vec<Edit<'a>>, PlanF
     ensures { IfOk result (λ edits. IsTidying bank.now edits.items) }
 {
     let mut draft = Draft::new(alloc, bank)?;
-    remove_unused(alloc, &mut draft)?;
-    repair_links(alloc, &mut draft)?;
-    join_zones(alloc, &mut draft)?;
+    tidy_draft(alloc, &mut draft)?;
+    Ok(draft.into_edits())
+}
+
+/// Tidies the bank of a draft, as `Tidy` does.
+pub fn tidy_draft(alloc: Global, draft: &mut Draft<'_, '_>) -> Result<(), PlanFault>
+    ensures adds { OnOk result (AddsNeutralEdits draft.old draft.new) }
+    ensures used { OnOk result (HasNoUnused draft.new.bank) }
+{
+    remove_unused(alloc, draft)?;
+    repair_links(alloc, draft)?;
+    join_zones(alloc, draft)?;
     if !has_no_unused(alloc, draft.bank())? {
         return Err(PlanFault::Defect);
     }
-    Ok(draft.into_edits())
+    Ok(())
 }

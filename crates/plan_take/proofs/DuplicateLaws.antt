@@ -1,6 +1,6 @@
--- A bank whose presets are the same, with renumbered instruments and samples, has the same voices; and a tidied bank
--- with the same voices has no duplicates left in use.
-use Rattle.std.proofs.Common.{◌≡◌, ℕ, zero, suc, ◌<◌, Bool, true, false, cond, Option, Some, None, List, [], ◌∷◌, ◌++◌}
+-- A bank whose presets are the same, with renumbered instruments and samples, has the same voices; and edits to a bank
+-- with the same voices and no unused members.
+use Rattle.std.proofs.Common.{◌≡◌, ℕ, zero, suc, ◌<◌, Bool, true, false, cond, Option, Some, None, List, [], ◌∷◌}
 use Rattle.std.proofs.Common.{length, slice_get, refl, sym, ap, subst, ◌∙◌, arith, ◌==◌, ◌&&◌}
 use Rattle.std.specs.List.{find}
 use Rattle.std.specs.Option.{option_map}
@@ -10,14 +10,12 @@ use Rattle.bank_parts.specs.declared.parts.ZoneOwner.{ZoneOwner}
 use Rattle.bank_parts.specs.declared.parts.Parts.{Parts}
 use Rattle.script_notes.specs.Notes.{Numbers}
 use Rattle.zone_select.specs.Select.{selected}
+use Rattle.zone_select.specs.Alike.{AreAlike}
 use Rattle.mixer.specs.Render.{render}
 use Rattle.mixer.proofs.AlikeLaws.{AreAlike-refl, alike_render}
 use Rattle.edit_forms.specs.declared.edit.Edit.{Edit}
-use Rattle.bank_edits.specs.Runs.{after_all}
 use Rattle.script_of_bank.specs.LeadsTo.{Leads}
-use Rattle.script_of_bank.proofs.SequenceLaws.{after-then, is_accepted-then}
 use Rattle.plan_edits.specs.Uses.{HasNoUnused}
-use Rattle.plan_edits.specs.Tidying.{IsTidying}
 use Rattle.plan_presets.specs.declared.numbers.PresetNumbers.{PresetNumbers}
 use Rattle.plan_take.specs.Taking.{is_numbered, preset_with}
 use Rattle.plan_take.specs.Matches.{AreBoth, HasNumber, AllMatch, SamplesMatch, OwnersMatch, Renumbered}
@@ -71,21 +69,18 @@ voices_kept b c samples instruments heard played same n =
     (λ i j h. related (Renumbered samples) (slice_get b.instruments i) (slice_get c.instruments j) (played i j h))
     (first_same instruments (preset_of n) b.presets c.presets same.count same.each)
 
--- ---- edits that keep the voices, and then edits that tidy
+-- ---- a draft that keeps the voices
 
-renders_kept : (b c : Parts) → KeepsAllVoices b c → (ns : List Numbers) → render b ns ≡ render c ns
-renders_kept b c h =
-    alike_render b c (λ n. subst (IsPermutation (selected b n)) (h n) (AreAlike-refl b n))
+pub voices_alike : (b c : Parts) → KeepsAllVoices b c → AreAlike b c
+voices_alike b c h n = subst (IsPermutation (selected b n)) (h n) (AreAlike-refl b n)
 
-pub removing : (b c : Parts) (es fs all : List Edit) → KeepsAllVoices b c → Leads b es c → IsTidying c fs → all ≡ es ++ fs
-    → IsRemovingDuplicates b all
-removing b c es fs all keeps leads tidies e =
-    let given : after_all b (es ++ fs) ≡ after_all c fs = after-then b c (after_all c fs) es fs leads.given refl in
-    subst (IsRemovingDuplicates b) (sym e)
-    (record {
-      is_accepted = is_accepted-then b c es fs leads.given leads.is_accepted tidies.is_accepted;
+pub removing : (b first now : Parts) (edits : List Edit) → first ≡ b → AreAlike b now → Leads first edits now
+    → HasNoUnused now → IsRemovingDuplicates b edits
+removing b first now edits e alike leads used =
+    let of_bank : Leads b edits now = subst (λ f. Leads f edits now) e leads in record {
+      is_accepted = of_bank.is_accepted;
       same =
           λ ns.
-          renders_kept b c keeps ns ∙ tidies.same ns ∙ ap (λ (x : Parts). render x ns) (sym given);
-      used = subst HasNoUnused (sym given) tidies.used;
-    })
+          subst (λ (c : Parts). render b ns ≡ render c ns) (sym of_bank.given) (alike_render b now alike ns);
+      used = subst HasNoUnused (sym of_bank.given) used;
+    }

@@ -1,6 +1,7 @@
 //! The plan that removes duplicates of samples and instruments.
-ghost use Rattle.std.specs.Prelude.{IfOk};
-ghost use Rattle.plan_take.specs.RemovingDuplicates.{KeepsAllVoices, IsRemovingDuplicates};
+ghost use Rattle.std.specs.Prelude.{◌≡◌, IfOk, OnOk};
+ghost use Rattle.zone_select.specs.Alike.{AreAlike};
+ghost use Rattle.plan_take.specs.RemovingDuplicates.{IsRemovingDuplicates};
 
 use crate::equal_instruments::set_instrument_targets;
 use crate::equal_samples::first_equal_samples;
@@ -9,7 +10,7 @@ use crate::same_presets::keeps_all_voices;
 use bank_core::Bank;
 use edit_drafts::Draft;
 use edit_forms::Edit;
-use plan_edits::{Plan, PlanFault, Tidy};
+use plan_edits::{Plan, PlanFault, tidy_draft};
 use std::alloc::Global;
 
 /// Removes duplicates of samples and instruments, and tidies the bank as `Tidy` does. Of equal ones the first is kept,
@@ -31,28 +32,49 @@ impl<'a> Plan<'a> for RemoveDuplicates {
     }
 }
 
+// Each pass but the last uses fewer members: zones that a pass joins may make two more instruments equal.
 fn found_edits<'a>(alloc: Global, bank: &Bank<'a>) -> Result<Vec<Edit<'a>>, PlanFault>
     ensures { IfOk result (λ edits. IsRemovingDuplicates bank.now edits.items) }
 {
-    let samples = first_equal_samples(alloc, bank.samples())?;
-    let samples = samples.as_slice();
     let mut draft = Draft::new(alloc, bank)?;
-    let instruments = set_instrument_targets(alloc, &mut draft, bank.instruments(), samples)?;
-    let instruments = instruments.as_slice();
-    set_preset_targets(alloc, &mut draft, bank.presets(), instruments)?;
-    if !keeps_all_voices(bank, draft.bank(), samples, instruments) {
-        return Err(PlanFault::Defect);
+    for _pass in 0..passes_at_most(bank) {
+        let has_duplicates = use_first_equal(alloc, &mut draft)?;
+        tidy_draft(alloc, &mut draft)?;
+        if !has_duplicates {
+            return Ok(draft.into_edits());
+        }
     }
-    tidied_edits(alloc, draft)
+    Err(PlanFault::Defect)
 }
 
-// The edits of a draft that keep all voices, and then the edits that tidy its bank.
-fn tidied_edits<'a>(alloc: Global, draft: Draft<'_, 'a>) -> Result<Vec<Edit<'a>>, PlanFault>
-    requires { KeepsAllVoices draft.first draft.bank }
-    ensures { IfOk result (λ edits. IsRemovingDuplicates draft.entry.first edits.items) }
+fn passes_at_most(bank: &Bank<'_>) -> usize {
+    let members = bank
+        .instruments()
+        .len()
+        .saturating_add(bank.samples().len());
+    members.saturating_add(1)
+}
+
+// Lets the zones use the first of equal samples and of equal instruments, and returns whether some are equal.
+fn use_first_equal(alloc: Global, draft: &mut Draft<'_, '_>) -> Result<bool, PlanFault>
+    ensures first { draft.new.first ≡ draft.old.first }
+    ensures alike { OnOk result (AreAlike draft.old.bank draft.new.bank) }
 {
-    let mut more = Tidy.edits(alloc, draft.bank())?;
-    let mut edits = draft.into_edits();
-    edits.append(&mut more)?;
-    Ok(edits)
+    let bank = draft.bank().copy(alloc)?;
+    let samples = first_equal_samples(alloc, bank.samples())?;
+    let samples = samples.as_slice();
+    let instruments = set_instrument_targets(alloc, draft, bank.instruments(), samples)?;
+    let instruments = instruments.as_slice();
+    set_preset_targets(alloc, draft, bank.presets(), instruments)?;
+    if !keeps_all_voices(&bank, draft.bank(), samples, instruments) {
+        return Err(PlanFault::Defect);
+    }
+    Ok(has_other(samples) || has_other(instruments))
+}
+
+// Whether some member has the number of another one.
+fn has_other(numbers: &[Option<u16>]) -> bool {
+    numbers.iter().enumerate().any(|(member, number)| number.is_some_and(|number| usize::from(
+        number,
+    ) != member))
 }

@@ -1,7 +1,7 @@
 //! Writes lines.
-ghost use Rattle.std.specs.Prelude.{◌≡◌, ◌≤◌, ◌++◌, ◌∷◌, [], length, decimal};
+ghost use Rattle.std.specs.Prelude.{◌≡◌, ◌<◌, ◌≤◌, ◌*◌, ◌++◌, ◌∷◌, [], length, slice_index, decimal};
 ghost use Rattle.std.specs.List.{list_all, flat_map};
-ghost use Rattle.hex.specs.Hex.{encode_lower};
+ghost use Rattle.hex.specs.Hex.{encode_lower, lower_digits};
 ghost use Rattle.base_outputs.specs.Output.{Puts};
 ghost use Rattle.script_tokens.specs.Slices.{all_bytes};
 ghost use Rattle.script_tokens.specs.Printing.{is_quotable, hex_literal, name_text, piece_text, spaced, line_text};
@@ -119,20 +119,42 @@ fn put_all_digits<W: Write>(slices: &[&[u8]], output: &mut Output<'_, W>)
 fn put_digits<W: Write>(bytes: &[u8], output: &mut Output<'_, W>)
     ensures { Puts W.contents output.old output.new (encode_lower bytes.now) }
 {
-    for few in bytes.chunks(256) {
-        put_few_digits(few, output);
+    // Clearing the large buffer would take longer than writing a short literal through the small one.
+    if bytes.len() <= 2048 {
+        put_through(&mut [0; 512], bytes, output);
+    } else {
+        put_through(&mut [0; 16384], bytes, output);
     }
 }
 
-// The digits of at most 256 bytes.
-fn put_few_digits<W: Write>(bytes: &[u8], output: &mut Output<'_, W>)
-    requires { length bytes.now ≤ 256 }
+// Writes the digits of these bytes, as many at a time as the buffer holds.
+fn put_through<W: Write>(buffer: &mut [u8], bytes: &[u8], output: &mut Output<'_, W>)
+    requires { 2 ≤ length buffer.old }
     ensures { Puts W.contents output.old output.new (encode_lower bytes.now) }
 {
-    let mut buffer = [0; 512];
-    let digits = &mut buffer[..2 * bytes.len()];
-    hex::encode_to_slice(bytes, digits).unwrap();
-    output.put(digits);
+    for few in bytes.chunks(buffer.len() / 2) {
+        let digits = &mut buffer[..2 * few.len()];
+        write_digits(few, digits);
+        output.put(digits);
+    }
+}
+
+// Arithmetic in place of a table lets the compiler vectorize the loop.
+fn write_digits(bytes: &[u8], digits: &mut [u8])
+    requires { length digits.old ≡ 2 * length bytes.now }
+    ensures { digits.new ≡ encode_lower bytes.now }
+{
+    for i in 0..bytes.len() {
+        digits[2 * i] = digit(bytes[i] / 16);
+        digits[2 * i + 1] = digit(bytes[i] % 16);
+    }
+}
+
+fn digit(nibble: u8) -> u8
+    requires { nibble < 16 }
+    ensures { result ≡ slice_index lower_digits nibble }
+{
+    nibble + if nibble < 10 { 48 } else { 87 }
 }
 
 fn all_quotable(bytes: &[u8]) -> bool

@@ -4,7 +4,7 @@ use Rattle.std.specs.Prelude.{MatchOption}
 use Rattle.sf_base.specs.Fields.{field_at}
 use Rattle.generators.specs.Levels.{target_operator}
 use Rattle.flat_records.specs.Bags as flat
-use Rattle.bank_owner_bags.specs.Owned.{all_bags, flat_of}
+use Rattle.flat_records.specs.Owned.{all_bags, flat_of}
 use Rattle.bank_parts.specs.declared.parts.ZoneOwner.{ZoneOwner}
 use Rattle.bank_parts.specs.declared.parts.Parts.{Parts}
 use Rattle.bank_parts.specs.Bagged.{bags_of}

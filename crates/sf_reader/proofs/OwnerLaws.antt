@@ -13,7 +13,7 @@ use Rattle.hydra_records.specs.declared.zone.Generator.{Generator}
 use Rattle.flat_records.specs.Runs.{starts}
 use Rattle.flat_records.specs.Bags as flat
 use Rattle.flat_records.proofs.Starts.{length-starts}
-use Rattle.bank_owner_bags.specs.Owned.{past_owner, all_bags}
+use Rattle.flat_records.specs.Owned.{past_owner, all_bags}
 use Rattle.sf_base.specs.declared.memory.Failure.{Failure}
 use Rattle.bank_core.specs.Heads.{head_records}
 use Rattle.bank_format.specs.declared.fault.ReadFault.{ReadFault}

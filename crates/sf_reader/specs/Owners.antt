@@ -6,7 +6,7 @@ use Rattle.generators.specs.declared.level.Level.TheVariants as level
 use Rattle.flat_records.specs.Runs.{starts}
 use Rattle.flat_records.specs.Bags.{Bag, tables_of}
 use Rattle.flat_records.specs.Bags as flat
-use Rattle.bank_owner_bags.specs.Owned.{past_owner, all_bags, flat_of}
+use Rattle.flat_records.specs.Owned.{past_owner, all_bags, flat_of}
 use Rattle.bank_parts.specs.declared.parts.Head.{Head}
 use Rattle.bank_core.specs.declared.flat_heads.HeadRecord.{HeadRecord}
 use Rattle.bank_core.specs.Heads.{head_records}

@@ -32,8 +32,9 @@ use Rattle.sfbank.specs.Differences.{after_file}
 abbrev pub Promise : Type 1
 Promise = Parts → List Edit → Type 0
 
--- What edits are found for: to tidy a bank, to remove duplicates of its samples and instruments too, to keep the presets with these numbers or
--- what these notes play, to copy a member, to take presets of another bank, or to add all of another bank.
+-- What edits are found for: to tidy a bank, to remove duplicates of its samples and instruments too, to keep the presets
+-- with these numbers or what these notes play, to copy a member, to take presets of another bank, or to add all of
+-- another bank.
 pub data Purpose : Type 0 where
   Tidying : Purpose
   RemovingDuplicates : Purpose

@@ -1,5 +1,5 @@
 use Rattle.std.proofs.Common.{◌==◌, ap}
-use Rattle.bank_owner_bags.specs.Owned.{bag_at}
+use Rattle.flat_records.specs.Owned.{bag_at}
 use Rattle.bank_parts.proofs.BagLaws.{one_counted}
 use Rattle.bank_parts.proofs.bag_changes.has_one_record.Goals as goal
 

@@ -1,7 +1,7 @@
 use Rattle.std.proofs.Common.{◌<◌, true, false, length}
 use Rattle.flat_records.specs.Runs.{cut}
 use Rattle.flat_records.specs.Bags.{Bag, with_gens}
-use Rattle.bank_owner_bags.specs.Owned.{bag_at}
+use Rattle.flat_records.specs.Owned.{bag_at}
 use Rattle.bank_parts.proofs.BagLaws.{some_of, next_of, remove_record_at}
 use Rattle.bank_parts.proofs.bag_changes.remove_gen_record.Goals as goal
 

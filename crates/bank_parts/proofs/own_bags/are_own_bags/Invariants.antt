@@ -1,7 +1,7 @@
 use Rattle.std.proofs.Common.{◌≡◌, ◌==◌, ℕ, ◌<◌, Some}
 use Rattle.std.specs.Prelude.{IsTrue}
 use Rattle.flat_records.specs.Bags.{Bag}
-use Rattle.bank_owner_bags.specs.Owned.{bag_at}
+use Rattle.flat_records.specs.Owned.{bag_at}
 use Rattle.bank_parts.specs.OwnBags.{is_own_bag}
 use Rattle.bank_parts.proofs.own_bags.are_own_bags.Given as goal
 

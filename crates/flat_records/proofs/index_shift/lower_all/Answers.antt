@@ -1,25 +1,20 @@
-use Rattle.std.proofs.Common.{◌≡◌, ℕ, ◌-◌, get_or, arith}
+use Rattle.std.proofs.Common.{get_or, refl, arith, ◌∙◌, ap}
 use Rattle.std.proofs.lemmas.List.{get_or_default}
 use Rattle.std.proofs.lemmas.List.Edits.{map_over_more}
-use Rattle.flat_records.specs.Raised.{lowered}
 use Rattle.flat_records.proofs.Starts.{unchanged}
 use Rattle.flat_records.proofs.index_shift.lower_all.Goals as goal
 
-pub loop-bag-preserved : goal.loop-bag-preserved
-loop-bag-preserved c =
-    let bags = c.loop-bag.bags in
-    let i = c.loop-bag.bag-index in
-    let x = get_or bags i (0, 0) in
-    rw c.lower_one.ensures
-    (map_over_more (lowered c.args.by) c.args.bags.now bags i x c.loop-bag-test.true c.loop-bag.invariant
-    (get_or_default bags i (0, 0) x (omega arith)))
+pub loop-at-preserved : goal.loop-at-preserved
+loop-at-preserved g c =
+    let list = c.loop-at.list in
+    let i = c.loop-at.at-index in
+    let x = get_or list i c.at-item.result in
+    rw c.lower.ensures
+    (map_over_more (g.I.Index.lowered c.args.by) c.args.list.now list i x c.loop-at-test.true c.loop-at.invariant
+    (get_or_default list i c.at-item.result x (omega arith)))
 
-by_nothing : (by : ℕ × ℕ) → by.0 ≡ 0 → by.1 ≡ 0 → (at : ℕ × ℕ) → lowered by at ≡ at
-by_nothing by e f at =
-    let gens : at.0 - by.0 ≡ at.0 = omega arith in
-    let mods : at.1 - by.1 ≡ at.1 = omega arith in
-    λ i. (gens i, mods i)
-
-pub returns-else-by-gt0-2 : goal.returns-else-by-gt0-2
-returns-else-by-gt0-2 c =
-    unchanged (lowered c.args.by) (by_nothing c.args.by (omega arith) (omega arith)) c.args.bags.now
+pub returns-else-not-is_origin : goal.returns-else-not-is_origin
+returns-else-not-is_origin g c =
+    unchanged (g.I.Index.lowered c.args.by)
+    (λ at. ap (λ by. g.I.Index.lowered by at) (c.if-not-is_origin.ensures.0 refl) ∙ g.met.I.Index.lowered_by_none at)
+    c.args.list.now

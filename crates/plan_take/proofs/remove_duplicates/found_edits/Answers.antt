@@ -1,18 +1,36 @@
-use Rattle.std.proofs.Common.{◌≡◌, sym, subst, ◌∙◌}
-use Rattle.std.specs.Prelude.{IfOk}
-use Rattle.plan_take.specs.RemovingDuplicates.{KeepsAllVoices, IsRemovingDuplicates}
+use Rattle.std.proofs.Common.{◌∙◌, sym, subst}
+use Rattle.zone_select.specs.Alike.{AreAlike}
+use Rattle.mixer.proofs.AlikeLaws.{AreAlike-refl, AreAlike-trans}
+use Rattle.plan_take.proofs.DuplicateLaws.{removing}
 use Rattle.plan_take.proofs.remove_duplicates.found_edits.Goals as goal
 
-pub tidied_edits-requires : goal.tidied_edits-requires
-tidied_edits-requires c =
-    let draft = c.set_preset_targets.new.draft in
-    subst (λ first. KeepsAllVoices first draft.bank)
-    (sym (c.set_preset_targets.ensures ∙ c.set_instrument_targets.ensures ∙ c.in_ok-draft.ensures.first))
-    (subst (KeepsAllVoices c.args.bank.now) c.bank.ensures
-    (c.keeps_all_voices.ensures c.if-not-keeps_all_voices.false))
+pub loop-pass-init : goal.loop-pass-init
+loop-pass-init c =
+    let b = c.args.bank.now in
+    (c.in_ok-draft.ensures.first, subst (AreAlike b) (sym c.in_ok-draft.ensures.same) (AreAlike-refl b))
 
-pub returns : goal.returns
-returns c =
-    subst (λ first. IfOk c.tidied_edits.result (λ edits. IsRemovingDuplicates first edits.items))
-    (c.set_preset_targets.ensures ∙ c.set_instrument_targets.ensures ∙ c.in_ok-draft.ensures.first)
-    c.tidied_edits.ensures
+pub loop-pass-preserved : goal.loop-pass-preserved
+loop-pass-preserved c =
+    let b = c.args.bank.now in
+    let before = c.loop-pass.draft.bank in
+    let used = c.use_first_equal.new.draft.bank in
+    let tidied = c.tidy_draft.new.draft.bank in (
+      c.in_ok-tidy_draft.ensures.adds.first
+          ∙ (c.use_first_equal.ensures.first ∙ c.loop-pass.invariant.0),
+      AreAlike-trans b before tidied c.loop-pass.invariant.1
+          (AreAlike-trans before used tidied c.in_ok-has_duplicates.ensures.alike
+          c.in_ok-tidy_draft.ensures.adds.alike),
+    )
+
+pub returns-then-not-has_duplicates : goal.returns-then-not-has_duplicates
+returns-then-not-has_duplicates c =
+    let b = c.args.bank.now in
+    let before = c.loop-pass.draft.bank in
+    let used = c.use_first_equal.new.draft.bank in
+    let tidied = c.tidy_draft.new.draft.bank in
+    removing b c.tidy_draft.new.draft.first tidied c.into_edits.result.items
+    (c.in_ok-tidy_draft.ensures.adds.first
+    ∙ (c.use_first_equal.ensures.first ∙ c.loop-pass.invariant.0))
+    (AreAlike-trans b before tidied c.loop-pass.invariant.1
+    (AreAlike-trans before used tidied c.in_ok-has_duplicates.ensures.alike c.in_ok-tidy_draft.ensures.adds.alike))
+    c.into_edits.ensures.leads c.in_ok-tidy_draft.ensures.used

@@ -1,23 +1,11 @@
-use Rattle.std.proofs.Common.{insert}
-use Rattle.bank_parts.specs.Settings.{with_mods}
-use Rattle.bank_core.proofs.KeptTotals.{no_limit_before, has_before, kept_there}
 use Rattle.bank_parts.proofs.SoundLaws.{sound_storable}
+use Rattle.bank_core.proofs.KeptPoints.{owner_points, kept_either}
 use Rattle.bank_core.proofs.bank.Bank.add_mod.Goals as goal
 
 pub add_mod-requires-clause-storable : goal.add_mod-requires-clause-storable
 add_mod-requires-clause-storable c = rw c.self.view_is (sound_storable _ c.requires.sound)
 
-pub recounted-self-inside-requires : goal.recounted-self-inside-requires
-recounted-self-inside-requires c = record {
-  within = no_limit_before c.self.view_is c.self.invariant;
-  counted =
-      has_before c.self.view_is c.self.invariant c.args.owner c.args.place c.requires.there c.level.ensures
-      c.place_records-before.ensures;
-}
-
-pub invariant_of-self-2 : goal.invariant_of-self-2
-invariant_of-self-2 c =
-    kept_there c.self.view_is c.self.invariant c.args.owner c.args.place c.requires.there c.level.ensures
-    c.place_records-before.ensures (λ s. with_mods (insert s.mods c.args.index c.args.modulator) s)
-    (rw c.self.view_is at c.in_ok-add_mod.ensures.ok) c.requires.sound
-    c.place_records-after.ensures c.recounted-self-inside.ensures.value
+pub invariant_of-self : goal.invariant_of-self
+invariant_of-self c =
+    kept_either c.self.view_is c.self.invariant c.add_mod.result (rw c.self.view_is at c.add_mod.ensures.ok)
+    c.add_mod.ensures.err c.requires.sound (owner_points c.args.self.now c.args.owner _)

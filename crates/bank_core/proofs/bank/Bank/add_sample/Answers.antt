@@ -1,17 +1,27 @@
-use Rattle.std.proofs.Common.{◌∙◌}
-use Rattle.bank_changes.proofs.SampleLaws.{room_for, totals_with_sample}
+use Rattle.std.proofs.Common.{arith}
+use Rattle.bank_changes.proofs.SampleLaws.{points_added}
+use Rattle.bank_core.proofs.KeptPoints.{kept_then, points_before}
 use Rattle.bank_core.proofs.bank.Bank.add_sample.Goals as goal
 
-pub with_sample-totals-requires : goal.with_sample-totals-requires
-with_sample-totals-requires c =
-    room_for c.args.self.now c.self.inside.totals c.args.number c.args.sample c.len.result
-    (rw c.self.view_is at c.self.invariant.1) c.len.ensures.value c.requires.place c.requires.sound.valid
+pub overflow_add-more : goal.overflow_add-more
+overflow_add-more c =
+    let points = points_added c.args.self.now c.args.number c.args.sample c.requires.place in
+    let within = c.requires.sound.valid.limits.points in
+    let len = c.len-more.ensures.value in
+    omega (arith, points, within, len)
+
+pub overflow_add-self : goal.overflow_add-self
+overflow_add-self c =
+    let points = points_added c.args.self.now c.args.number c.args.sample c.requires.place in
+    let within = c.requires.sound.valid.limits.points in
+    let len = c.len-more.ensures.value in
+    let before = points_before c.self.view_is c.self.invariant in
+    omega (arith, points, within, len, before)
 
 pub invariant_of-self-2 : goal.invariant_of-self-2
 invariant_of-self-2 c =
-    rw (c.in_ok-add_sample.ensures.ok, c.self.view_is) (
-      c.requires.sound,
-      c.with_sample-totals.ensures
-          ∙ totals_with_sample c.args.self.now c.self.inside.totals c.args.number c.args.sample c.len.result
-          (rw c.self.view_is at c.self.invariant.1) c.len.ensures.value c.requires.place,
-    )
+    let points = points_added c.args.self.now c.args.number c.args.sample c.requires.place in
+    let len = c.len-more.ensures.value in
+    let before = points_before c.self.view_is c.self.invariant in
+    kept_then c.self.view_is c.self.invariant (rw c.self.view_is at c.in_ok-add_sample.ensures.ok) c.requires.sound
+    (omega (arith, points, len, before))

@@ -1,5 +1,6 @@
-use Rattle.std.proofs.Common.{arith, ◌+◌, refl}
-use Rattle.bank_changes.proofs.PointLaws.{few_then, loop_then, room_then, totals_then}
+use Rattle.std.proofs.Common.{arith}
+use Rattle.bank_changes.proofs.PointLaws.{few_then, loop_then, room_then, points_extended}
+use Rattle.bank_core.proofs.KeptPoints.{kept_then, points_before}
 use Rattle.bank_core.proofs.bank.Bank.extend_sample.Goals as goal
 
 pub overflow_add-more : goal.overflow_add-more
@@ -20,16 +21,15 @@ extend_sample-requires-clause-looped c =
 pub overflow_add-self : goal.overflow_add-self
 overflow_add-self c =
     let room =
-    room_then c.args.self.now c.args.number c.args.front c.args.back c.requires.there c.requires.sound
-    c.self.inside.totals (rw c.self.view_is at c.self.invariant.1) in
-    omega (arith, room)
+    room_then c.args.self.now c.args.number c.args.front c.args.back c.requires.there c.requires.sound in
+    let before = points_before c.self.view_is c.self.invariant in
+    omega (arith, room, before)
 
 pub invariant_of-self-2 : goal.invariant_of-self-2
 invariant_of-self-2 c =
+    let points = points_extended c.args.self.now c.args.number c.args.front c.args.back c.requires.there in
     let front = c.len.ensures.value in
     let back = c.len-2.ensures.value in
-    rw (c.in_ok-extend_sample.ensures.ok, c.self.view_is) (
-      c.requires.sound,
-      totals_then c.args.self.now c.args.number c.args.front c.args.back c.requires.there c.self.inside.totals
-          (c.len.result + c.len-2.result) (rw c.self.view_is at c.self.invariant.1) (rw (front, back) refl),
-    )
+    let before = points_before c.self.view_is c.self.invariant in
+    kept_then c.self.view_is c.self.invariant (rw c.self.view_is at c.in_ok-extend_sample.ensures.ok)
+    c.requires.sound (omega (arith, points, front, back, before))

@@ -3,7 +3,7 @@ use Rattle.std.specs.List.{AllByRecursion, list_all}
 use Rattle.generators.specs.Gens.{FitEntries}
 use Rattle.modulators.specs.Modulators.{FitsModulator}
 use Rattle.flat_records.specs.Bags.{gens_in, mods_in, no_modulator}
-use Rattle.bank_owner_bags.specs.Owned.{all_bags}
+use Rattle.flat_records.specs.Owned.{all_bags}
 use Rattle.sf_base.specs.Names.{IsName}
 use Rattle.bank_parts.specs.Fits.{FitsOwner}
 use Rattle.bank_parts.specs.Records.{is_valid_record}

@@ -3,7 +3,7 @@ use Rattle.std.specs.Prelude.{All}
 use Rattle.generators.specs.Levels.{target_operator}
 use Rattle.flat_records.specs.Bags.{gens_in}
 use Rattle.flat_records.specs.Renumbered.{CanRenumber, bag_renumbered}
-use Rattle.bank_owner_bags.specs.Owned.{all_bags}
+use Rattle.flat_records.specs.Owned.{all_bags}
 use Rattle.bank_parts.proofs.ReadLaws.{read, are_read, held}
 use Rattle.bank_parts.proofs.RenumberLaws.{can_follow, all_follow}
 use Rattle.bank_parts.proofs.target_renumbering.OwnersRenumber.renumber.Goals as goal

@@ -1,4 +1,4 @@
-use Rattle.std.proofs.Common.{◌≡◌, ◌-◌, ℕ, length, ◌∙◌, ap, arith}
+use Rattle.std.proofs.Common.{◌≡◌, ◌-◌, ℕ, length, ap, arith}
 use Rattle.flat_records.specs.Bags.{gens_in, mods_in}
 use Rattle.flat_records.proofs.TableLaws.{held, bags_size, last_counts}
 use Rattle.flat_records.proofs.bags.Bags.records_fit.Goals.{After-index-counts}

@@ -1,5 +1,7 @@
-use Rattle.std.proofs.Common.{◌≤◌, ◌+◌, length, arith}
+use Rattle.std.proofs.Common.{◌≤◌, ◌+◌, length, refl, arith}
+use Rattle.flat_records.specs.Bags.{Bag}
 use Rattle.flat_records.proofs.TableLaws.{bags_read, are_read, held, shrunk}
+use Rattle.flat_records.proofs.WholeBags.{length-emptied}
 use Rattle.flat_records.proofs.BagPositions.{Windows, spot, inside, place_read, gens_part, mods_part, later_lowered}
 use Rattle.flat_records.proofs.bags.Bags.remove_records.Goals.{After-index-at}
 use Rattle.flat_records.proofs.bags.Bags.remove_records.Goals as goal
@@ -49,6 +51,24 @@ overflow_add-k c =
     in
     let ok = c.self.inside.bags.ok in
     omega (arith, ok.0, ok.1)
+
+pub overflow_cast-n : goal.overflow_cast-n
+overflow_cast-n c =
+    let s =
+    spot (held c.self.invariant c.self.view_is) c.args.k (Windows c.args.j c.args.n c.args.i c.args.m)
+    c.requires.place in
+    let size = length-emptied (λ (b : Bag). b.gens) c.args.self.now.bags c.args.k s.bag refl s.there in
+    let within = s.holds in let fits = c.records_fit.ensures.gens in
+    omega arith
+
+pub overflow_cast-m : goal.overflow_cast-m
+overflow_cast-m c =
+    let s =
+    spot (held c.self.invariant c.self.view_is) c.args.k (Windows c.args.j c.args.n c.args.i c.args.m)
+    c.requires.place in
+    let size = length-emptied (λ (b : Bag). b.mods) c.args.self.now.bags c.args.k s.bag refl s.there in
+    let within = s.holds in let fits = c.records_fit.ensures.mods in
+    omega arith
 
 pub lower_from-requires : goal.lower_from-requires
 lower_from-requires c =

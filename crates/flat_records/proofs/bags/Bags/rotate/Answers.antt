@@ -34,20 +34,23 @@ exchange_within-requires c = (turned (goal.at.exchange_within-requires c).After-
 pub exchange_within-requires-2 : goal.exchange_within-requires-2
 exchange_within-requires-2 c = (turned (goal.at.exchange_within-requires-2 c).After-index-stop).mods
 
+pub overflow_sub-down : goal.overflow_sub-down
+overflow_sub-down c = (turned (goal.at.overflow_sub-down c).After-index-stop).gens_rise.0
+
+pub overflow_sub-down-2 : goal.overflow_sub-down-2
+overflow_sub-down-2 c = (turned (goal.at.overflow_sub-down-2 c).After-index-stop).mods_rise.0
+
+pub overflow_sub-up : goal.overflow_sub-up
+overflow_sub-up c = (turned (goal.at.overflow_sub-up c).After-index-stop).gens_rise.1
+
+pub overflow_sub-up-2 : goal.overflow_sub-up-2
+overflow_sub-up-2 c = (turned (goal.at.overflow_sub-up-2 c).After-index-stop).mods_rise.1
+
 pub exchange_indexes-requires : goal.exchange_indexes-requires
 exchange_indexes-requires c =
     let t = turned (goal.at.exchange_indexes-requires c).After-index-stop in
-    record {
-      places =
-          t.windows;
-      gens =
-          t.gens_rise;
-      mods =
-          t.mods_rise;
-      lower =
-          t.lower;
-      raise = t.raise c.index-stop.ensures.fits.0 c.index-stop.ensures.fits.1;
-    }
+    let fits = c.index-stop.ensures.fits in
+    record { places = t.windows; lower = t.lower; raise = t.raise fits.0 fits.1 }
 
 pub invariant_of-self : goal.invariant_of-self
 invariant_of-self c =

@@ -1,8 +1,8 @@
-use Rattle.std.proofs.Common.{◌≤◌, length, set, slice_get, refl, subst, ◌∙◌, ap, append-nil, arith}
+use Rattle.std.proofs.Common.{◌≤◌, length, set, refl, subst, ◌∙◌, ap, append-nil, arith}
 use Rattle.std.specs.Option.{IfSome}
 use Rattle.base_numbered_lists.proofs.Lists.{slice_get-found}
 use Rattle.flat_records.specs.Runs.{put}
-use Rattle.flat_records.specs.Bags.{Bag, no_bag, gens_in, mods_in}
+use Rattle.flat_records.specs.Bags.{Bag, gens_in, mods_in}
 use Rattle.flat_records.specs.Stored.{Frees}
 use Rattle.flat_records.proofs.WholeBags.{length-emptied, changed_emptied}
 use Rattle.flat_records.proofs.bags.Bags.set_bag.Goals as goal
