@@ -32,11 +32,13 @@ impl<'a> Plan<'a> for RemoveDuplicates {
     }
 }
 
-// Each pass but the last uses fewer members: zones that a pass joins may make two more instruments equal.
+// Zones that are joined may make two more instruments equal, so the bank is tidied before each search. The last search
+// finds none, and each one before it leaves fewer members.
 fn found_edits<'a>(alloc: Global, bank: &Bank<'a>) -> Result<Vec<Edit<'a>>, PlanFault>
     ensures { IfOk result (λ edits. IsRemovingDuplicates bank.now edits.items) }
 {
     let mut draft = Draft::new(alloc, bank)?;
+    tidy_draft(alloc, &mut draft)?;
     for _pass in 0..passes_at_most(bank) {
         let has_duplicates = use_first_equal(alloc, &mut draft)?;
         tidy_draft(alloc, &mut draft)?;
@@ -74,7 +76,8 @@ fn use_first_equal(alloc: Global, draft: &mut Draft<'_, '_>) -> Result<bool, Pla
 
 // Whether some member has the number of another one.
 fn has_other(numbers: &[Option<u16>]) -> bool {
-    numbers.iter().enumerate().any(|(member, number)| number.is_some_and(|number| usize::from(
-        number,
-    ) != member))
+    numbers
+        .iter()
+        .enumerate()
+        .any(|(member, number)| *number != u16::try_from(member).ok())
 }

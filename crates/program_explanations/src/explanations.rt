@@ -130,6 +130,20 @@ static ALL: [FaultCode; 66] = [
 ];
 
 impl FaultCode {
+    /// Returns its explanation.
+    pub fn explanation(self) -> Explanation
+        ensures number { result.number ≡ number_of self }
+        ensures name { result.name.now ≡ name_of self }
+    {
+        let (meaning, what_to_do) = self.texts();
+        Explanation {
+            number: self.number(),
+            name: self.name(),
+            meaning,
+            what_to_do,
+        }
+    }
+
     /// Returns its number.
     fn number(self) -> u8
         ensures { result ≡ number_of self }
@@ -205,13 +219,7 @@ pub fn explain(number: u32) -> Option<Explanation>
     ensures all { (code : FaultCode) → number_of code ≡ number → IsSome result }
 {
     let code = of_number(&ALL, number)?;
-    let (meaning, what_to_do) = code.texts();
-    Some(Explanation {
-        number: code.number(),
-        name: code.name(),
-        meaning,
-        what_to_do,
-    })
+    Some(code.explanation())
 }
 
 fn of_number(all: &[FaultCode], number: u32) -> Option<FaultCode>

@@ -7,7 +7,12 @@ use Rattle.plan_take.proofs.remove_duplicates.found_edits.Goals as goal
 pub loop-pass-init : goal.loop-pass-init
 loop-pass-init c =
     let b = c.args.bank.now in
-    (c.in_ok-draft.ensures.first, subst (AreAlike b) (sym c.in_ok-draft.ensures.same) (AreAlike-refl b))
+    let first = c.draft in (
+      c.in_ok-tidy_draft.ensures.adds.first ∙ c.in_ok-draft.ensures.first,
+      AreAlike-trans b c.tidy_draft.args.draft.now.bank c.tidy_draft.new.draft.bank
+          (subst (AreAlike b) (sym c.in_ok-draft.ensures.same) (AreAlike-refl b))
+          c.in_ok-tidy_draft.ensures.adds.alike,
+    )
 
 pub loop-pass-preserved : goal.loop-pass-preserved
 loop-pass-preserved c =
