@@ -7,7 +7,7 @@ use Banks;
 use Cwd 'abs_path';
 use Starter;
 use Exporter 'import';
-our @EXPORT = qw(program_that_was_built run_in program_of_runs run run_command is_right report totals canon apply apply_text knows_groups same undone);
+our @EXPORT = qw(program_that_was_built run_in program_of_runs run run_command run_making is_right report totals canon apply apply_text knows_groups same undone);
 
 # The names of faults and refusals, by number.
 our %FAULTS = (
@@ -97,13 +97,22 @@ sub is_cause {
 # Returns what is wrong with a run of any kind, or undef. `bytes` is the number of bytes that it read and wrote.
 sub is_right {
     my ($run, $bytes) = @_;
+    return wrong_of_end($run) // wrong_of_time($run, $bytes);
+}
+
+sub wrong_of_end {
+    my ($run) = @_;
     return "$run->{words}: ended by signal $run->{signal}" if $run->{signal};
     my $status = status_of($run->{line});
     return "$run->{words}: status $run->{status} with '$run->{line}'" if !defined $status || $status != $run->{status};
-    return "$run->{words}: printed beside a fault" if $status && $run->{printed};
-    my $seconds = least_seconds($run, 1 + $bytes / 1_000_000);
-    return "$run->{words}: took $seconds seconds for $bytes bytes" if $seconds > 1 + $bytes / 1_000_000;
-    return;
+    return $status && $run->{printed} ? "$run->{words}: printed beside a fault" : undef;
+}
+
+sub wrong_of_time {
+    my ($run, $bytes) = @_;
+    my $limit = 1 + $bytes / 1_000_000;
+    my $seconds = least_seconds($run, $limit);
+    return $seconds > $limit ? "$run->{words}: took $seconds seconds for $bytes bytes" : undef;
 }
 
 # Returns the processor seconds of a run. If they are over the limit the run is repeated up to four times and the least
@@ -123,12 +132,20 @@ sub least_seconds {
 # output file that exists after a fault.
 sub run_command {
     my ($words, @made) = @_;
+    my $run = run_making($words, @made);
+    my $bytes = 0;
+    $bytes += -s $_ // 0 for @$words[1 .. $#$words];
+    $run->{wrong} //= wrong_of_time($run, $bytes);
+    return $run;
+}
+
+# The same for a command that may replace its input, and so can't be repeated: its time is not tested.
+sub run_making {
+    my ($words, @made) = @_;
     die 'a file to be made is elsewhere' if grep { m{/} } @made;
     unlink @made;
     my $run = run($words);
-    my $bytes = 0;
-    $bytes += -s $_ // 0 for @$words[1 .. $#$words];
-    $run->{wrong} = is_right($run, $bytes);
+    $run->{wrong} = wrong_of_end($run);
     $run->{wrong} //= "$run->{words}: printed" if $run->{printed};
     for (@made) { $run->{wrong} //= $run->{status} ? "$run->{words}: left $_" : "$run->{words}: made no $_" if !$run->{status} != !!-e; }
     return $run;

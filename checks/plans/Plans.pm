@@ -38,7 +38,7 @@ sub wrong_of_replacement {
     my ($plan, $bank, @others) = @_;
     write_bytes('over', read_bytes($bank));
     my $saving = [@$plan, '--script', 'over.edits'];
-    my $wrong = done(run_command(words_of($saving, 'over', @others, 'over', 'over.undo'), 'over.undo', 'over.edits'));
+    my $wrong = done(run_making(words_of($saving, 'over', @others, 'over', 'over.undo'), 'over.undo', 'over.edits'));
     $wrong //= same('over', 'out') && same('over.undo', 'undo') ? undef : 'another bank, or another undo script, where OUT is IN';
     return $wrong // (same('over.edits', 'edits') ? undef : 'saves another script than its dry run prints');
 }
