@@ -1,15 +1,21 @@
-# sfbank: `make demo` builds the program and runs it on the examples; `make test` proves and tests everything.
+# sfbank: `make demo` builds the program and runs it on the examples; `make test` proves and tests everything;
+# `make deb` makes a Debian package.
 
-.PHONY: build demo test bench clean install uninstall
+.PHONY: build demo test bench clean install uninstall deb build/x86-64-v2/sfbank
 
-# `make install` copies the program, its manual page and its completions below DESTDIR and PREFIX.
+# `make install` copies the program, its pages, its completions and the examples below DESTDIR and PREFIX.
 PREFIX = /usr/local
-PROGRAM = build/sfbank
+# A program to install or to pack instead of the built one.
+PROGRAM =
 BIN = $(DESTDIR)$(PREFIX)/bin
 MAN = $(DESTDIR)$(PREFIX)/share/man/man1
 BASH = $(DESTDIR)$(PREFIX)/share/bash-completion/completions
 ZSH = $(DESTDIR)$(PREFIX)/share/zsh/site-functions
 FISH = $(DESTDIR)$(PREFIX)/share/fish/vendor_completions.d
+DOC = $(DESTDIR)$(PREFIX)/share/doc/sfbank
+# The pages for users, and their pictures.
+PAGES = README.md docs/FAULTS.md docs/FORMAT.md docs/LISTING.md docs/LIVE.md docs/NOTES.md docs/SCRIPT.md \
+  docs/SOUND.md docs/TUTORIAL.md docs/ocarina.svg docs/organ.svg docs/plucks.svg
 
 build:
 	@scripts/build
@@ -27,15 +33,29 @@ clean:
 	@scripts/build --clean
 	rm -rf build crates/*/out
 
-install: $(PROGRAM)
-	install -D -m 755 "$(PROGRAM)" "$(BIN)/sfbank"
+install: $(or $(PROGRAM),build/sfbank)
+	install -D -m 755 "$<" "$(BIN)/sfbank"
+	install -D -m 755 scripts/notes_of_midi "$(BIN)/sfbank-notes-of-midi"
 	install -D -m 644 docs/sfbank.1 "$(MAN)/sfbank.1"
+	ln -sf sfbank.1 "$(MAN)/sfbank-notes-of-midi.1"
 	install -D -m 644 completions/sfbank.bash "$(BASH)/sfbank"
 	install -D -m 644 completions/_sfbank "$(ZSH)/_sfbank"
 	install -D -m 644 completions/sfbank.fish "$(FISH)/sfbank.fish"
+	install -d "$(DOC)/examples"
+	install -m 644 $(PAGES) "$(DOC)"
+	install -m 644 examples/* "$(DOC)/examples"
 
 uninstall:
-	rm -f "$(BIN)/sfbank" "$(MAN)/sfbank.1" "$(BASH)/sfbank" "$(ZSH)/_sfbank" "$(FISH)/sfbank.fish"
+	rm -f "$(BIN)/sfbank" "$(BIN)/sfbank-notes-of-midi" "$(MAN)/sfbank.1" "$(MAN)/sfbank-notes-of-midi.1"
+	rm -f "$(BASH)/sfbank" "$(ZSH)/_sfbank" "$(FISH)/sfbank.fish"
+	rm -rf "$(DOC)"
+
+deb: $(or $(PROGRAM),build/x86-64-v2/sfbank)
+	@scripts/deb "$<"
 
 build/sfbank:
 	@scripts/build
+
+# A package is for more processors than this one, so its program is not build/sfbank.
+build/x86-64-v2/sfbank:
+	@BUILD_FOLDER=build/x86-64-v2 CPU=x86-64-v2 scripts/build
