@@ -1,12 +1,21 @@
 -- Words of some commands, with what they ask for.
-use Rattle.std.proofs.Common.{◌≡◌, ◌∷◌, List, [], None, Option, Some, codes, inl, inr, option_map, refl, rules}
+use Rattle.std.proofs.Common.{◌≡◌, ◌∷◌, List, [], None, Option, Some, arith, codes, false, inl, inr, option_map, refl}
+use Rattle.std.proofs.Common.{rules, true}
 use Rattle.clap.specs.Words.{Text, all_of, fault_of, first_of, one_of, subcommand_of}
 use Rattle.clap.proofs.OnLiterals.{clap_on_literals}
 use Rattle.program_commands.specs.Commands.{sfbank_app}
-use Rattle.program_commands.specs.Words.{IsPreset, IsTakenPreset}
+use Rattle.program_commands.specs.declared.explain.Topic.TheVariants.{Generators, Name, Number}
+use Rattle.program_commands.specs.Words.{asks_for_explanations, IsPreset, IsTakenPreset, IsTopic}
 
 abbrev pub explain_words : List Text
 explain_words = codes "sfbank" ∷ codes "explain" ∷ codes "41" ∷ []
+
+abbrev pub explained_words : List Text
+explained_words =
+    codes "sfbank" ∷ codes "canon" ∷ codes "--explain" ∷ codes "in.sf2" ∷ codes "out.sf2" ∷ []
+
+abbrev pub odd_words : List Text
+odd_words = codes "sfbank" ∷ codes "canon" ∷ codes "--" ∷ codes "--explain" ∷ codes "out.sf2" ∷ []
 
 abbrev pub map_words : List Text
 map_words =
@@ -55,9 +64,33 @@ pub explain_used : command_used explain_words ≡ Some (codes "explain")
 unfolding clap_on_literals
 explain_used = refl
 
-pub explain_number : value_given explain_words (codes "N") ≡ Some (Some (codes "41"))
+pub explain_topic : word_given explain_words (codes "TOPIC") ≡ Some (Some (codes "41"))
 unfolding clap_on_literals
-explain_number = refl
+explain_topic = refl
+
+pub number_topic : IsTopic (codes "41") (Number 41)
+number_topic = search rules
+
+pub generators_topic : IsTopic (codes "generators") Generators
+generators_topic = refl
+
+-- a name, and a number of more than 32 bits
+pub name_topic : IsTopic (codes "bad-tag") (Name (record { ref_ptr = (0, 0); now = codes "bad-tag" }))
+name_topic = (refl, (λ same. absurd (grind arith)), (λ n decimal. absurd (grind arith)))
+
+pub large_topic : IsTopic (codes "4294967296") (Name (record { ref_ptr = (0, 0); now = codes "4294967296" }))
+large_topic = (refl, (λ same. absurd (grind arith)), (λ n decimal. absurd (omega (arith, decimal.1, decimal.2))))
+
+pub explanations_asked : asks_for_explanations explained_words ≡ true
+explanations_asked = refl
+
+-- after `--` a word is an operand
+pub explanations_not_asked : asks_for_explanations odd_words ≡ false
+explanations_not_asked = refl
+
+pub odd_input : word_given odd_words (codes "IN") ≡ Some (Some (codes "--explain"))
+unfolding clap_on_literals
+odd_input = refl
 
 pub map_level : word_given map_words (codes "LEVEL") ≡ Some (Some (codes "inst"))
 unfolding clap_on_literals
@@ -152,6 +185,14 @@ copy_no_name = refl
 pub explain_passes : fault_of sfbank_app explain_words ≡ []
 unfolding clap_on_literals
 explain_passes = refl
+
+pub explained_passes : fault_of sfbank_app explained_words ≡ []
+unfolding clap_on_literals
+explained_passes = refl
+
+pub odd_passes : fault_of sfbank_app odd_words ≡ []
+unfolding clap_on_literals
+odd_passes = refl
 
 pub map_passes : fault_of sfbank_app map_words ≡ []
 unfolding clap_on_literals

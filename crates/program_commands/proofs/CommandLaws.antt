@@ -10,7 +10,7 @@ use Rattle.std.proofs.lemmas.List.Sums.{fold-append}
 use Rattle.program_commands.specs.declared.commands.Entry.{Entry}
 use Rattle.program_commands.specs.declared.commands.Operand.{Operand}
 use Rattle.program_commands.specs.declared.commands.WordParsers.{WordParsers}
-use Rattle.program_commands.specs.Commands.{argument_of, command_in, rule_for, shape_for}
+use Rattle.program_commands.specs.Commands.{argument_of, command_in, explain_flag, rule_for, shape_for}
 
 -- the third of four or more conditions that hold is false where it is a `not`
 third : (a b g rest : Bool) → (a && (b && (not g && rest))) ≡ true → g ≡ false
@@ -24,10 +24,25 @@ pub adds_plain : (all sub new : Command) → (shape_of sub).is_plain ≡ true �
     → app_of new ≡ with_subcommand (app_of all) (shape_of sub)
 adds_plain all sub new plain adds = adds.shape (third _ _ _ _ plain)
 
+-- what clap reads of operands
+abbrev rules_of : WordParsers → List Operand → List Rule
+rules_of parsers operands = map (rule_for parsers) (map argument_of operands)
+
+-- a command with these rules
+abbrev app_of_rules : Text → List Rule → App
+app_of_rules name rules = record (new_app name) { top = record (new_app name).top { rules = rules } }
+
 -- a command with these operands
 abbrev pub command_so_far : WordParsers → Text → List Operand → App
-command_so_far parsers name operands =
-    record (new_app name) { top = shape_for parsers (name, map argument_of operands) }
+command_so_far parsers name operands = app_of_rules name (rules_of parsers operands)
+
+-- the command with all its operands and the flag of every command
+pub with_explain_flag : (parsers : WordParsers) (entry : Entry)
+    → with_rule (command_so_far parsers entry.name.now entry.operands.now) (rule_for parsers explain_flag)
+    ≡ record (new_app entry.name.now) { top = shape_for parsers (command_in entry) }
+with_explain_flag parsers entry =
+    sym (ap (app_of_rules entry.name.now)
+    (map-append (rule_for parsers) (map argument_of entry.operands.now) (explain_flag ∷ [])))
 
 -- the command with one operand more
 pub one_operand_more : (parsers : WordParsers) (name : Text) (operands : List Operand) (i : ℕ) (d : Operand)
@@ -35,13 +50,10 @@ pub one_operand_more : (parsers : WordParsers) (name : Text) (operands : List Op
     → with_rule (command_so_far parsers name (take i operands)) (rule_for parsers (argument_of (get_or operands i d)))
     ≡ command_so_far parsers name (take (i + 1) operands)
 one_operand_more parsers name operands i d lt =
-    let rules : List Operand → List Rule = λ xs. map (rule_for parsers) (map argument_of xs) in
-    let split : rules (take (i + 1) operands)
-    ≡ rules (take i operands) ++ rule_for parsers (argument_of (get_or operands i d)) ∷ [] =
+    let split : rules_of parsers (take (i + 1) operands)
+    ≡ rules_of parsers (take i operands) ++ rule_for parsers (argument_of (get_or operands i d)) ∷ [] =
     simp (take_more operands i d lt, map-append) in
-    let app : List Rule → App =
-    λ rs. record (new_app name) { top = record (new_app name).top { rules = rs } } in
-    sym (ap app split)
+    sym (ap (app_of_rules name) split)
 
 -- the shapes of commands of the code
 abbrev pub shapes_of : WordParsers → List Entry → List Shape

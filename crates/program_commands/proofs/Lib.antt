@@ -2,7 +2,9 @@ pub mod AppLaws
 pub mod CommandExamples
 pub mod CommandLaws
 pub mod FaultLaws
+mod FlagLaws
 mod GetterLaws
 mod PresetLaws
 mod RequestLaws
+mod TopicLaws
 pub mod WalkLaws

@@ -1,15 +1,16 @@
 -- Requests of the command that was used.
-use Rattle.std.proofs.Common.{◌≡◌, ◌∙◌, ◌⊎◌, ◌&&◌, ℕ, Bool, true, false, refl, IsSome, Result, Ok, Err, List, Option}
+use Rattle.std.proofs.Common.{◌≡◌, ◌∙◌, ◌⊎◌, ◌&&◌, Bool, true, false, refl, IsSome, Result, Ok, Err, List, Option}
 use Rattle.std.proofs.Common.{Some, None, codes, sym, subst, arith}
 use Rattle.clap.specs.Words.{App, HasKind, HasMatchesOf, Kinds, Row, Text, fault_of, is_simple_and_free}
 use Rattle.clap.specs.Words.{subcommand_of, subcommand_rows_of}
 use Rattle.clap.specs.declared.error.Error.{Error}
 use Rattle.clap.specs.declared.parser.matches.ArgMatches.{ArgMatches}
+use Rattle.program_commands.specs.declared.explain.Topic.{Topic}
 use Rattle.program_commands.specs.declared.words.Request.{Request}
 use Rattle.program_commands.specs.declared.words.Request.TheVariants.{Explain}
 use Rattle.program_commands.specs.Commands.{IsSfbankApp, app_with, parsers_of, sfbank_app}
-use Rattle.program_commands.specs.Words.{AreGiven, AsksFor, AsksForNone, FailsByFault, FindsOne, IsGiven, IsParsedBy}
-use Rattle.program_commands.specs.Words.{Number, command_of, operands_of}
+use Rattle.program_commands.specs.Words.{AreGiven, AsksFor, AsksForNone, FailsByFault, FindsOne, IsParsedBy}
+use Rattle.program_commands.specs.Words.{command_of, operands_of, topic_operands}
 use Rattle.program_commands.proofs.AppLaws.{fault_same, free_app, simple_app, subcommand_same}
 
 -- a request is asked for if its command was used and the words give its operands their values
@@ -19,14 +20,14 @@ asks rows {name} {request} {result} is command given =
     let of_result : Request → Type 0 = λ r. AsksFor (Some (name, rows)) r in
     subst of_result (sym is) (command, given)
 
--- if `explain` was used and any request is asked for, the words give a number
+-- if `explain` was used and any request is asked for, the words give a topic
 pub explained : (rows : List Row) {name : Text} → name ≡ codes "explain" → (request : Request)
-    → AsksFor (Some (name, rows)) request → (n : ℕ) × IsGiven rows (Number (codes "N") 32 n)
+    → AsksFor (Some (name, rows)) request → (topic : Topic) × AreGiven rows (topic_operands topic)
 explained rows {name} command request asked = go request (sym command) asked
   where
     go : (r : Request) → codes "explain" ≡ name → AsksFor (Some (name, rows)) r
-        → (n : ℕ) × IsGiven rows (Number (codes "N") 32 n)
-    go (Explain n) is asked = (n, asked.1.0)
+        → (topic : Topic) × AreGiven rows (topic_operands topic)
+    go (Explain topic) is asked = (topic, asked.1)
     go _ is asked = absurd (grind arith)
 
 -- what a command with the app of sfbank is asked for, the words ask sfbank for

@@ -10,9 +10,10 @@ use Rattle.program_commands.specs.declared.commands.WordParsers.{WordParsers}
 use Rattle.program_commands.specs.declared.commands.Operand as operand
 use Rattle.program_commands.specs.declared.commands.Operand.TheVariants as variant
 
--- an argument of a command with its name: a path, a number of 32 bits, a level and the word for a member are required;
--- a flag, a number of 16 bits with its default, a word and words given one by one are options
+-- an argument of a command with its name: any word, a path, a number of 32 bits, a level and the word for a member are
+-- required; a flag, a number of 16 bits with its default, a word and words given one by one are options
 pub data Argument : Type 0 where
+  Word : Text → Argument
   Path : Text → Argument
   Number : Text → Argument
   Level : Text → Argument
@@ -37,6 +38,10 @@ level_words = codes "preset" ∷ codes "inst" ∷ []
 -- the words for a preset, an instrument and a sample
 abbrev pub member_words : List Text
 member_words = codes "preset" ∷ codes "inst" ∷ codes "sample" ∷ []
+
+-- the flag of every command
+abbrev pub explain_flag : Argument
+explain_flag = Flag (codes "explain")
 
 -- arguments of more than one command, or with long names
 abbrev pub input_path : Argument
@@ -83,7 +88,7 @@ commands_to_live =
     ∷ (codes "canon", input_path ∷ output_path ∷ [])
     ∷ (codes "copy", copy_arguments)
     ∷ (codes "diff", force_flag ∷ Path (codes "A") ∷ Path (codes "B") ∷ output_path ∷ [])
-    ∷ (codes "explain", Number (codes "N") ∷ [])
+    ∷ (codes "explain", Word (codes "TOPIC") ∷ [])
     ∷ (codes "import", force_flag ∷ input_path ∷ Path (codes "WAVE") ∷ output_path ∷ undo_path ∷ [])
     ∷ (codes "keep", Single (codes "notes") ∷ Flag (codes "zones") ∷ Repeated (codes "preset") ∷ plan_arguments)
     ∷ (codes "live", force_flag ∷ input_path ∷ Path (codes "PCM") ∷ [])
@@ -121,6 +126,7 @@ rule_for_option name = record (new_rule name) { long = Some name }
 
 -- what clap reads of an argument
 abbrev pub rule_for : WordParsers → Argument → Rule
+rule_for parsers (Word name) = rule_for_required name
 rule_for parsers (Path name) = rule_for_required name
 rule_for parsers (Number name) =
     record (rule_for_required name) { parser = Some (number_parser 32) }
@@ -136,10 +142,10 @@ rule_for parsers (Small name default) = record (rule_for_option name) {
 rule_for parsers (Single name) = record (rule_for_option name) { action = Some Set; value_names = 1 }
 rule_for parsers (Repeated name) = record (rule_for_option name) { action = Some Append; value_names = 1 }
 
--- what clap reads of a command
+-- what clap reads of a command: its arguments and the flag of every command
 abbrev pub shape_for : WordParsers → Text × List Argument → Shape
 shape_for parsers command =
-    record (new_app command.0).top { rules = map (rule_for parsers) command.1 }
+    record (new_app command.0).top { rules = map (rule_for parsers) (command.1 ++ explain_flag ∷ []) }
 
 -- what clap reads of the program before its commands
 abbrev pub program_app : App
@@ -179,6 +185,7 @@ IsSfbankApp app =
 
 -- an operand of the code as an argument
 abbrev pub argument_of : operand.Operand → Argument
+argument_of (variant.Word name help) = Word name.now
 argument_of (variant.Path name help) = Path name.now
 argument_of (variant.Number name help) = Number name.now
 argument_of (variant.Level name help) = Level name.now

@@ -1,8 +1,10 @@
 -- The operands of each request, and when the words of a command ask for it.
-use Rattle.std.specs.Prelude.{◌≡◌, ◌≢◌, ◌<◌, ◌^◌, ℕ, Bool, true, false, List, [], ◌∷◌, ◌++◌, codes, length}
+use Rattle.std.specs.Prelude.{◌≡◌, ◌≢◌, ◌<◌, ◌^◌, ℕ, Bool, true, false, not, List, [], ◌∷◌, ◌++◌, codes, length}
+use Rattle.std.specs.Prelude.{take_while}
 use Rattle.std.specs.Prelude.{◌⊎◌, MatchResult, Option, Result, Some, None, IfSome, IsSome}
 use Rattle.std.specs.Borrow.{Bor}
-use Rattle.std.specs.List.{AllZip}
+use Rattle.std.specs.List.{AllZip, list_any}
+use Rattle.std.specs.Str.{bytes_eq}
 use Rattle.std.specs.Str.Parse.{IsNumeral, digits_value, without_leading_plus}
 use Rattle.clap.specs.Words.{App, HasKind, Row, Text, all_of, fault_of, first_of, found_of, is_simple, one_of, rows_of}
 use Rattle.clap.specs.Words.{subcommand_of}
@@ -15,6 +17,8 @@ use Rattle.plan_presets.specs.declared.numbers.CopiedMember.{CopiedMember}
 use Rattle.plan_presets.specs.declared.numbers.CopiedMember.TheVariants as copied
 use Rattle.plan_presets.specs.declared.numbers.PresetNumbers.{PresetNumbers}
 use Rattle.plan_presets.specs.declared.numbers.TakenPreset.{TakenPreset}
+use Rattle.program_commands.specs.declared.explain.Topic.{Topic}
+use Rattle.program_commands.specs.declared.explain.Topic.TheVariants as subject
 use Rattle.program_commands.specs.declared.plans.CopyPaths.{CopyPaths}
 use Rattle.program_commands.specs.declared.plans.KeepPaths.{KeepPaths}
 use Rattle.program_commands.specs.declared.plans.Kept.{Kept}
@@ -34,7 +38,7 @@ use Rattle.program_commands.specs.declared.words.Forms.TheVariants.{Every, Neutr
 
 -- an operand of a request with its name and its value: a word, a name of a member, a number with its width in bits, a
 -- flag, a flag that is not given, an option that is not used, an option and a flag of which at most one is given, the
--- numbers of a preset, presets, or presets to copy
+-- numbers of a preset, presets, presets to copy, or a topic of `explain`
 pub data Operand : Type 0 where
   Word : Text → Text → Operand
   Name : Text → List ℕ → Operand
@@ -46,6 +50,7 @@ pub data Operand : Type 0 where
   Numbers : Text → PresetNumbers → Operand
   Presets : Text → List PresetNumbers → Operand
   Taken : Text → List TakenPreset → Operand
+  About : Text → Topic → Operand
 
 -- whether only neutral forms are accepted
 abbrev pub is_neutral : Forms → Bool
@@ -154,6 +159,10 @@ take_operands take =
 abbrev pub tidy_operands : TidyPaths → List Operand
 tidy_operands tidy = plan_operands tidy.paths ++ Flag (codes "merge") tidy.merge ∷ []
 
+-- the operand of `explain`
+abbrev pub topic_operands : Topic → List Operand
+topic_operands topic = About (codes "TOPIC") topic ∷ []
+
 -- the operands of each request
 abbrev pub operands_of : Request → List Operand
 operands_of (Apply paths) =
@@ -172,7 +181,7 @@ operands_of (Diff paths) =
     ∷ Word (codes "OUT") paths.out.now
     ∷ Flag (codes "force") paths.force
     ∷ []
-operands_of (Explain n) = Number (codes "N") 32 n ∷ []
+operands_of (Explain topic) = topic_operands topic
 operands_of (Import paths) =
     Word (codes "IN") paths.input.now
     ∷ Word (codes "WAVE") paths.wave.now
@@ -222,7 +231,7 @@ command_of (Apply paths) = codes "apply"
 command_of (Canon paths) = codes "canon"
 command_of (Copy copy) = codes "copy"
 command_of (Diff paths) = codes "diff"
-command_of (Explain n) = codes "explain"
+command_of (Explain topic) = codes "explain"
 command_of (Import paths) = codes "import"
 command_of (Keep keep) = codes "keep"
 command_of (Live paths) = codes "live"
@@ -244,6 +253,17 @@ rows_in matches = rows_of (found_of matches)
 abbrev pub IsDecimal : ℕ → Text → ℕ → Type 0
 IsDecimal bits text n =
     IsNumeral 10 (without_leading_plus text) × (n ≡ digits_value 10 (without_leading_plus text)) × (n < 2 ^ bits)
+
+-- the word for the generators
+abbrev pub generators_word : Text
+generators_word = codes "generators"
+
+-- the word is this topic: the word for the generators, the numeral of a number of 32 bits, or any other word, a name
+abbrev pub IsTopic : Text → Topic → Type 0
+IsTopic text (subject.Number n) = IsDecimal 32 text n
+IsTopic text (subject.Name name) =
+    (name.now ≡ text) × (text ≢ generators_word) × ((n : ℕ) → IsDecimal 32 text n → ⊥)
+IsTopic text subject.Generators = text ≡ generators_word
 
 -- the code of the colon
 abbrev pub colon : ℕ
@@ -292,6 +312,7 @@ IsGiven rows (NotBoth option flag) = (first_of option rows ≡ None) ⊎ (first_
 IsGiven rows (Numbers name numbers) = (text : Text) × (first_of name rows ≡ Some text) × IsPreset text numbers
 IsGiven rows (Presets name presets) = AreValues IsPreset rows name presets
 IsGiven rows (Taken name presets) = AreValues IsTakenPreset rows name presets
+IsGiven rows (About name topic) = (text : Text) × (first_of name rows ≡ Some text) × IsTopic text topic
 
 -- the words give each operand its value
 abbrev pub AreGiven : List Row → List Operand → Type 0
@@ -321,3 +342,8 @@ abbrev pub FailsByFault : App → List Text → Result Request Error → Type 0
 FailsByFault app words result = MatchResult result
     (λ request. fault_of app words ≡ [])
     (λ e. HasKind (fault_of app words) e ⊎ AsksForNone (subcommand_of app words))
+
+-- whether the words ask for explanations of faults: `--explain` is one of those before the first `--`
+abbrev pub asks_for_explanations : List Text → Bool
+asks_for_explanations words =
+    list_any (λ word. bytes_eq word (codes "--explain")) (take_while (λ word. not (bytes_eq word (codes "--"))) words)

@@ -31,7 +31,7 @@ struct WordParsers<'a> {
     members: ValueParser<'a>,
 }
 
-/// A command, with its operands in the order of its words.
+/// A command, with its operands in the order of its words. `--explain`, which every command has, isn't among them.
 struct Entry {
     name: &'static str,
     about: &'static str,
@@ -42,6 +42,8 @@ struct Entry {
 /// An operand of a command, with its name and its help text.
 #[derive(Clone, Copy)]
 enum Operand {
+    /// A word, required.
+    Word(&'static str, &'static str),
     /// A path, required.
     Path(&'static str, &'static str),
     /// A 32-bit number, required.
@@ -68,6 +70,12 @@ const UNDO_FORCE: Operand = Operand::Flag("force", "Writes UNDO even if a bank i
 
 /// The flag that lets UNDO and the script of the edits replace banks.
 const PLAN_FORCE: Operand = Operand::Flag("force", "Writes UNDO and FILE even if a bank is there");
+
+/// The flag of every command.
+const EXPLAIN: Operand = Operand::Flag(
+    "explain",
+    "Follows the line of a fault by its explanation, as on a terminal",
+);
 
 /// The flag that saves nothing.
 const DRY_RUN: Operand = Operand::Flag("dry-run", "Prints the script of edits, and saves nothing");
@@ -142,8 +150,11 @@ static COMMANDS_TO_LIVE: [Entry; 8] = [
     },
     Entry {
         name: "explain",
-        about: "Explains a fault or a refusal, and what to do about it",
-        operands: &[Operand::Number("N", "Its number in the line of the fault")],
+        about: "Explains a fault or a refusal and what to do about it, or lists the generators",
+        operands: &[Operand::Word(
+            "TOPIC",
+            "The number or the name in the line of a fault, or: generators",
+        )],
         example: "Example: sfbank explain 41",
     },
     Entry {
@@ -234,7 +245,7 @@ static COMMANDS_FROM_MAP: [Entry; 9] = [
             SCRIPT,
             PLAN_FORCE,
             Operand::Path("IN", "The bank to add to"),
-            Operand::Path("FROM", "The bank to add, of the same minor version"),
+            Operand::Path("FROM", "The bank to add"),
             Operand::Path("OUT", "Where the larger bank is written; may be IN"),
             Operand::Path("UNDO", "Where the undo script is written"),
         ],
@@ -306,7 +317,7 @@ static COMMANDS_FROM_MAP: [Entry; 9] = [
             SCRIPT,
             PLAN_FORCE,
             Operand::Path("IN", "The bank to copy into"),
-            Operand::Path("FROM", "The bank to copy from, of the same minor version"),
+            Operand::Path("FROM", "The bank to copy from"),
             Operand::Path("OUT", "Where the larger bank is written; may be IN"),
             Operand::Path("UNDO", "Where the undo script is written"),
         ],
@@ -409,7 +420,7 @@ fn command_of<'a>(
     for operand in entry.operands {
         command = command.arg(arg_of(alloc, *operand, parsers))?;
     }
-    Ok(command)
+    command.arg(arg_of(alloc, EXPLAIN, parsers))
 }
 
 fn arg_of<'a>(alloc: Global, operand: Operand, parsers: WordParsers<'a>) -> Arg<'a>
@@ -417,6 +428,7 @@ fn arg_of<'a>(alloc: Global, operand: Operand, parsers: WordParsers<'a>) -> Arg<
     ensures local { result.global ≡ false }
 {
     match operand {
+        Operand::Word(name, help) => required(alloc, name, help),
         Operand::Path(name, help) => required(alloc, name, help),
         Operand::Number(name, help) => required(alloc, name, help).value_parser(value_parser!(u32)),
         Operand::Level(name, help) => required(alloc, name, help).value_parser(parsers.levels),

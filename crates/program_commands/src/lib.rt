@@ -2,11 +2,13 @@
 #![tactic(auto)]
 
 mod commands;
+mod explain;
 mod names;
 mod plans;
 mod presets;
 mod words;
 
+pub use explain::{Topic, asks_for_explanations};
 pub use names::recording_name;
 pub use plans::{CopyPaths, KeepPaths, Kept, MergePaths, PlanPaths, TakePaths, TidyPaths, Zones};
 pub use words::{

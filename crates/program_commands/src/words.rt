@@ -7,6 +7,7 @@ ghost use Rattle.program_commands.specs.Words.{rows_in, AreGiven, AsksFor, Fails
 ghost use Rattle.program_commands.specs.Words.{IsParsedBy};
 
 use crate::commands::sfbank_command;
+use crate::explain::{Topic, read_topic};
 use crate::plans::{
     CopyPaths, KeepPaths, MergePaths, TakePaths, TidyPaths, read_copy, read_keep, read_merge,
     read_take, read_tidy, saves_in_dry_run,
@@ -28,8 +29,8 @@ pub enum Request<'a> {
     Copy(CopyPaths<'a>),
     /// Write a script that turns one bank into another.
     Diff(DiffPaths<'a>),
-    /// Explain the fault or refusal with this number.
-    Explain(u32),
+    /// Explain a fault or refusal, or list the generators.
+    Explain(Topic<'a>),
     /// Add a recording to a bank.
     Import(ImportPaths<'a>),
     /// Remove all that some presets don't need.
@@ -287,7 +288,7 @@ fn request_of_command<'a>(name: &str, words: &ArgMatches<'a>) -> Option<Request<
         "canon" => Request::Canon(read_canon(words)?),
         "copy" => return request_to_copy(words),
         "diff" => Request::Diff(read_diff(words)?),
-        "explain" => Request::Explain(read_number(words, "N")?),
+        "explain" => Request::Explain(read_topic(words)?),
         "import" => Request::Import(read_import(words)?),
         "live" => Request::Live(read_live(words)?),
         "map" => Request::Map(read_map(words)?),

@@ -1,12 +1,12 @@
-use Rattle.std.proofs.Common.{Some, codes, refl}
-use Rattle.program_commands.specs.Words.{AsksFor, IsGiven, Number, rows_in}
+use Rattle.std.proofs.Common.{Some, refl}
+use Rattle.program_commands.specs.Words.{AreGiven, AsksFor, rows_in, topic_operands}
 use Rattle.program_commands.proofs.GetterLaws.{none_found}
 use Rattle.program_commands.proofs.RequestLaws.{asks, explained}
 use Rattle.program_commands.proofs.words.request_of_command.Goals as goal
 use Rattle.program_commands.proofs.words.request_of_command.Goals.{in-apply+in_ok-read_apply-in-apply}
 use Rattle.program_commands.proofs.words.request_of_command.Goals.{in-canon+in_ok-read_canon-in-canon}
 use Rattle.program_commands.proofs.words.request_of_command.Goals.{in-diff+in_ok-read_diff-in-diff}
-use Rattle.program_commands.proofs.words.request_of_command.Goals.{in-explain+in_ok-read_number-in-explain}
+use Rattle.program_commands.proofs.words.request_of_command.Goals.{in-explain+in_ok-read_topic-in-explain}
 use Rattle.program_commands.proofs.words.request_of_command.Goals.{in-import+in_ok-read_import-in-import}
 use Rattle.program_commands.proofs.words.request_of_command.Goals.{in-live+in_ok-read_live-in-live}
 use Rattle.program_commands.proofs.words.request_of_command.Goals.{in-map+in_ok-read_map-in-map}
@@ -18,14 +18,14 @@ use Rattle.program_commands.proofs.words.request_of_command.Goals.{in-show+in_ok
 use Rattle.program_commands.proofs.words.request_of_command.Goals.{in-tidy+in_ok-read_tidy-in-tidy}
 use Rattle.program_commands.proofs.words.request_of_command.Goals.{in-wave+in_ok-read_wave-in-wave}
 
--- No request of `explain` is asked for without a number.
-pub returns-in_err-read_number-in-explain : goal.returns-in_err-read_number-in-explain
-returns-in_err-read_number-in-explain c =
-    none_found (AsksFor (Some (c.args.name.now, rows_in c.args.words.now)))
-    (λ n. IsGiven (rows_in c.args.words.now) (Number (codes "N") 32 n))
-    c.from_residual-in_err-read_number-in-explain.result c.read_number.result
-    c.from_residual-in_err-read_number-in-explain.ensures c.in_err-read_number-in-explain.was c.read_number.ensures
-    (explained (rows_in c.args.words.now) c.in-explain.is)
+-- No request of `explain` is asked for without a topic.
+pub returns-in_err-read_topic-in-explain : goal.returns-in_err-read_topic-in-explain
+returns-in_err-read_topic-in-explain c =
+    let rows = rows_in c.args.words.now in
+    none_found (AsksFor (Some (c.args.name.now, rows))) (λ topic. AreGiven rows (topic_operands topic))
+    c.from_residual-in_err-read_topic-in-explain.result c.read_topic.result
+    c.from_residual-in_err-read_topic-in-explain.ensures c.in_err-read_topic-in-explain.was c.read_topic.ensures
+    (explained rows c.in-explain.is)
 
 -- Each arm reads the operands of its own command.
 pub returns : goal.returns
@@ -37,8 +37,8 @@ returns c = let rows = rows_in c.args.words.now in (
         asks rows w.result-is w.in-canon.is w.in_ok-read_canon-in-canon.ensures.0
     | in-diff+in_ok-read_diff-in-diff w ↦
         asks rows w.result-is w.in-diff.is w.in_ok-read_diff-in-diff.ensures.0
-    | in-explain+in_ok-read_number-in-explain w ↦
-        asks rows w.result-is w.in-explain.is (w.in_ok-read_number-in-explain.ensures.0, tt)
+    | in-explain+in_ok-read_topic-in-explain w ↦
+        asks rows w.result-is w.in-explain.is w.in_ok-read_topic-in-explain.ensures.0
     | in-import+in_ok-read_import-in-import w ↦
         asks rows w.result-is w.in-import.is w.in_ok-read_import-in-import.ensures.0
     | in-live+in_ok-read_live-in-live w ↦
