@@ -1,1 +1,2 @@
 mod AllExplained
+mod ExplanationsOfName

@@ -1,5 +1,8 @@
 -- The number and name of each fault and refusal, and the text that explains one.
-use Rattle.std.specs.Prelude.{◌≡◌, ℕ, List, ◌++◌, codes, decimal}
+use Rattle.std.specs.Prelude.{◌≡◌, ℕ, List, ◌++◌, Bool, IsTrue, All, Any, map, codes, decimal}
+use Rattle.std.specs.List.{join_by}
+use Rattle.std.specs.List.Sorted.{IsStrictlyIncreasing}
+use Rattle.std.specs.Str.{str_eq_ignore_ascii_case}
 use Rattle.bank_format.specs.FaultNames as reading
 use Rattle.script_tokens.specs.Faults as scripts
 use Rattle.script_notes.specs.Faults as notes
@@ -45,6 +48,25 @@ name_of PlanFailed = codes "PlanFailed"
 abbrev pub IsOfNumber : ℕ → ℕ → List ℕ → Type 0
 IsOfNumber asked number name = (code : FaultCode) × (number_of code ≡ asked) × (number ≡ asked) × (name ≡ name_of code)
 
+-- whether a fault or refusal has this name, but for the case of ASCII letters
+abbrev pub is_named : List ℕ → FaultCode → Bool
+is_named name code = str_eq_ignore_ascii_case (name_of code) name
+
+-- the explanation has the number and the name of this fault or refusal
+abbrev pub Explains : FaultCode → Explanation → Type 0
+Explains code e = (e.number ≡ number_of code) × (e.name.now ≡ name_of code)
+
+-- one explanation of each fault or refusal, in their order
+pub record ExplainInTurn (codes : List FaultCode) (found : List Explanation) : Type 0 where
+  pub numbers : map (λ e. e.number) found ≡ map number_of codes
+  pub names : map (λ e. e.name.now) found ≡ map name_of codes
+
+-- the explanations of exactly the faults and refusals with this name, each number once
+pub record AreOfName (name : List ℕ) (found : List Explanation) : Type 0 where
+  pub sound : All (λ e. (code : FaultCode) × IsTrue (is_named name code) × Explains code e) found
+  pub complete : (code : FaultCode) → IsTrue (is_named name code) → Any (Explains code) found
+  pub rising : IsStrictlyIncreasing (map (λ e. e.number) found)
+
 -- a text and a line feed
 abbrev pub line_of : List ℕ → List ℕ
 line_of text = text ++ codes "\n"
@@ -53,3 +75,11 @@ line_of text = text ++ codes "\n"
 abbrev pub explanation_text : Explanation → List ℕ
 explanation_text e =
     decimal e.number ++ (codes " " ++ (line_of e.name.now ++ (line_of e.meaning.now ++ line_of e.what_to_do.now)))
+
+-- an empty line and an explanation
+abbrev pub next_text : Explanation → List ℕ
+next_text e = codes "\n" ++ explanation_text e
+
+-- explanations, with an empty line between two
+abbrev pub explanations_text : List Explanation → List ℕ
+explanations_text = join_by explanation_text (codes "\n")

@@ -1,1 +1,3 @@
 pub mod Explanations
+pub mod GeneratorTable
+pub mod GeneratorLaws

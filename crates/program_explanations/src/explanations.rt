@@ -1,7 +1,8 @@
 //! The explanation of each fault and refusal.
-ghost use Rattle.std.specs.Prelude.{◌≡◌, ◌==◌, ℕ, IfSome, IsSome, find};
+ghost use Rattle.std.specs.Prelude.{◌≡◌, ◌==◌, ℕ, IfOk, IfSome, IsSome, filter, find, flat_map};
 ghost use Rattle.base_outputs.specs.Output.{Puts};
 ghost use Rattle.program_explanations.specs.Explanations.{number_of, name_of, IsOfNumber, explanation_text, line_of};
+ghost use Rattle.program_explanations.specs.Explanations.{is_named, AreOfName, ExplainInTurn, next_text, explanations_text};
 ghost use Rattle.program_explanations.specs.declared.explanations.FaultCode.{FaultCode};
 
 use bank_format::ReadFault;
@@ -13,6 +14,8 @@ use itoa::Buffer;
 use plan_presets::{PresetFault, PresetNumbers};
 use script_notes::NoteFault;
 use script_tokens::ScriptFault;
+use sf_base::OutOfMemory;
+use std::alloc::Global;
 use std::io::Write;
 use wave_file::WaveFault;
 
@@ -56,10 +59,14 @@ pub struct Explanation {
     pub what_to_do: &'static str,
 }
 
+/// Explanations, with an empty line between two.
+#[derive(Clone, Copy)]
+pub struct Explanations<'t>(pub &'t [Explanation]);
+
 /// Numbers of no special preset.
 const ANY_NUMBERS: PresetNumbers = PresetNumbers { bank: 0, number: 0 };
 
-/// One fault or refusal for each number. The fields of a variant have any value.
+/// One fault or refusal for each number, in the order of the numbers. The fields of a variant have any value.
 static ALL: [FaultCode; 66] = [
     FaultCode::Reading(ReadFault::NotRiff),
     FaultCode::Reading(ReadFault::NotSfbk),
@@ -182,6 +189,13 @@ impl FaultCode {
         }
     }
 
+    /// Whether it has this name, but for the case of ASCII letters.
+    fn is_named(self, name: &str) -> bool
+        ensures { result ≡ is_named name.now self }
+    {
+        self.name().eq_ignore_ascii_case(name)
+    }
+
     /// Returns what it means, and what to do about it.
     fn texts(self) -> (&'static str, &'static str) {
         match self {
@@ -231,6 +245,30 @@ fn of_number(all: &[FaultCode], number: u32) -> Option<FaultCode>
         .find(|code| code.number() as u32 == number)
 }
 
+/// Returns the explanations of all faults and refusals with this name, in the order of their numbers: `Truncated` is a
+/// fault of banks and of WAVE files. Capital and small ASCII letters are not distinguished.
+pub fn explain_name(alloc: Global, name: &str) -> Result<Vec<Explanation>, OutOfMemory>
+    ensures { IfOk result (λ found. AreOfName name.now found.items) }
+{
+    explain_named(alloc, &ALL, name)
+}
+
+fn explain_named(
+    alloc: Global,
+    all: &[FaultCode],
+    name: &str,
+) -> Result<Vec<Explanation>, OutOfMemory>
+    ensures { IfOk result (λ found. ExplainInTurn (filter (is_named name.now) all.now) found.items) }
+{
+    let mut found = Vec::new(alloc);
+    for code in all {
+        if code.is_named(name) {
+            found.push(code.explanation())?;
+        }
+    }
+    Ok(found)
+}
+
 /// Three lines: the number and name, the meaning, and what to do.
 impl Text for Explanation {
     ghost bytes = { explanation_text };
@@ -238,6 +276,43 @@ impl Text for Explanation {
     fn put<W: Write>(&self, output: &mut Output<'_, W>) {
         put_explanation(self, output);
     }
+}
+
+/// The three lines of each, with an empty line between two.
+impl<'t> Text for Explanations<'t> {
+    ghost bytes = { λ explanations. explanations_text explanations.0.now };
+
+    fn put<W: Write>(&self, output: &mut Output<'_, W>) {
+        put_explanations(self.0, output);
+    }
+}
+
+/// Puts explanations into `output`, with an empty line between two.
+fn put_explanations<W: Write>(explanations: &[Explanation], output: &mut Output<'_, W>)
+    ensures { Puts W.contents output.old output.new (explanations_text explanations.now) }
+{
+    if let Some((first, others)) = explanations.split_first() {
+        put_explanation(first, output);
+        put_others(others, output);
+    }
+}
+
+/// Puts explanations into `output`, each after an empty line.
+fn put_others<W: Write>(others: &[Explanation], output: &mut Output<'_, W>)
+    ensures { Puts W.contents output.old output.new (flat_map next_text others.now) }
+{
+    for other in others {
+        put_next(other, output);
+    }
+}
+
+/// Puts an empty line and an explanation into `output`.
+#[tactic(auto, using(base_outputs::proofs::OutputLaws::puts_then))]
+fn put_next<W: Write>(next: &Explanation, output: &mut Output<'_, W>)
+    ensures { Puts W.contents output.old output.new (next_text next.now) }
+{
+    output.put(b"\n");
+    put_explanation(next, output);
 }
 
 /// Puts the three lines of an explanation into `output`.
@@ -254,7 +329,7 @@ fn put_explanation<W: Write>(explanation: &Explanation, output: &mut Output<'_, 
 
 /// Puts a text and a line feed into `output`.
 #[tactic(auto, using(base_outputs::proofs::OutputLaws::puts_then))]
-fn put_line<W: Write>(text: &str, output: &mut Output<'_, W>)
+pub(crate) fn put_line<W: Write>(text: &str, output: &mut Output<'_, W>)
     ensures { Puts W.contents output.old output.new (line_of text.now) }
 {
     output.put(text.as_bytes());
@@ -265,7 +340,7 @@ fn of_reading(fault: ReadFault) -> (&'static str, &'static str) {
     match fault {
         ReadFault::NotRiff => (
             "The file does not begin with RIFF, as each bank does.",
-            "Check the path; unpack a packed file, such as .sfark.",
+            "Check the order of the files; unpack a packed file, such as .sfark.",
         ),
         ReadFault::NotSfbk => (
             "It is another RIFF file, such as WAVE or DLS.",
@@ -305,11 +380,11 @@ fn of_reading(fault: ReadFault) -> (&'static str, &'static str) {
         ),
         ReadFault::BadInstrument => (
             "A preset zone names an instrument that the bank does not have.",
-            "Correct it in the editor that made the bank.",
+            "Correct it in the bank's editor.",
         ),
         ReadFault::BadSample => (
             "An instrument zone names a sample that the bank does not have.",
-            "Correct it in the editor that made the bank.",
+            "Correct it in the bank's editor.",
         ),
         ReadFault::SampleRange => (
             "A sample ends before its start or after the data.",
@@ -321,7 +396,7 @@ fn of_reading(fault: ReadFault) -> (&'static str, &'static str) {
         ),
         ReadFault::RomSample => (
             "A sample is in the ROM of a sound card, not in the file.",
-            "Remove it in the editor that made the bank.",
+            "Remove it in the bank's editor.",
         ),
         ReadFault::OddSamples => (
             "The sample data has an odd number of bytes; each point has two.",
@@ -338,15 +413,15 @@ fn of_script(fault: ScriptFault) -> (&'static str, &'static str) {
     match fault {
         ScriptFault::Syntax(_) => (
             "A word of the line is wrong, missing or left over.",
-            "Compare the line with its form in SCRIPT.md.",
+            "One edit a line; blanks around braces; names in quotes: see SCRIPT.md.",
         ),
         ScriptFault::Number(_) => (
             "A number of the line is malformed, or out of range.",
-            "Compare the line with its form in SCRIPT.md.",
+            "Whole numbers; ranges as 0..59; generators: `sfbank explain generators`.",
         ),
         ScriptFault::Literal(_) => (
             "A text in quotes or hex digits after x is malformed, or of a wrong length.",
-            "Names have at most 20 bytes, points two bytes each; see SCRIPT.md.",
+            "Names: 20 ASCII characters at most, or x and hex digits (SCRIPT.md).",
         ),
     }
 }
@@ -355,7 +430,7 @@ fn of_notes(fault: NoteFault) -> (&'static str, &'static str) {
     match fault {
         NoteFault::BadNote(_) => (
             "The line is not six numbers in their ranges.",
-            "Write start, length, bank, preset, key and velocity (NOTES.md).",
+            "Whole numbers: start and length in frames, bank, preset, key, velocity (NOTES.md).",
         ),
         NoteFault::TooManyNotes(_) => (
             "There are more than 65,535 notes.",
@@ -460,11 +535,11 @@ fn of_refusal(why: Refusal) -> (&'static str, &'static str) {
         ),
         Refusal::NothingToUndo => (
             "All edits of the session are undone already.",
-            "There is nothing to do.",
+            "Nothing to do.",
         ),
         Refusal::NothingToRedo => (
             "No edit was undone, or another edit followed.",
-            "There is nothing to do.",
+            "Nothing to do.",
         ),
         Refusal::GroupRefused(..) => (
             "An edit of the group is refused, so none is made; its index, from 0, and its cause follow.",
@@ -477,7 +552,7 @@ fn of_cause(cause: Cause) -> (&'static str, &'static str) {
     match cause {
         Cause::NoSuchPreset => (
             "The bank has no preset of this number.",
-            "See `sfbank show`; numbers begin at 0.",
+            "Use its index in `sfbank show`, not its MIDI number.",
         ),
         Cause::NoSuchInstrument => (
             "The bank has no instrument of this number.",
@@ -497,7 +572,7 @@ fn of_cause(cause: Cause) -> (&'static str, &'static str) {
         ),
         Cause::BadPlace => (
             "The index is after the end of the list.",
-            "Use at most the length of the list; for a move, one less.",
+            "At most the list's length; for a move, one less.",
         ),
         Cause::InUse => (
             "A zone uses it, or another sample links to it.",
@@ -507,21 +582,24 @@ fn of_cause(cause: Cause) -> (&'static str, &'static str) {
             "The generator is not allowed there (SoundFont 2.04, section 8.1.2), or has its own edits.",
             "Use set-target for an instrument or a sample; FORMAT.md lists what each level allows.",
         ),
-        Cause::NotSet => ("The generator is not set there.", "Remove the line."),
+        Cause::NotSet => (
+            "The generator is not set there.",
+            "Remove the line; `sfbank show --zones` lists what is set.",
+        ),
         Cause::BadRange => (
-            "The low end of the range is above the high end, or an end is above 127.",
+            "The low end is above the high end, or an end is above 127.",
             "Write LO..HI, from 0 to 127.",
         ),
         Cause::SplitOutside => (
             "The split is not inside the range of the zone.",
-            "Split above the low end and not above the high end.",
+            "Split above the low end, at most at the high.",
         ),
         Cause::NotJoinable => (
             "The zones differ in more than their ranges, or the ranges do not meet.",
             "Make the zones equal first, or keep both.",
         ),
         Cause::LinkedModulator => (
-            "Modulators of the zone are linked by their numbers, which the edit would change.",
+            "Linked modulators of the zone hold numbers that the edit would change.",
             "Replace the whole zone by remove-zone and add-zone.",
         ),
         Cause::TooShort => (
@@ -538,7 +616,7 @@ fn of_cause(cause: Cause) -> (&'static str, &'static str) {
         ),
         Cause::BadText => (
             "The text is too long, has a zero byte, or may not be empty.",
-            "Shorten it: SCRIPT.md has the lengths.",
+            "Give it a length that SCRIPT.md allows.",
         ),
         Cause::Full(_) => (
             "The bank would have more members, records or points than a file can count.",

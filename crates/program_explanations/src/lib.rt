@@ -1,6 +1,11 @@
-//! Explains faults and refusals by their numbers: what each means, and what to do about it.
+//! Explains faults and refusals by their numbers or names: what each means, and what to do about it. Lists
+//! the generators.
 #![tactic(auto)]
 
 mod explanations;
+mod generator_rows;
+mod generator_table;
+pub mod laws;
 
-pub use explanations::{Explanation, FaultCode, explain};
+pub use explanations::{Explanation, Explanations, FaultCode, explain, explain_name};
+pub use generator_table::GeneratorTable;

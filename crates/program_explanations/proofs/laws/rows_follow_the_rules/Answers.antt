@@ -1,0 +1,17 @@
+-- The laws hold by computation.
+use Rattle.std.proofs.Common.{refl}
+use Rattle.generators.specs.Defaults.{default_of}
+use Rattle.generators.specs.Levels.{is_allowed}
+use Rattle.program_explanations.proofs.laws.rows_follow_the_rules.Goals as goal
+
+pub returns-clause-operators : goal.returns-clause-operators
+unfolding is_allowed
+returns-clause-operators c = refl
+
+pub returns-clause-defaults : goal.returns-clause-defaults
+unfolding default_of
+returns-clause-defaults c = refl
+
+pub returns-clause-played : goal.returns-clause-played
+unfolding default_of
+returns-clause-played c = refl
