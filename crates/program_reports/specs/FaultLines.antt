@@ -1,5 +1,5 @@
 -- The lines that report faults, and the exit status of a run's fault.
-use Rattle.std.specs.Prelude.{ℕ, List, [], ◌∷◌, ◌++◌, codes, decimal, Bool, true, false}
+use Rattle.std.specs.Prelude.{ℕ, List, [], ◌∷◌, ◌++◌, codes, decimal}
 use Rattle.std.specs.List.{concat}
 use Rattle.bank_format.specs.declared.fault.ReadFault.{ReadFault}
 use Rattle.bank_format.specs.FaultNames as reading
@@ -21,8 +21,6 @@ use Rattle.plan_presets.specs.declared.numbers.PresetNumbers.{PresetNumbers}
 use Rattle.plan_presets.specs.PresetFaults as presets
 use Rattle.base_outputs.specs.declared.output_fault.OutputFault.{OutputFault}
 use Rattle.base_outputs.specs.OutputFaults as rejected
-use Rattle.file_host.specs.declared.input_fault.InputFault.{InputFault}
-use Rattle.file_host.specs.InputFaults.{reason_of}
 use Rattle.program_reports.specs.declared.run_fault.RunFault.{RunFault}
 use Rattle.program_reports.specs.declared.run_fault.RunFault.TheVariants.{Read, ReadFirst, ReadSecond, ReadFrom, Script}
 use Rattle.program_reports.specs.declared.run_fault.RunFault.TheVariants.{Refused, NotNeutral, OtherVersion, Notes}
@@ -106,19 +104,6 @@ write_line path written =
 abbrev pub file_line : List ℕ → List ℕ
 file_line path = concat (codes "sfbank: file fault " ∷ path ∷ codes "\n" ∷ [])
 
--- why it can't be read, below that line
-abbrev pub reason_line : List ℕ → List ℕ
-reason_line reason = concat (codes "  " ∷ reason ∷ codes "\n" ∷ [])
-
--- the reason is shown on a terminal only
-abbrev pub shown_reason : Bool → InputFault → List ℕ
-shown_reason true fault = reason_line (reason_of fault)
-shown_reason false fault = []
-
--- the report of an input that can't be read whole, on a terminal or elsewhere
-abbrev pub file_text : Bool → List ℕ → InputFault → List ℕ
-file_text is_terminal path fault = file_line path ++ shown_reason is_terminal fault
-
 -- an output that is rejected, by the number and the name of the fault, and its path
 abbrev pub rejected_line : ℕ → List ℕ → List ℕ → List ℕ
 rejected_line number name path =
@@ -128,10 +113,13 @@ rejected_line number name path =
 abbrev pub output_line : List ℕ → OutputFault → List ℕ
 output_line path fault = rejected_line (rejected.number_of fault) (rejected.name_of fault) path
 
--- a number that no fault and no cause has
-abbrev pub unexplained_line : ℕ → List ℕ
-unexplained_line number =
+-- a number, or a name, that no fault and no refusal has
+abbrev pub no_number_line : ℕ → List ℕ
+no_number_line number =
     concat (codes "error: no fault and no refusal has the number " ∷ decimal number ∷ codes "\n" ∷ [])
+
+abbrev pub no_name_line : List ℕ → List ℕ
+no_name_line name = concat (codes "error: no fault and no refusal has the name " ∷ name ∷ codes "\n" ∷ [])
 
 -- the line of a run's fault, with its line feed; a write fault has the path
 unfoldable pub fault_line : List ℕ → RunFault → List ℕ

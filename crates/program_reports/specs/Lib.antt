@@ -1,3 +1,4 @@
+pub mod Details
 pub mod FaultLines
 pub mod RunFaults
 pub mod Reporting

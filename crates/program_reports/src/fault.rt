@@ -15,8 +15,10 @@ pub enum Fault<'a> {
     Words(clap::Error),
     /// An argument is not valid UTF-8.
     NotText,
-    /// No fault or cause has this number.
-    Unexplained(u32),
+    /// No fault and no refusal has this number.
+    NoNumber(u32),
+    /// No fault and no refusal has this name.
+    NoName(&'a str),
     /// The input at this path can't be read whole.
     File(&'a str, InputFault),
     /// The output at this path is rejected.

@@ -3,7 +3,7 @@ ghost use Rattle.std.specs.Prelude.{◌≡◌, IfOk};
 ghost use Rattle.base_outputs.specs.Output.{Puts};
 ghost use Rattle.base_outputs.specs.Writing.{Writes};
 ghost use Rattle.sample_view.specs.Pieces.{joined_bytes};
-ghost use Rattle.program_reports.specs.FaultLines.{fault_line, status_of, read_line, first_read_line, second_read_line, from_read_line, read_text, script_line, notes_line, text_line, refused_line, refused_start, not_neutral_line, named_line, recording_line, no_member_line, preset_line, preset_text, full_line, write_line, file_line, reason_line, shown_reason, file_text, output_line, rejected_line, unexplained_line};
+ghost use Rattle.program_reports.specs.FaultLines.{fault_line, status_of, read_line, first_read_line, second_read_line, from_read_line, read_text, script_line, notes_line, text_line, refused_line, refused_start, not_neutral_line, named_line, recording_line, no_member_line, preset_line, preset_text, full_line, write_line, file_line, output_line, rejected_line, no_number_line, no_name_line};
 
 use crate::run_fault::RunFault;
 use bank_format::ReadFault;
@@ -12,7 +12,6 @@ use base_outputs::{Output, OutputFault, WriteFault};
 use base_texts::Text;
 use edit_refusals::{Cause, Refusal};
 use edit_script::RefusalText;
-use file_host::InputFault;
 use itoa::Buffer;
 use plan_presets::{PresetFault, PresetNumbers};
 use script_notes::NoteFault;
@@ -277,38 +276,11 @@ fn put_write_fault<W: Write>(path: &str, written: u64, output: &mut Output<'_, W
     );
 }
 
-/// Puts the line of an input that can't be read whole, and on a terminal its reason on a second line.
-pub(crate) fn put_file_fault<W: Write>(
-    path: &str,
-    fault: InputFault,
-    is_terminal: bool,
-    output: &mut Output<'_, W>,
-)
-    ensures { Puts W.contents output.old output.new (file_text is_terminal path.now fault) }
-{
-    put_file_line(path, output);
-    put_shown_reason(fault, is_terminal, output);
-}
-
-fn put_file_line<W: Write>(path: &str, output: &mut Output<'_, W>)
+/// Puts the line of an input that can't be read whole.
+pub(crate) fn put_file_fault<W: Write>(path: &str, output: &mut Output<'_, W>)
     ensures { Puts W.contents output.old output.new (file_line path.now) }
 {
     put_pieces(&[b"sfbank: file fault ", path.as_bytes(), b"\n"], output);
-}
-
-// Only on a terminal: programs that read the line expect nothing after it.
-fn put_shown_reason<W: Write>(fault: InputFault, is_terminal: bool, output: &mut Output<'_, W>)
-    ensures { Puts W.contents output.old output.new (shown_reason is_terminal fault) }
-{
-    if is_terminal {
-        put_reason(fault.reason(), output);
-    }
-}
-
-fn put_reason<W: Write>(reason: &str, output: &mut Output<'_, W>)
-    ensures { Puts W.contents output.old output.new (reason_line reason.now) }
-{
-    put_pieces(&[b"  ", reason.as_bytes(), b"\n"], output);
 }
 
 /// Puts the line of an output that is rejected.
@@ -336,15 +308,29 @@ fn put_rejected<'t, W: Write>(number: u8, name: &'t str, path: &'t str, output: 
     );
 }
 
-/// Puts the line for a number that no fault and no cause has.
-pub(crate) fn put_unexplained<W: Write>(number: u32, output: &mut Output<'_, W>)
-    ensures { Puts W.contents output.old output.new (unexplained_line number) }
+/// Puts the line for a number that no fault and no refusal has.
+pub(crate) fn put_no_number<W: Write>(number: u32, output: &mut Output<'_, W>)
+    ensures { Puts W.contents output.old output.new (no_number_line number) }
 {
     let mut digits = Buffer::new();
     put_pieces(
         &[
             b"error: no fault and no refusal has the number ",
             digits.format(number).as_bytes(),
+            b"\n",
+        ],
+        output,
+    );
+}
+
+/// Puts the line for a name that no fault and no refusal has.
+pub(crate) fn put_no_name<W: Write>(name: &str, output: &mut Output<'_, W>)
+    ensures { Puts W.contents output.old output.new (no_name_line name.now) }
+{
+    put_pieces(
+        &[
+            b"error: no fault and no refusal has the name ",
+            name.as_bytes(),
             b"\n",
         ],
         output,

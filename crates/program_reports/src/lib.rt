@@ -1,12 +1,14 @@
-//! What the program reports: its faults, by lines and exit statuses, and its progress on a terminal.
+//! What the program reports: its faults, by lines, explanations and exit statuses, and its progress on a terminal.
 //!
 //! A crate of its own, so that it is proved in parallel with the crates that the runs depend on.
 #![tactic(auto)]
 
+mod details;
 mod fault;
 mod fault_lines;
 mod reporting;
 mod run_fault;
+mod source_line;
 mod terminal;
 mod watched;
 
@@ -14,5 +16,6 @@ pub use fault::{Fault, STANDARD_OUTPUT};
 pub use fault_lines::{exit_status, fault_text};
 pub use reporting::report;
 pub use run_fault::RunFault;
+pub use source_line::SourceLine;
 pub use terminal::{ProgressMeter, Prompted};
 pub use watched::{ClosedPipe, Watched};

@@ -1,10 +1,13 @@
 //! Reports a fault on the standard error.
-ghost use Rattle.std.specs.Prelude.{◌≡◌};
-ghost use Rattle.program_reports.specs.Reporting.{Reports, report_text, status_of};
+ghost use Rattle.std.specs.Prelude.{◌≡◌, ◌++◌};
+ghost use Rattle.base_outputs.specs.Output.{Puts};
+ghost use Rattle.program_reports.specs.Details.{details_text};
+ghost use Rattle.program_reports.specs.Reporting.{AreShown, Reports, line_of, status_of};
 
+use crate::details::{Details, details_of, put_details};
 use crate::fault::Fault;
 use crate::fault_lines::{
-    exit_status, put_fault, put_file_fault, put_output_fault, put_unexplained,
+    exit_status, put_fault, put_file_fault, put_no_name, put_no_number, put_output_fault,
 };
 use base_outputs::Output;
 use base_texts::{Text, write_text};
@@ -12,35 +15,50 @@ use std::io::Write;
 
 const NOT_TEXT: &[u8] = b"error: a word is not text\n";
 
-/// The report of a fault: its line and, if it goes to a terminal, the reason of a file fault on a second line. Empty for
-/// a pipe that its reader closed, and for rejected arguments, for which clap has the text.
+/// The report of a fault: its line, and details after it.
 #[derive(Clone, Copy)]
 struct FaultReport<'t, 'a> {
     fault: &'t Fault<'a>,
-    is_terminal: bool,
+    details: Details<'t>,
 }
 
 impl Text for FaultReport<'_, '_> {
-    ghost bytes = { λ report. report_text report.is_terminal report.fault.now };
+    ghost bytes = { λ report. line_of report.fault.now ++ details_text report.details };
 
     fn put<W: Write>(&self, output: &mut Output<'_, W>) {
-        match self.fault {
-            Fault::NotText => output.put(NOT_TEXT),
-            Fault::Unexplained(number) => put_unexplained(*number, output),
-            Fault::File(path, why) => put_file_fault(path, *why, self.is_terminal, output),
-            Fault::Output(fault, path) => put_output_fault(path, *fault, output),
-            Fault::Run(fault, path) => put_fault(fault, path, output),
-            Fault::Words(_) => {}
-            Fault::PipeClosed => {}
-        }
+        put_line(self.fault, output);
+        put_details(&self.details, output);
     }
 }
 
-/// Reports a fault, and returns its exit status, also if the fault could not be written. If `errors` is a terminal, the
-/// reason of a file fault follows on a second line.
-pub fn report<E: Write>(fault: &Fault<'_>, is_terminal: bool, errors: &mut E) -> u8
+// Puts the line of a fault: none for a pipe that its reader closed, and for rejected arguments, for which clap has the
+// text.
+fn put_line<W: Write>(fault: &Fault<'_>, output: &mut Output<'_, W>)
+    ensures { Puts W.contents output.old output.new (line_of fault.now) }
+{
+    match fault {
+        Fault::NotText => output.put(NOT_TEXT),
+        Fault::NoNumber(number) => put_no_number(*number, output),
+        Fault::NoName(name) => put_no_name(name, output),
+        Fault::File(path, _) => put_file_fault(path, output),
+        Fault::Output(fault, path) => put_output_fault(path, *fault, output),
+        Fault::Run(fault, path) => put_fault(fault, path, output),
+        Fault::Words(_) => {}
+        Fault::PipeClosed => {}
+    }
+}
+
+/// Reports a fault, and returns its exit status, also if the fault could not be written. If `explains`, its line is
+/// followed by indented lines: the line of the script or the note list that it is about (`source`), what it means and what
+/// to do about it, or why an input can't be read.
+pub fn report<E: Write>(
+    fault: &Fault<'_>,
+    explains: bool,
+    source: Option<&[u8]>,
+    errors: &mut E,
+) -> u8
     ensures status { result ≡ status_of fault.now }
-    ensures reported { Reports is_terminal (E.contents errors.old) (E.contents errors.new) fault.now }
+    ensures reported { Reports explains (E.contents errors.old) (E.contents errors.new) fault.now }
 {
     match fault {
         Fault::Words(error) => {
@@ -48,9 +66,20 @@ pub fn report<E: Write>(fault: &Fault<'_>, is_terminal: bool, errors: &mut E) ->
             1
         }
         _ => {
-            let _ = write_text(&FaultReport { fault, is_terminal }, errors);
+            let details = shown_details(fault, explains, source);
+            let _ = write_text(&FaultReport { fault, details }, errors);
             status_of(fault)
         }
+    }
+}
+
+fn shown_details<'s>(fault: &Fault<'_>, explains: bool, source: Option<&'s [u8]>) -> Details<'s>
+    ensures { AreShown explains fault.now (details_text result) }
+{
+    if explains {
+        details_of(fault, source)
+    } else {
+        Details::nothing()
     }
 }
 
@@ -59,7 +88,7 @@ fn status_of(fault: &Fault<'_>) -> u8
     ensures { result ≡ status_of fault.now }
 {
     match fault {
-        Fault::Words(_) | Fault::NotText | Fault::Unexplained(_) => 1,
+        Fault::Words(_) | Fault::NotText | Fault::NoNumber(_) | Fault::NoName(_) => 1,
         Fault::File(_, _) | Fault::Output(_, _) | Fault::PipeClosed => 5,
         Fault::Run(fault, _) => exit_status(fault),
     }

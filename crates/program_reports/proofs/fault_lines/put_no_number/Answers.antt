@@ -1,5 +1,5 @@
 use Rattle.std.proofs.Common.{◌∙◌}
-use Rattle.program_reports.proofs.fault_lines.put_unexplained.Goals as goal
+use Rattle.program_reports.proofs.fault_lines.put_no_number.Goals as goal
 
 pub returns : goal.returns
 returns g c = rw (c.as_bytes.ensures.value ∙ c.format.ensures.text) at c.put_pieces.ensures
