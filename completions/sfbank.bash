@@ -3,17 +3,17 @@
 # The options of a command, or of the program if there is none.
 _sfbank_options() {
   case $1 in
-    apply) echo --force --neutral --help ;;
-    copy) echo --as --dry-run --force --name --script --help ;;
-    diff | import | live | map | play | wave) echo --force --help ;;
-    keep) echo --dry-run --force --notes --preset --script --zones --help ;;
-    merge) echo --dry-run --force --script --shift --help ;;
-    new) echo --force --minor --help ;;
-    script) echo --force --no-points --help ;;
-    show) echo --zones --uses --help ;;
-    take) echo --dry-run --force --preset --script --help ;;
-    tidy) echo --dry-run --force --merge --script --help ;;
-    canon | explain) echo --help ;;
+    apply) echo --force --neutral --explain --help ;;
+    copy) echo --as --dry-run --force --name --script --explain --help ;;
+    diff | import | live | map | play | wave) echo --force --explain --help ;;
+    keep) echo --dry-run --force --notes --preset --script --zones --explain --help ;;
+    merge) echo --dry-run --force --script --shift --explain --help ;;
+    new) echo --force --minor --explain --help ;;
+    script) echo --force --no-points --explain --help ;;
+    show) echo --zones --uses --explain --help ;;
+    take) echo --dry-run --force --preset --script --explain --help ;;
+    tidy) echo --dry-run --force --merge --script --explain --help ;;
+    canon | explain) echo --explain --help ;;
     '') echo --help --version ;;
   esac
 }

@@ -4,7 +4,7 @@ use Rattle.file_host.specs.World.{World, Gives, file_at}
 use Rattle.program_commands.specs.declared.words.LivePaths.{LivePaths}
 use Rattle.program_commands.specs.declared.words.Request.TheVariants.{Live}
 use Rattle.program_reports.specs.declared.fault.Fault.{Fault}
-use Rattle.program_reports.specs.declared.fault.Fault.TheVariants.{Words, NotText, Unexplained, File, Output, Run, PipeClosed}
+use Rattle.program_reports.specs.declared.fault.Fault.TheVariants.{Words, NotText, NoNumber, NoName, File, Output, Run, PipeClosed}
 use Rattle.program_reports.specs.declared.run_fault.RunFault.TheVariants as run
 use Rattle.sfbank.specs.Plans.{Action, Why, Plays, plan, with_input}
 use Rattle.sfbank.specs.Ends.{Outside, IsEarly}
@@ -49,7 +49,8 @@ memory_stops p w planned old new (Err (Run run.Memory path)) h = (tt, h)
 memory_stops p w planned old new (Ok u) h = absurd h
 memory_stops p w planned old new (Err (Words e)) h = absurd h
 memory_stops p w planned old new (Err NotText) h = absurd h
-memory_stops p w planned old new (Err (Unexplained n)) h = absurd h
+memory_stops p w planned old new (Err (NoNumber n)) h = absurd h
+memory_stops p w planned old new (Err (NoName n)) h = absurd h
 memory_stops p w planned old new (Err (File path f)) h = absurd h
 memory_stops p w planned old new (Err (Output f path)) h = absurd h
 memory_stops p w planned old new (Err PipeClosed) h = absurd h

@@ -1,5 +1,5 @@
 -- How the outcome of a run makes the end of a request.
-use Rattle.std.proofs.Common.{◌≡◌, ℕ, List, Option, Some, None, Result, Ok, Err, refl, sym, ap, subst, ◌∙◌, inl, inr}
+use Rattle.std.proofs.Common.{◌≡◌, ◌||◌, ℕ, Bool, List, Option, Some, None, Result, Ok, Err, refl, sym, ap, subst, ◌∙◌, inl, inr}
 use Rattle.std.proofs.KnownBytes.{Keeps-refl}
 use Rattle.std.specs.Borrow.{Bor}
 use Rattle.bank_parts.specs.declared.parts.Parts.{Parts}
@@ -10,9 +10,11 @@ use Rattle.file_host.specs.World.{World}
 use Rattle.file_host.specs.Saving.{SpoilsPair}
 use Rattle.file_host.specs.declared.faults.Which.{Which}
 use Rattle.file_host.specs.declared.faults.Which.TheVariants.{Out, Undo}
+use Rattle.program_commands.specs.declared.explain.Topic.{Topic}
 use Rattle.program_commands.specs.declared.words.Request.TheVariants.{Explain}
 use Rattle.program_reports.specs.declared.fault.Fault.{Fault}
-use Rattle.program_reports.specs.declared.fault.Fault.TheVariants.{Words, NotText, Unexplained, File, Output, Run, PipeClosed}
+use Rattle.program_reports.specs.declared.fault.Fault.TheVariants.{Words, NotText, NoNumber, NoName, File, Output, Run, PipeClosed}
+use Rattle.program_reports.specs.Reporting.{Ends}
 use Rattle.program_reports.specs.declared.run_fault.RunFault.{RunFault}
 use Rattle.program_reports.specs.declared.run_fault.RunFault.TheVariants as run
 use Rattle.sfbank.specs.Outcome.{Done, after_reading}
@@ -21,9 +23,9 @@ use Rattle.sfbank.specs.Plans.{Action, Content, Texts, Known, Why, Fails, SavesB
 use Rattle.sfbank.specs.Plans.{standard_output, put_at}
 use Rattle.sfbank.specs.Plans.{Difference, with_text, with_print, with_both, with_difference}
 use Rattle.sfbank.specs.Differences.{TwoBanks, FindsDifference, banks_in, two_banks_of}
-use Rattle.sfbank.specs.Ends.{Outside, AreTexts, IsContent, IsUnexplained, IsEarly, IsStopped, EndsAs, EndsFor, path_of}
-use Rattle.sfbank.specs.Meanings.{MeansPlan}
-use Rattle.sfbank.specs.Outputs.{FailsFirst, PrintsAt, PrintsOutcome, PrintsExplanation, SavesPairAt}
+use Rattle.sfbank.specs.Ends.{Outside, AreTexts, IsContent, IsEarly, IsStopped, EndsAs, EndsFor, path_of}
+use Rattle.sfbank.specs.Meanings.{EndsExplained, MeansPlan}
+use Rattle.sfbank.specs.Outputs.{FailsFirst, PrintsAt, PrintsOutcome, LacksTopic, FailsTopic, PrintsExplanation, SavesPairAt}
 use Rattle.sfbank.specs.Steps.{ReadsBank}
 use Rattle.sfbank.proofs.PlanLaws.{at, untouched, nothing, ends_early, memory_fails}
 
@@ -125,7 +127,8 @@ prints_end w path text content planned old new written (Err PipeClosed) e is h =
 prints_end w path text content planned old new written (Err (Run (run.Write Undo n) at)) e is h = absurd h
 prints_end w path text content planned old new written (Err (Words x)) e is h = absurd h
 prints_end w path text content planned old new written (Err NotText) e is h = absurd h
-prints_end w path text content planned old new written (Err (Unexplained n)) e is h = absurd h
+prints_end w path text content planned old new written (Err (NoNumber n)) e is h = absurd h
+prints_end w path text content planned old new written (Err (NoName n)) e is h = absurd h
 prints_end w path text content planned old new written (Err (File p f)) e is h = absurd h
 prints_end w path text content planned old new written (Err (Output f p)) e is h = absurd h
 prints_end w path text content planned old new written (Err (Run (run.Read f) p)) e is h = absurd h
@@ -168,42 +171,41 @@ outcome_prints (Some w) outcome old new written end h =
 
 -- ---- an explanation
 
-pub explains : (number : ℕ) (text : List ℕ) (old new : Option (List ℕ)) (end : Result (Unit {0}) Fault)
-    → IsContent (Explanation number) text → PrintsAt standard_output text old new end
-    → PrintsExplanation number old new end
-explains number text old new (Ok u) is h = (text, is, h)
-explains number text old new (Err (Unexplained n)) is h = absurd h
-explains number text old new (Err (Words x)) is h = absurd h
-explains number text old new (Err NotText) is h = absurd h
-explains number text old new (Err (File p f)) is h = absurd h
-explains number text old new (Err (Output f p)) is h = absurd h
-explains number text old new (Err (Run f p)) is h = (text, is, h)
-explains number text old new (Err PipeClosed) is h = (text, is, h)
+-- a topic that is not explained ends its request early
+lacks_early : (w : World) (topic : Topic) (fault : Fault) → LacksTopic topic fault
+    → IsEarly w (Ok (Prints standard_output (Explanation topic))) fault
+lacks_early w topic fault h =
+    elim h [
+      | inl number ↦ rw (number.1, number.2) (refl, number.3)
+      | inr other ↦ elim other [
+        | inl name ↦ rw (name.1, name.2) (refl, name.3)
+        | inr memory ↦ rw memory.1 tt
+      ]
+    ]
 
-explain_ends : (w : World) (number : ℕ) (old new : Option (List ℕ)) (written : ℕ) (end : Result (Unit {0}) Fault)
-    → PrintsExplanation number old new end
-    → EndsAs w (Ok (Prints standard_output (Explanation number))) (at (Some w) old) (at (Some w) new) written end
-explain_ends w number old new written (Ok u) h =
-    prints_end w standard_output h.0 (Explanation number) _ old new written (Ok u) refl h.1 h.2
-explain_ends w number old new written (Err (Unexplained n)) h = (
-  (ap (λ (x : ℕ). Ok (Prints standard_output (Explanation x))) (sym h.0), subst IsUnexplained (sym h.0) h.1),
-  record { files = refl; printed = h.2 },
-)
-explain_ends w number old new written (Err (Words x)) h = absurd h.2
-explain_ends w number old new written (Err NotText) h = absurd h.2
-explain_ends w number old new written (Err (File p f)) h = absurd h.2
-explain_ends w number old new written (Err (Output f p)) h = absurd h.2
-explain_ends w number old new written (Err (Run f p)) h =
-    prints_end w standard_output h.0 (Explanation number) _ old new written (Err (Run f p)) refl h.1 h.2
-explain_ends w number old new written (Err PipeClosed) h =
-    prints_end w standard_output h.0 (Explanation number) _ old new written (Err PipeClosed) refl h.1 h.2
+topic_fails : (w : World) (topic : Topic) (old new : Option (List ℕ)) (written : ℕ) (end : Result (Unit {0}) Fault)
+    → FailsTopic topic old new end
+    → EndsAs w (Ok (Prints standard_output (Explanation topic))) (at (Some w) old) (at (Some w) new) written end
+topic_fails w topic old new written (Ok u) h = absurd h
+topic_fails w topic old new written (Err fault) h =
+    ends_early w (Ok (Prints standard_output (Explanation topic))) (at (Some w) old) (at (Some w) new) written fault
+    (lacks_early w topic fault h.0) (record { files = refl; printed = h.1 })
 
-pub explain_means : (number : ℕ) (files : Option World) (old new : Option (List ℕ)) (written : ℕ)
-    (end : Result (Unit {0}) Fault) → PrintsExplanation number old new end
-    → MeansPlan (Explain number) (at files old) (at files new) written end
-explain_means number None old new written end h = record { inputs = nothing; given = tt; ends = tt }
-explain_means number (Some w) old new written end h =
-    record { inputs = nothing; given = (tt, tt); ends = explain_ends w number old new written end h }
+explain_ends : (w : World) (topic : Topic) (old new : Option (List ℕ)) (written : ℕ) (end : Result (Unit {0}) Fault)
+    → PrintsExplanation topic old new end
+    → EndsAs w (Ok (Prints standard_output (Explanation topic))) (at (Some w) old) (at (Some w) new) written end
+explain_ends w topic old new written end h =
+    elim h [
+      | inl f ↦ topic_fails w topic old new written end f
+      | inr p ↦ prints_end w standard_output p.0 (Explanation topic) _ old new written end refl p.1 p.2
+    ]
+
+pub explain_means : (topic : Topic) (files : Option World) (old new : Option (List ℕ)) (written : ℕ)
+    (end : Result (Unit {0}) Fault) → PrintsExplanation topic old new end
+    → MeansPlan (Explain topic) (at files old) (at files new) written end
+explain_means topic None old new written end h = record { inputs = nothing; given = tt; ends = tt }
+explain_means topic (Some w) old new written end h =
+    record { inputs = nothing; given = (tt, tt); ends = explain_ends w topic old new written end h }
 
 -- ---- two texts that are saved
 
@@ -241,7 +243,8 @@ both_end w out undo texts done planned new printed written (Err PipeClosed) e ar
 }
 both_end w out undo texts done planned new printed written (Err (Words x)) e are h = absurd h
 both_end w out undo texts done planned new printed written (Err NotText) e are h = absurd h
-both_end w out undo texts done planned new printed written (Err (Unexplained n)) e are h = absurd h
+both_end w out undo texts done planned new printed written (Err (NoNumber n)) e are h = absurd h
+both_end w out undo texts done planned new printed written (Err (NoName n)) e are h = absurd h
 both_end w out undo texts done planned new printed written (Err (File p f)) e are h = absurd h
 both_end w out undo texts done planned new printed written (Err (Output f p)) e are h = absurd h
 both_end w out undo texts done planned new printed written (Err (Run (run.Read f) p)) e are h = absurd h
@@ -321,3 +324,10 @@ pub prints_text : (outcome : Result (List ℕ) RunFault) (text : List ℕ) (old 
     (end : Result (Unit {0}) Fault) → outcome ≡ Ok text → PrintsAt standard_output text old new end
     → PrintsOutcome outcome old new end
 prints_text outcome text old new end e h = inr (text, e, h)
+
+-- ---- the program
+
+-- a run whose words may ask for explanations is explained at least on a terminal
+pub explained_ends : (is_terminal asks : Bool) (old new : Option (List ℕ)) (status : ℕ)
+    → Ends (is_terminal || asks) old new status → EndsExplained is_terminal old new status
+explained_ends is_terminal asks old new status h = (is_terminal || asks, λ e. rw e refl, h)

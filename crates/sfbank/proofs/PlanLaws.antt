@@ -10,7 +10,7 @@ use Rattle.file_host.specs.declared.input_fault.InputFault.{InputFault}
 use Rattle.file_host.specs.declared.input_fault.InputFault.TheVariants.{NotFound}
 use Rattle.program_commands.specs.declared.words.Request.{Request}
 use Rattle.program_reports.specs.declared.fault.Fault.{Fault}
-use Rattle.program_reports.specs.declared.fault.Fault.TheVariants.{Words, NotText, Unexplained, File, Output, Run, PipeClosed}
+use Rattle.program_reports.specs.declared.fault.Fault.TheVariants.{Words, NotText, NoNumber, NoName, File, Output, Run, PipeClosed}
 use Rattle.program_reports.specs.declared.run_fault.RunFault.TheVariants as run
 use Rattle.sfbank.specs.Plans.{Action, Why, Unread, Inputs, GivesInput, AreInputs, plan, no_bank, with_input}
 use Rattle.sfbank.specs.Plans.{Plays, Prints, Saves, SavesAll, SavesBoth}
@@ -40,7 +40,8 @@ pub ends_early : (w : World) (planned : Result Action Why) (old new : Outside) (
     → IsEarly w planned fault → IsUntouched old new → EndsAs {U = Unit {0}} w planned old new written (Err fault)
 ends_early w planned old new written (Words error) h u = absurd h
 ends_early w planned old new written NotText h u = absurd h
-ends_early w planned old new written (Unexplained number) h u = (h, u)
+ends_early w planned old new written (NoNumber number) h u = (h, u)
+ends_early w planned old new written (NoName name) h u = (h, u)
 ends_early w planned old new written (File path why) h u = (h, u)
 ends_early w planned old new written (Output SameFile path) h u = (h, u)
 ends_early w planned old new written (Output HoldsBank path) h u = (h, u)
@@ -244,7 +245,8 @@ input_stops old new p (Run run.Memory path) h =
     let any = any_given old p in (record { given = any.0; is_given = any.1; stops = λ w rest. tt }, h)
 input_stops old new p (Words e) h = absurd h
 input_stops old new p NotText h = absurd h
-input_stops old new p (Unexplained n) h = absurd h
+input_stops old new p (NoNumber n) h = absurd h
+input_stops old new p (NoName n) h = absurd h
 input_stops old new p (Output f path) h = absurd h
 input_stops old new p PipeClosed h = absurd h
 input_stops old new p (Run (run.Read f) path) h = absurd h

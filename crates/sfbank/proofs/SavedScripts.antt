@@ -7,7 +7,7 @@ use Rattle.file_host.specs.World.{World, with_pair, with_text}
 use Rattle.file_host.specs.Saving.{SpoilsPair}
 use Rattle.file_host.specs.declared.faults.Which.TheVariants.{Out, Undo}
 use Rattle.program_reports.specs.declared.fault.Fault.{Fault}
-use Rattle.program_reports.specs.declared.fault.Fault.TheVariants.{Words, NotText, Unexplained, File, Output, Run, PipeClosed}
+use Rattle.program_reports.specs.declared.fault.Fault.TheVariants.{Words, NotText, NoNumber, NoName, File, Output, Run, PipeClosed}
 use Rattle.program_reports.specs.declared.run_fault.RunFault.TheVariants as run
 use Rattle.sfbank.specs.Outcome.{Done}
 use Rattle.sfbank.specs.Purposes.{Purpose, promise_of}
@@ -43,7 +43,8 @@ script_stops w script out undo purpose file text new printed written PipeClosed 
 script_stops w script out undo purpose file text new printed written (Run (run.Write Undo n) p) is h = absurd h
 script_stops w script out undo purpose file text new printed written (Words x) is h = absurd h
 script_stops w script out undo purpose file text new printed written NotText is h = absurd h
-script_stops w script out undo purpose file text new printed written (Unexplained n) is h = absurd h
+script_stops w script out undo purpose file text new printed written (NoNumber n) is h = absurd h
+script_stops w script out undo purpose file text new printed written (NoName n) is h = absurd h
 script_stops w script out undo purpose file text new printed written (File p f) is h = absurd h
 script_stops w script out undo purpose file text new printed written (Output f p) is h = absurd h
 script_stops w script out undo purpose file text new printed written (Run (run.Read f) p) is h = absurd h
@@ -120,7 +121,8 @@ pair_ends w script out undo purpose file done found mid new printed written (Err
 }
 pair_ends w script out undo purpose file done found mid new printed written (Err (Words x)) e h = absurd h
 pair_ends w script out undo purpose file done found mid new printed written (Err NotText) e h = absurd h
-pair_ends w script out undo purpose file done found mid new printed written (Err (Unexplained n)) e h = absurd h
+pair_ends w script out undo purpose file done found mid new printed written (Err (NoNumber n)) e h = absurd h
+pair_ends w script out undo purpose file done found mid new printed written (Err (NoName n)) e h = absurd h
 pair_ends w script out undo purpose file done found mid new printed written (Err (File p f)) e h = absurd h
 pair_ends w script out undo purpose file done found mid new printed written (Err (Output f p)) e h = absurd h
 pair_ends w script out undo purpose file done found mid new printed written (Err (Run (run.Read f) p)) e h = absurd h

@@ -10,15 +10,15 @@ use Rattle.file_host.specs.Saving.{Spoils, SpoilsPair}
 use Rattle.file_host.specs.Checks.{IsUnreadable}
 use Rattle.file_host.specs.declared.faults.Which.{Which}
 use Rattle.file_host.specs.declared.faults.Which.TheVariants as which
-use Rattle.program_explanations.specs.declared.explanations.FaultCode.{FaultCode}
-use Rattle.program_explanations.specs.declared.explanations.Explanation.{Explanation}
-use Rattle.program_explanations.specs.Explanations as explanations
+use Rattle.program_commands.specs.declared.explain.Topic.{Topic}
+use Rattle.program_commands.specs.declared.explain.Topic.TheVariants.{Number, Name}
 use Rattle.program_reports.specs.declared.fault.Fault.{Fault}
-use Rattle.program_reports.specs.declared.fault.Fault.TheVariants.{Unexplained, File, Output, Run, PipeClosed}
+use Rattle.program_reports.specs.declared.fault.Fault.TheVariants.{NoNumber, NoName, File, Output, Run, PipeClosed}
 use Rattle.program_reports.specs.declared.run_fault.RunFault.TheVariants as run
 use Rattle.sfbank.specs.Outcome.{Done, bank_in}
 use Rattle.sfbank.specs.Differences.{IsDifference}
 use Rattle.sfbank.specs.Purposes.{Purpose, promise_of}
+use Rattle.sfbank.specs.Topics.{IsTopicText, IsUnexplained}
 use Rattle.sfbank.specs.PlannedEdits.{IsPlanned, IsScript}
 use Rattle.sfbank.specs.Plans.{Action, Content, Texts, Known, Found, Saves, SavesAll, SavesBoth, Prints, Plays}
 use Rattle.sfbank.specs.Plans.{Text, Difference, Edits, Explanation as Explains, Why, Rejected, Unread, Fails, standard_output}
@@ -40,17 +40,12 @@ abbrev pub IsContent : Content → List ℕ → Type 0
 IsContent (Text text) bytes = bytes ≡ text
 IsContent (Difference a b) bytes = IsDifference a b bytes × (bank_in a ≡ bank_in b → bytes ≡ [])
 IsContent (Edits purpose file) bytes = IsScript (promise_of purpose) file bytes
-IsContent (Explains number) bytes =
-    (e : Explanation) × explanations.IsOfNumber number e.number e.name.now × (bytes ≡ explanations.explanation_text e)
+IsContent (Explains topic) bytes = IsTopicText topic bytes
 
 -- these are the texts of a bank's file and of its undo script
 abbrev pub AreTexts : Texts → Done → Type 0
 AreTexts (Known texts) done = done ≡ texts
 AreTexts (Found purpose file) done = IsPlanned (promise_of purpose) file done
-
--- no fault and no refusal has this number
-abbrev pub IsUnexplained : ℕ → Type 0
-IsUnexplained number = (code : FaultCode) → explanations.number_of code ≡ number → ⊥
 
 -- ---- an action that is done
 
@@ -158,6 +153,10 @@ FindsEdits (Ok (SavesAll script out undo purpose file)) = ⊤
 FindsEdits (Ok (Prints path (Edits purpose file))) = ⊤
 FindsEdits other = ⊥
 
+-- a topic has to be explained, and nothing explains it
+abbrev pub PlansUnexplained : Result Action Why → Topic → Type 0
+PlansUnexplained planned topic = (planned ≡ Ok (Prints standard_output (Explains topic))) × IsUnexplained topic
+
 -- The fault of a request that does nothing is the plan's. It may be out of memory in place of any answer, `PlanFailed` or
 -- `Full` where edits have to be found, and an output that can't be read to its end may be rejected as a bank.
 abbrev pub IsEarly : World → Result Action Why → Fault → Type 0
@@ -170,8 +169,8 @@ IsEarly w planned (Run fault path) = planned ≡ Err (Fails path.now fault)
 IsEarly w planned (File path fault) = planned ≡ Err (Unread path.now fault)
 IsEarly w planned (Output HoldsBank path) = (planned ≡ Err (Rejected path.now HoldsBank)) ⊎ IsUnreadable w path.now
 IsEarly w planned (Output fault path) = planned ≡ Err (Rejected path.now fault)
-IsEarly w planned (Unexplained number) =
-    (planned ≡ Ok (Prints standard_output (Explains number))) × IsUnexplained number
+IsEarly w planned (NoNumber number) = PlansUnexplained planned (Number number)
+IsEarly w planned (NoName name) = PlansUnexplained planned (Name name)
 IsEarly w planned other = ⊥
 
 -- a planned action that is done

@@ -23,6 +23,7 @@ pub mod Maps
 pub mod Purposes
 pub mod PlannedEdits
 pub mod Plans
+pub mod Topics
 pub mod Ends
 pub mod LiveRuns
 pub mod Meanings

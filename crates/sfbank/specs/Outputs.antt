@@ -7,14 +7,17 @@ use Rattle.file_host.specs.World.{World, with_text, with_pair}
 use Rattle.file_host.specs.Saving.{Spoils, SpoilsPair}
 use Rattle.file_host.specs.declared.faults.Which.{Which}
 use Rattle.file_host.specs.declared.faults.Which.TheVariants as which
+use Rattle.program_commands.specs.declared.explain.Topic.{Topic}
+use Rattle.program_commands.specs.declared.explain.Topic.TheVariants.{Number, Name}
 use Rattle.program_reports.specs.declared.fault.Fault.{Fault}
-use Rattle.program_reports.specs.declared.fault.Fault.TheVariants.{Unexplained, Run, PipeClosed}
+use Rattle.program_reports.specs.declared.fault.Fault.TheVariants.{NoNumber, NoName, Run, PipeClosed}
 use Rattle.program_reports.specs.declared.run_fault.RunFault.{RunFault}
 use Rattle.program_reports.specs.declared.run_fault.RunFault.TheVariants as run
 use Rattle.sfbank.specs.Outcome.{Done}
 use Rattle.sfbank.specs.Written.{FailsBefore}
-use Rattle.sfbank.specs.Plans.{Explanation, standard_output}
-use Rattle.sfbank.specs.Ends.{IsContent, IsUnexplained, path_of}
+use Rattle.sfbank.specs.Plans.{standard_output}
+use Rattle.sfbank.specs.Topics.{IsTopicText, IsUnexplained}
+use Rattle.sfbank.specs.Ends.{path_of}
 
 -- a write fault, which is not reported where the reader of the output closed its pipe
 abbrev pub write_fault : Which → ℕ → Bor (List ℕ) → Bool → Fault
@@ -40,11 +43,23 @@ FailsFirst outcome old new (Err fault) =
     (why : RunFault) × (path : Bor (List ℕ)) × (fault ≡ Run why path) × (path.now ≡ standard_output) × FailsBefore why outcome
     × Keeps old new
 
--- an explanation of this number is printed, or none has it
-abbrev pub PrintsExplanation : {U : Type 0} → ℕ → Option (List ℕ) → Option (List ℕ) → Result U Fault → Type 0
-PrintsExplanation number old new (Err (Unexplained asked)) = (asked ≡ number) × IsUnexplained number × Keeps old new
-PrintsExplanation number old new result =
-    (text : List ℕ) × IsContent (Explanation number) text × PrintsAt standard_output text old new result
+-- the fault of a topic that is not explained: nothing explains it, or an allocation failed
+abbrev pub LacksTopic : Topic → Fault → Type 0
+LacksTopic topic fault =
+    ((n : ℕ) × (topic ≡ Number n) × (fault ≡ NoNumber n) × IsUnexplained (Number n))
+    ⊎ ((name : Bor (List ℕ)) × (topic ≡ Name name) × (fault ≡ NoName name) × IsUnexplained (Name name))
+    ⊎ ((path : Bor (List ℕ)) × (fault ≡ Run run.Memory path))
+
+-- nothing is printed, for such a fault
+abbrev pub FailsTopic : {U : Type 0} → Topic → Option (List ℕ) → Option (List ℕ) → Result U Fault → Type 0
+FailsTopic topic old new (Ok u) = ⊥
+FailsTopic topic old new (Err fault) = LacksTopic topic fault × Keeps old new
+
+-- the text about a topic is printed, or the topic is not explained
+abbrev pub PrintsExplanation : {U : Type 0} → Topic → Option (List ℕ) → Option (List ℕ) → Result U Fault → Type 0
+PrintsExplanation topic old new result =
+    FailsTopic topic old new result
+    ⊎ ((text : List ℕ) × IsTopicText topic text × PrintsAt standard_output text old new result)
 
 -- the outcome of a run is printed
 abbrev pub PrintsOutcome : {U : Type 0} → Result (List ℕ) RunFault → Option (List ℕ) → Option (List ℕ) → Result U Fault

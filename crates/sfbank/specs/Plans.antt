@@ -12,6 +12,7 @@ use Rattle.file_host.specs.Checks.{is_one_file, is_one_of, is_bank_at}
 use Rattle.script_of_bank.specs.declared.samples.SamplePoints.{SamplePoints}
 use Rattle.script_of_bank.specs.declared.samples.SamplePoints.TheVariants.{Kept, LeftOut}
 use Rattle.show_listing.specs.declared.listing.Details.{Details}
+use Rattle.program_commands.specs.declared.explain.Topic.{Topic}
 use Rattle.program_commands.specs.declared.words.Request.{Request}
 use Rattle.program_commands.specs.declared.words.Request.TheVariants.{Apply, Canon, Copy, Diff, Explain, Import, Keep}
 use Rattle.program_commands.specs.declared.words.Request.TheVariants.{Live, Map, Merge, New, Play, Script, Show, Take}
@@ -41,13 +42,13 @@ Path = List ℕ
 abbrev pub standard_output : Path
 standard_output = codes "-"
 
--- What is written: these bytes, a script that is found between two files or for the bank of a file, or the explanation
--- of a number.
+-- What is written: these bytes, a script that is found between two files or for the bank of a file, or the text about a
+-- topic.
 pub data Content : Type 0 where
   Text : List ℕ → Content
   Difference : List ℕ → List ℕ → Content
   Edits : Purpose → List ℕ → Content
-  Explanation : ℕ → Content
+  Explanation : Topic → Content
 
 -- A bank's file and an undo script: these texts, or those of edits that are found for the bank of a file.
 pub data Texts : Type 0 where
@@ -82,7 +83,7 @@ first_input (Apply paths) = Some paths.input.now
 first_input (Canon paths) = Some paths.input.now
 first_input (Copy copy) = Some copy.paths.input.now
 first_input (Diff paths) = Some paths.first.now
-first_input (Explain number) = None
+first_input (Explain topic) = None
 first_input (Import paths) = Some paths.input.now
 first_input (Keep keep) = Some keep.paths.input.now
 first_input (Live paths) = Some paths.input.now
@@ -245,7 +246,7 @@ plan (Diff p) world inputs =
     no_bank world p.out.now p.force
     (with_input p.first.now inputs.first
     (λ a. with_input p.second.now inputs.second (λ b. with_difference world p.out.now a b (two_banks_of a b))))
-plan (Explain number) world inputs = Ok (Prints standard_output (Explanation number))
+plan (Explain topic) world inputs = Ok (Prints standard_output (Explanation topic))
 plan (Import p) world inputs =
     apart world p.out.now (p.wave.now ∷ [])
     (apart world p.undo.now (p.input.now ∷ p.wave.now ∷ p.out.now ∷ [])

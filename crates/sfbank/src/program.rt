@@ -1,7 +1,7 @@
 //! The program, from its arguments to its exit status.
 ghost use Rattle.std.specs.Prelude.{map};
 ghost use Rattle.program_reports.specs.Reporting.{Ends};
-ghost use Rattle.sfbank.specs.Meanings.{Answers, IsReported, Means};
+ghost use Rattle.sfbank.specs.Meanings.{Answers, EndsExplained, IsReported, Means, is_explained};
 
 mod apply;
 mod canon;
@@ -42,8 +42,8 @@ use merge::merge;
 use new::new;
 use outputs::print;
 use play::play;
-use program_commands::{Request, request_of};
-use program_reports::{ClosedPipe, Fault, Watched, report};
+use program_commands::{Request, asks_for_explanations, request_of};
+use program_reports::{ClosedPipe, Fault, SourceLine, Watched, report};
 use script::script;
 use show::show;
 use std::alloc::{AllocError, Global};
@@ -65,7 +65,7 @@ pub fn run_with_arguments<R: Env + Files + AllocGlobal, I: Read, O: Write, E: Wr
     is_terminal: bool,
     progress: &mut P,
 ) -> u8
-    ensures { Ends is_terminal (E.contents errors.old) (E.contents errors.new) result }
+    ensures { EndsExplained is_terminal (E.contents errors.old) (E.contents errors.new) result }
 {
     match arguments(rt) {
         Ok(words) => run(
@@ -78,7 +78,7 @@ pub fn run_with_arguments<R: Env + Files + AllocGlobal, I: Read, O: Write, E: Wr
             is_terminal,
             progress,
         ),
-        Err(fault) => report(&fault, is_terminal, errors),
+        Err(fault) => report(&fault, is_terminal, None, errors),
     }
 }
 
@@ -109,8 +109,9 @@ fn arguments<R: Env + AllocGlobal>(rt: &R) -> Result<Vec<String>, Fault<'static>
 /// are written to `output`. `apply` and `play` report to `base_progress`.
 ///
 /// If the status is not 0, one line (for arguments that clap rejects, its whole text) is written to `errors`, except
-/// where the reader of an output closed it early. If `is_terminal`, which means that `errors` is a terminal, a second
-/// line has the reason why an input can't be read. A failed write to `errors` does not change the status.
+/// where the reader of an output closed it early. If `is_terminal`, which means that `errors` is a terminal, or if
+/// `--explain` is given, indented lines follow: the line of the script or the note list, what the fault means and what to
+/// do about it, or why an input can't be read. A failed write to `errors` does not change the status.
 pub fn run<H: Host, S: AsStr, I: Read, O: Write + ClosedPipe, E: Write, P: Progress>(
     host: &mut H,
     alloc: Global,
@@ -126,52 +127,61 @@ pub fn run<H: Host, S: AsStr, I: Read, O: Write + ClosedPipe, E: Write, P: Progr
         (record { files = H.world host.old; printed = O.contents output.old })
         (record { files = H.world host.new; printed = O.contents output.new }) (H.written host.new)
         (E.contents errors.old) (E.contents errors.new) result }
-    ensures ends { Ends is_terminal (E.contents errors.old) (E.contents errors.new) result }
+    ensures ends { Ends (is_explained is_terminal (map S.text words.entry.now)) (E.contents errors.old) (E.contents errors.new)
+        result }
 {
+    let explains = is_terminal || asks_for_explanations(words);
     match request_of(alloc, words) {
         Ok(request) => {
-            let end = serve(host, alloc, request, input, output, progress);
-            status_of(&end, is_terminal, errors)
+            let mut source = SourceLine::new();
+            let end = serve(host, alloc, request, input, output, &mut source, progress);
+            status_of(&end, explains, source.shown(), errors)
         }
-        Err(error) => status_of(&answer(alloc, error, output), is_terminal, errors),
+        Err(error) => status_of(&answer(alloc, error, output), explains, None, errors),
     }
 }
 
 // Reports a fault, and returns the exit status.
-fn status_of<E: Write>(end: &Result<(), Fault<'_>>, is_terminal: bool, errors: &mut E) -> u8
-    ensures { IsReported is_terminal (E.contents errors.old) (E.contents errors.new) result end.now }
+fn status_of<E: Write>(
+    end: &Result<(), Fault<'_>>,
+    explains: bool,
+    source: Option<&[u8]>,
+    errors: &mut E,
+) -> u8
+    ensures { IsReported explains (E.contents errors.old) (E.contents errors.new) result end.now }
 {
     match end {
         Ok(()) => 0,
-        Err(fault) => report(fault, is_terminal, errors),
+        Err(fault) => report(fault, explains, source, errors),
     }
 }
 
-// Does what a request asks for.
+// Does what a request asks for. The line of a script or a note list that a fault is about is noted as `source`.
 fn serve<'a, H: Host, I: Read, O: Write + ClosedPipe, P: Progress>(
     host: &mut H,
     alloc: Global,
     request: Request<'a>,
     input: &mut I,
     output: &mut O,
+    source: &mut SourceLine,
     progress: &mut P,
 ) -> Result<(), Fault<'a>>
     ensures { Means request.entry (record { files = H.world host.old; printed = O.contents output.old })
         (record { files = H.world host.new; printed = O.contents output.new }) (H.written host.new) result }
 {
     match request {
-        Request::Apply(paths) => apply(host, alloc, paths, progress),
+        Request::Apply(paths) => apply(host, alloc, paths, source, progress),
         Request::Canon(paths) => canon(host, alloc, paths, output),
         Request::Copy(operands) => copy(host, alloc, operands, output),
         Request::Diff(paths) => diff(host, alloc, paths, output),
-        Request::Explain(number) => explain(number, output),
+        Request::Explain(topic) => explain(alloc, topic, output),
         Request::Import(paths) => import(host, alloc, paths),
-        Request::Keep(paths) => keep(host, alloc, paths, output),
+        Request::Keep(paths) => keep(host, alloc, paths, output, source),
         Request::Live(paths) => live(host, alloc, paths, input, output),
         Request::Map(paths) => map(host, alloc, paths, output),
         Request::Merge(operands) => merge(host, alloc, operands, output),
         Request::New(bank) => new(host, alloc, bank, output),
-        Request::Play(paths) => play(host, alloc, paths, output, progress),
+        Request::Play(paths) => play(host, alloc, paths, output, source, progress),
         Request::Script(paths) => script(host, alloc, paths, output),
         Request::Show(paths) => show(host, alloc, paths, output),
         Request::Take(operands) => take(host, alloc, operands, output),

@@ -8,7 +8,7 @@ use std::process::ExitCode;
 fn main(rt: HostRuntime) -> ExitCode {
     let is_typed = rt.stdin().is_terminal();
     let is_watched = rt.stderr().is_terminal();
-    let mut input = Prompted::new(rt.stdin(), rt.stdout(), is_typed);
+    let mut input = Prompted::new(rt.stdin(), rt.stderr(), is_typed);
     let (mut output, mut errors) = (rt.stdout(), rt.stderr());
     let mut meter = ProgressMeter::new(&rt, rt.stderr(), is_watched);
     ExitCode::from(run_with_arguments(

@@ -13,14 +13,16 @@ use crate::edited_bank::{apply_script, read_script};
 use base_progress::Progress;
 use file_host::Host;
 use program_commands::ApplyPaths;
-use program_reports::Fault;
+use program_reports::{Fault, SourceLine};
 use std::alloc::Global;
 
-/// Runs the script on the bank. Both files are read whole first, so OUT may be the bank's own file.
+/// Runs the script on the bank. Both files are read whole first, so OUT may be the bank's own file. The line of a fault is
+/// noted as `source`.
 pub(crate) fn apply<'a, H: Host, P: Progress>(
     host: &mut H,
     alloc: Global,
     paths: ApplyPaths<'a>,
+    source: &mut SourceLine,
     progress: &mut P,
 ) -> Result<(), Fault<'a>>
     ensures { (printed : Option (List ℕ)) → Means (Apply paths.entry)
@@ -42,6 +44,7 @@ pub(crate) fn apply<'a, H: Host, P: Progress>(
                 paths,
                 file.as_slice(),
                 script.as_slice(),
+                source,
                 progress,
             ),
             Err(fault) => Err(fault),
@@ -56,6 +59,7 @@ fn save_edited<'a, H: Host, P: Progress>(
     paths: ApplyPaths<'a>,
     file: &[u8],
     script: &[u8],
+    source: &mut SourceLine,
     progress: &mut P,
 ) -> Result<(), Fault<'a>>
     ensures { (printed : Option (List ℕ)) → EndsFor (λ w. with_both paths.entry.out.now paths.entry.undo.now (outcome_of paths.entry.forms file.now script.now))
@@ -66,9 +70,15 @@ fn save_edited<'a, H: Host, P: Progress>(
         Ok((bank, pool)) => {
             match apply_script(alloc, bank, script, pool.as_slice(), paths.forms, progress) {
                 Ok(edited_bank) => save_both(host, paths.out, paths.undo, &edited_bank),
-                Err(fault) => Err(Fault::Run(fault, paths.out)),
+                Err(fault) => {
+                    source.note(script, &fault);
+                    Err(Fault::Run(fault, paths.out))
+                }
             }
         }
-        Err(fault) => Err(Fault::Run(fault, paths.out)),
+        Err(fault) => {
+            source.note(script, &fault);
+            Err(Fault::Run(fault, paths.out))
+        }
     }
 }

@@ -19,18 +19,19 @@ use bank_core::Bank;
 use file_host::Host;
 use plan_edits::{Keep, KeepPlayed, PresetNumbers, check_presets};
 use program_commands::{KeepPaths, Kept, PlanPaths, Zones};
-use program_reports::{ClosedPipe, Fault, RunFault};
+use program_reports::{ClosedPipe, Fault, RunFault, SourceLine};
 use script_notes::Note;
 use std::alloc::Global;
 use std::io::Write;
 
 /// Keeps some presets of a bank, and removes what they don't need. All inputs are read whole first, so OUT may be the
-/// bank's own file.
+/// bank's own file. The line of a fault is noted as `source`.
 pub(crate) fn keep<'a, H: Host, O: Write + ClosedPipe>(
     host: &mut H,
     alloc: Global,
     keep: KeepPaths<'a>,
     output: &mut O,
+    source: &mut SourceLine,
 ) -> Result<(), Fault<'a>>
     ensures { Means (request.Keep keep.entry)
         (record { files = H.world host.old; printed = O.contents output.old })
@@ -38,7 +39,7 @@ pub(crate) fn keep<'a, H: Host, O: Write + ClosedPipe>(
 {
     let KeepPaths { paths, kept } = keep;
     match kept {
-        Kept::Notes(notes, zones) => keep_played(host, alloc, paths, notes, zones, output),
+        Kept::Notes(notes, zones) => keep_played(host, alloc, paths, notes, zones, output, source),
         Kept::Presets(presets) => keep_listed(host, alloc, paths, presets, output),
     }
 }
@@ -100,6 +101,7 @@ fn keep_played<'a, H: Host, O: Write + ClosedPipe>(
     notes: &'a str,
     zones: Zones,
     output: &mut O,
+    source: &mut SourceLine,
 ) -> Result<(), Fault<'a>>
     ensures { Means (request.Keep (record { paths = paths.entry; kept = kept.Notes notes.entry zones }))
         (record { files = H.world host.old; printed = O.contents output.old })
@@ -115,6 +117,7 @@ fn keep_played<'a, H: Host, O: Write + ClosedPipe>(
                 text.as_slice(),
                 zones,
                 output,
+                source,
             ),
             Err(fault) => Err(fault),
         },
@@ -130,6 +133,7 @@ fn put_played<'a, H: Host, O: Write + ClosedPipe>(
     text: &[u8],
     zones: Zones,
     output: &mut O,
+    source: &mut SourceLine,
 ) -> Result<(), Fault<'a>>
     ensures { EndsFor (λ w. with_edits paths.entry file.now (keeping_played zones file.now text.now))
         (record { files = H.world host.old; printed = O.contents output.old })
@@ -137,7 +141,10 @@ fn put_played<'a, H: Host, O: Write + ClosedPipe>(
 {
     match read_to_keep(alloc, file, text) {
         Ok((bank, notes)) => put_notes(host, alloc, paths, bank, notes.as_slice(), zones, output),
-        Err(fault) => Err(Fault::Run(fault, paths.out)),
+        Err(fault) => {
+            source.note(text, &fault);
+            Err(Fault::Run(fault, paths.out))
+        }
     }
 }
 

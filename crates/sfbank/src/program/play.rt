@@ -13,17 +13,19 @@ use crate::play::render_notes;
 use base_progress::Progress;
 use file_host::Host;
 use program_commands::PlayPaths;
-use program_reports::{ClosedPipe, Fault};
+use program_reports::{ClosedPipe, Fault, SourceLine};
 use std::alloc::Global;
 use std::io::Write;
 use wave_file::WaveFile;
 
 /// Renders the notes on the bank as a WAVE file. Both files are read whole first, so the output may be the bank's file.
+/// The line of a fault is noted as `source`.
 pub(crate) fn play<'a, H: Host, O: Write + ClosedPipe, P: Progress>(
     host: &mut H,
     alloc: Global,
     paths: PlayPaths<'a>,
     output: &mut O,
+    source: &mut SourceLine,
     progress: &mut P,
 ) -> Result<(), Fault<'a>>
     ensures { Means (Play paths.entry)
@@ -39,6 +41,7 @@ pub(crate) fn play<'a, H: Host, O: Write + ClosedPipe, P: Progress>(
                 file.as_slice(),
                 notes.as_slice(),
                 output,
+                source,
                 progress,
             ),
             Err(fault) => Err(fault),
@@ -63,6 +66,7 @@ fn put_sound<'a, H: Host, O: Write + ClosedPipe, P: Progress>(
     file: &[u8],
     notes: &[u8],
     output: &mut O,
+    source: &mut SourceLine,
     progress: &mut P,
 ) -> Result<(), Fault<'a>>
     ensures { EndsFor (λ w. with_text w path.entry.now (play_outcome file.now notes.now))
@@ -71,6 +75,9 @@ fn put_sound<'a, H: Host, O: Write + ClosedPipe, P: Progress>(
 {
     match render_notes(alloc, file, notes, progress) {
         Ok(frames) => put(host, path, &WaveFile::new(frames.as_slice()), output),
-        Err(fault) => Err(Fault::Run(fault, path)),
+        Err(fault) => {
+            source.note(notes, &fault);
+            Err(Fault::Run(fault, path))
+        }
     }
 }
