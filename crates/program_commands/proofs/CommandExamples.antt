@@ -5,7 +5,19 @@ use Rattle.clap.specs.Words.{Text, all_of, fault_of, first_of, one_of, subcomman
 use Rattle.clap.proofs.OnLiterals.{clap_on_literals}
 use Rattle.program_commands.specs.Commands.{sfbank_app}
 use Rattle.program_commands.specs.declared.explain.Topic.TheVariants.{Generators, Name, Number}
-use Rattle.program_commands.specs.Words.{asks_for_explanations, IsPreset, IsTakenPreset, IsTopic}
+use Rattle.program_commands.specs.Words.{asks_for_explanations, AsksForNone, IsPreset, IsTakenPreset, IsTopic}
+use Rattle.program_commands.proofs.RequestLaws.{apply_asks_none}
+
+abbrev pub apply_words : List Text
+apply_words =
+    codes "sfbank" ∷ codes "apply" ∷ codes "in.sf2" ∷ codes "edits.txt" ∷ codes "out.sf2" ∷ codes "undo.txt" ∷ []
+
+abbrev pub apply_only_words : List Text
+apply_only_words =
+    codes "sfbank" ∷ codes "apply" ∷ codes "in.sf2" ∷ codes "edits.txt" ∷ codes "out.sf2" ∷ codes "--no-undo" ∷ []
+
+abbrev pub short_words : List Text
+short_words = codes "sfbank" ∷ codes "apply" ∷ codes "in.sf2" ∷ codes "edits.txt" ∷ codes "out.sf2" ∷ []
 
 abbrev pub explain_words : List Text
 explain_words = codes "sfbank" ∷ codes "explain" ∷ codes "41" ∷ []
@@ -59,6 +71,38 @@ value_given words name = option_map (λ used. one_of name used.1) (subcommand_of
 -- all words that words give under this name
 abbrev pub words_given : List Text → Text → Option (Option (List Text))
 words_given words name = option_map (λ used. all_of name used.1) (subcommand_of sfbank_app words)
+
+pub apply_undo : word_given apply_words (codes "UNDO") ≡ Some (Some (codes "undo.txt"))
+unfolding clap_on_literals
+apply_undo = refl
+
+pub apply_unset : word_given apply_words (codes "no-undo") ≡ Some (Some (codes "false"))
+unfolding clap_on_literals
+apply_unset = refl
+
+pub apply_only_set : word_given apply_only_words (codes "no-undo") ≡ Some (Some (codes "true"))
+unfolding clap_on_literals
+apply_only_set = refl
+
+pub apply_only_absent : word_given apply_only_words (codes "UNDO") ≡ Some None
+unfolding clap_on_literals
+apply_only_absent = refl
+
+pub short_used : command_used short_words ≡ Some (codes "apply")
+unfolding clap_on_literals
+short_used = refl
+
+pub short_unset : word_given short_words (codes "no-undo") ≡ Some (Some (codes "false"))
+unfolding clap_on_literals
+short_unset = refl
+
+pub short_absent : word_given short_words (codes "UNDO") ≡ Some None
+unfolding clap_on_literals
+short_absent = refl
+
+-- without UNDO and the flag the words ask for no request
+pub short_asks_none : AsksForNone (subcommand_of sfbank_app short_words)
+short_asks_none = apply_asks_none (subcommand_of sfbank_app short_words) short_used short_unset short_absent
 
 pub explain_used : command_used explain_words ≡ Some (codes "explain")
 unfolding clap_on_literals
@@ -182,6 +226,18 @@ unfolding clap_on_literals
 copy_no_name = refl
 
 -- clap finds no fault in any of them
+pub apply_passes : fault_of sfbank_app apply_words ≡ []
+unfolding clap_on_literals
+apply_passes = refl
+
+pub apply_only_passes : fault_of sfbank_app apply_only_words ≡ []
+unfolding clap_on_literals
+apply_only_passes = refl
+
+pub short_passes : fault_of sfbank_app short_words ≡ []
+unfolding clap_on_literals
+short_passes = refl
+
 pub explain_passes : fault_of sfbank_app explain_words ≡ []
 unfolding clap_on_literals
 explain_passes = refl

@@ -1,13 +1,13 @@
 -- Requests of the command that was used.
 use Rattle.std.proofs.Common.{◌≡◌, ◌∙◌, ◌⊎◌, ◌&&◌, Bool, true, false, refl, IsSome, Result, Ok, Err, List, Option}
-use Rattle.std.proofs.Common.{Some, None, codes, sym, subst, arith}
-use Rattle.clap.specs.Words.{App, HasKind, HasMatchesOf, Kinds, Row, Text, fault_of, is_simple_and_free}
+use Rattle.std.proofs.Common.{Some, None, ap, codes, option_map, sym, subst, arith}
+use Rattle.clap.specs.Words.{App, HasKind, HasMatchesOf, Kinds, Row, Text, fault_of, first_of, is_simple_and_free}
 use Rattle.clap.specs.Words.{subcommand_of, subcommand_rows_of}
 use Rattle.clap.specs.declared.error.Error.{Error}
 use Rattle.clap.specs.declared.parser.matches.ArgMatches.{ArgMatches}
 use Rattle.program_commands.specs.declared.explain.Topic.{Topic}
 use Rattle.program_commands.specs.declared.words.Request.{Request}
-use Rattle.program_commands.specs.declared.words.Request.TheVariants.{Explain}
+use Rattle.program_commands.specs.declared.words.Request.TheVariants.{Apply, ApplyOnly, Explain}
 use Rattle.program_commands.specs.Commands.{IsSfbankApp, app_with, parsers_of, sfbank_app}
 use Rattle.program_commands.specs.Words.{AreGiven, AsksFor, AsksForNone, FailsByFault, FindsOne, IsParsedBy}
 use Rattle.program_commands.specs.Words.{command_of, operands_of, topic_operands}
@@ -28,6 +28,24 @@ explained rows {name} command request asked = go request (sym command) asked
     go : (r : Request) → codes "explain" ≡ name → AsksFor (Some (name, rows)) r
         → (topic : Topic) × AreGiven rows (topic_operands topic)
     go (Explain topic) is asked = (topic, asked.1)
+    go _ is asked = absurd (grind arith)
+
+-- if `apply` was used, with neither UNDO nor the flag in its place, no request is asked for
+pub apply_asks_none : (used : Option (Text × List Row)) → option_map (λ u. u.0) used ≡ Some (codes "apply")
+    → option_map (λ u. first_of (codes "no-undo") u.1) used ≡ Some (Some (codes "false"))
+    → option_map (λ u. first_of (codes "UNDO") u.1) used ≡ Some None → AsksForNone used
+apply_asks_none None name flag undo request asked = asked
+apply_asks_none (Some used) name flag undo request asked =
+    let is : codes "apply" ≡ used.0 = cc in
+    go request is asked
+  where
+    go : (r : Request) → codes "apply" ≡ used.0 → AsksFor (Some used) r → ⊥
+    go (Apply paths) is asked =
+        let bad : Some (Some paths.undo.now) ≡ Some None = ap Some (sym asked.1.1.1.1.0) ∙ undo in absurd cc
+    go (ApplyOnly paths) is asked =
+        let bad : Some (Some (codes "true")) ≡ Some (Some (codes "false")) =
+        ap Some (sym asked.1.1.1.1.1.1.1.0) ∙ flag in
+        absurd (grind arith)
     go _ is asked = absurd (grind arith)
 
 -- what a command with the app of sfbank is asked for, the words ask sfbank for

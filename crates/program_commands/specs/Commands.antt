@@ -11,10 +11,12 @@ use Rattle.program_commands.specs.declared.commands.Operand as operand
 use Rattle.program_commands.specs.declared.commands.Operand.TheVariants as variant
 
 -- an argument of a command with its name: any word, a path, a number of 32 bits, a level and the word for a member are
--- required; a flag, a number of 16 bits with its default, a word and words given one by one are options
+-- required; a path after these is optional; a flag, a number of 16 bits with its default, a word and words given one by
+-- one are options
 pub data Argument : Type 0 where
   Word : Text → Argument
   Path : Text → Argument
+  OptionalPath : Text → Argument
   Number : Text → Argument
   Level : Text → Argument
   Member : Text → Argument
@@ -65,6 +67,12 @@ dry_run_flag = Flag (codes "dry-run")
 abbrev pub script_option : Argument
 script_option = Single (codes "script")
 
+-- the arguments of `apply`
+abbrev pub apply_arguments : List Argument
+apply_arguments =
+    force_flag ∷ neutral_flag ∷ Flag (codes "no-undo") ∷ input_path ∷ Path (codes "SCRIPT") ∷ output_path
+    ∷ OptionalPath (codes "UNDO") ∷ []
+
 -- the arguments of a command that finds edits
 abbrev pub plan_arguments : List Argument
 plan_arguments =
@@ -84,7 +92,7 @@ copy_arguments =
 -- the commands up to `live`, each with its arguments
 abbrev pub commands_to_live : List (Text × List Argument)
 commands_to_live =
-    (codes "apply", force_flag ∷ neutral_flag ∷ input_path ∷ Path (codes "SCRIPT") ∷ output_path ∷ undo_path ∷ [])
+    (codes "apply", apply_arguments)
     ∷ (codes "canon", input_path ∷ output_path ∷ [])
     ∷ (codes "copy", copy_arguments)
     ∷ (codes "diff", force_flag ∷ Path (codes "A") ∷ Path (codes "B") ∷ output_path ∷ [])
@@ -116,9 +124,13 @@ command_table = commands_to_live ++ commands_from_map
 abbrev pub number_parser : ℕ → ValueParser
 number_parser bits = parser.Signed (pos 0) (pos (2 ^ bits - 1))
 
+-- what clap reads of an argument that is found by its position
+abbrev pub rule_for_positional : Text → Rule
+rule_for_positional name = record (new_rule name) { action = Some Set }
+
 -- what clap reads of a required argument
 abbrev pub rule_for_required : Text → Rule
-rule_for_required name = record (new_rule name) { required = true; action = Some Set }
+rule_for_required name = record (rule_for_positional name) { required = true }
 
 -- what clap reads of an option
 abbrev pub rule_for_option : Text → Rule
@@ -128,6 +140,7 @@ rule_for_option name = record (new_rule name) { long = Some name }
 abbrev pub rule_for : WordParsers → Argument → Rule
 rule_for parsers (Word name) = rule_for_required name
 rule_for parsers (Path name) = rule_for_required name
+rule_for parsers (OptionalPath name) = rule_for_positional name
 rule_for parsers (Number name) =
     record (rule_for_required name) { parser = Some (number_parser 32) }
 rule_for parsers (Level name) = record (rule_for_required name) { parser = Some parsers.levels }
@@ -187,6 +200,7 @@ IsSfbankApp app =
 abbrev pub argument_of : operand.Operand → Argument
 argument_of (variant.Word name help) = Word name.now
 argument_of (variant.Path name help) = Path name.now
+argument_of (variant.OptionalPath name help) = OptionalPath name.now
 argument_of (variant.Number name help) = Number name.now
 argument_of (variant.Level name help) = Level name.now
 argument_of (variant.Member name help) = Member name.now

@@ -30,20 +30,21 @@ use Rattle.program_commands.specs.declared.plans.TidyPaths.{TidyPaths}
 use Rattle.program_commands.specs.declared.plans.Zones.{Zones}
 use Rattle.program_commands.specs.declared.plans.Zones.TheVariants as zones
 use Rattle.program_commands.specs.declared.words.Request.{Request}
-use Rattle.program_commands.specs.declared.words.Request.TheVariants.{Apply, Canon, Copy, Diff, Explain, Import}
-use Rattle.program_commands.specs.declared.words.Request.TheVariants.{Keep, Live, Map, Merge, New, Play, Script}
-use Rattle.program_commands.specs.declared.words.Request.TheVariants.{Show, Take, Tidy, Wave}
+use Rattle.program_commands.specs.declared.words.Request.TheVariants.{Apply, ApplyOnly, Canon, Copy, Diff}
+use Rattle.program_commands.specs.declared.words.Request.TheVariants.{Explain, Import, Keep, Live, Map, Merge, New}
+use Rattle.program_commands.specs.declared.words.Request.TheVariants.{Play, Script, Show, Take, Tidy, Wave}
 use Rattle.program_commands.specs.declared.words.Forms.{Forms}
 use Rattle.program_commands.specs.declared.words.Forms.TheVariants.{Every, Neutral}
 
 -- an operand of a request with its name and its value: a word, a name of a member, a number with its width in bits, a
--- flag, a flag that is not given, an option that is not used, an option and a flag of which at most one is given, the
--- numbers of a preset, presets, presets to copy, or a topic of `explain`
+-- flag, a flag that is given, a flag that is not given, an option or operand that is not used, an option and a flag of
+-- which at most one is given, the numbers of a preset, presets, presets to copy, or a topic of `explain`
 pub data Operand : Type 0 where
   Word : Text → Text → Operand
   Name : Text → List ℕ → Operand
   Number : Text → ℕ → ℕ → Operand
   Flag : Text → Bool → Operand
+  Set : Text → Operand
   Unset : Text → Operand
   Absent : Text → Operand
   NotBoth : Text → Text → Operand
@@ -172,6 +173,16 @@ operands_of (Apply paths) =
     ∷ Word (codes "UNDO") paths.undo.now
     ∷ Flag (codes "neutral") (is_neutral paths.forms)
     ∷ Flag (codes "force") paths.force
+    ∷ Unset (codes "no-undo")
+    ∷ []
+operands_of (ApplyOnly paths) =
+    Word (codes "IN") paths.input.now
+    ∷ Word (codes "SCRIPT") paths.script.now
+    ∷ Word (codes "OUT") paths.out.now
+    ∷ Absent (codes "UNDO")
+    ∷ Flag (codes "neutral") (is_neutral paths.forms)
+    ∷ Unset (codes "force")
+    ∷ Set (codes "no-undo")
     ∷ []
 operands_of (Canon paths) = Word (codes "IN") paths.input.now ∷ Word (codes "OUT") paths.out.now ∷ []
 operands_of (Copy copy) = copy_operands copy
@@ -228,6 +239,7 @@ operands_of (Wave paths) =
 -- the command of each request
 abbrev pub command_of : Request → Text
 command_of (Apply paths) = codes "apply"
+command_of (ApplyOnly paths) = codes "apply"
 command_of (Canon paths) = codes "canon"
 command_of (Copy copy) = codes "copy"
 command_of (Diff paths) = codes "diff"
@@ -306,6 +318,7 @@ IsGiven rows (Flag name value) =
     (one_of name rows ≡ Some (codes "true") → value ≡ true)
     × (one_of name rows ≡ Some (codes "false") → value ≡ false)
     × (one_of name rows ≡ None → value ≡ false)
+IsGiven rows (Set name) = first_of name rows ≡ Some (codes "true")
 IsGiven rows (Unset name) = first_of name rows ≢ Some (codes "true")
 IsGiven rows (Absent name) = first_of name rows ≡ None
 IsGiven rows (NotBoth option flag) = (first_of option rows ≡ None) ⊎ (first_of flag rows ≢ Some (codes "true"))

@@ -3,7 +3,7 @@ ghost use Rattle.std.specs.Prelude.{◌≡◌, IfOk, false, fold, map};
 ghost use Rattle.clap.specs.Words.{app_of, rule_of, shape_of, with_subcommand};
 ghost use Rattle.program_commands.specs.Commands.{argument_of, command_in, commands_from_map, commands_to_live};
 ghost use Rattle.program_commands.specs.Commands.{program_app, rule_for, rule_for_option};
-ghost use Rattle.program_commands.specs.Commands.{rule_for_required, shape_for, IsSfbankApp};
+ghost use Rattle.program_commands.specs.Commands.{rule_for_positional, rule_for_required, shape_for, IsSfbankApp};
 
 use clap::builder::ValueParser;
 use clap::{Arg, ArgAction, Command, value_parser};
@@ -46,6 +46,8 @@ enum Operand {
     Word(&'static str, &'static str),
     /// A path, required.
     Path(&'static str, &'static str),
+    /// A path, optional, after the required ones.
+    OptionalPath(&'static str, &'static str),
     /// A 32-bit number, required.
     Number(&'static str, &'static str),
     /// `preset` or `inst`, required.
@@ -100,10 +102,11 @@ static COMMANDS_TO_LIVE: [Entry; 8] = [
                 "neutral",
                 "Accepts only edits of the thirteen neutral forms, which never change the sound",
             ),
+            Operand::Flag("no-undo", "Writes no undo script; UNDO is left out"),
             Operand::Path("IN", "The bank to edit"),
             Operand::Path("SCRIPT", "The edits, one a line"),
             Operand::Path("OUT", "Where the edited bank is written; may be IN"),
-            Operand::Path("UNDO", "Where the undo script is written"),
+            Operand::OptionalPath("UNDO", "Where the undo script is written"),
         ],
         example: "Example: sfbank apply organ.sf2 edits.txt edited.sf2 undo.txt",
     },
@@ -430,6 +433,7 @@ fn arg_of<'a>(alloc: Global, operand: Operand, parsers: WordParsers<'a>) -> Arg<
     match operand {
         Operand::Word(name, help) => required(alloc, name, help),
         Operand::Path(name, help) => required(alloc, name, help),
+        Operand::OptionalPath(name, help) => positional(alloc, name, help),
         Operand::Number(name, help) => required(alloc, name, help).value_parser(value_parser!(u32)),
         Operand::Level(name, help) => required(alloc, name, help).value_parser(parsers.levels),
         Operand::Member(name, help) => required(alloc, name, help).value_parser(parsers.members),
@@ -453,10 +457,15 @@ fn required<'a>(alloc: Global, name: &'static str, help: &'static str) -> Arg<'a
     ensures rule { rule_of result ≡ rule_for_required name.entry.now }
     ensures local { result.global ≡ false }
 {
-    Arg::new(alloc, name)
-        .required(true)
-        .action(ArgAction::Set)
-        .help(help)
+    positional(alloc, name, help).required(true)
+}
+
+/// An operand that is found by its position.
+fn positional<'a>(alloc: Global, name: &'static str, help: &'static str) -> Arg<'a>
+    ensures rule { rule_of result ≡ rule_for_positional name.entry.now }
+    ensures local { result.global ≡ false }
+{
+    Arg::new(alloc, name).action(ArgAction::Set).help(help)
 }
 
 /// An optional operand, written with two hyphens.

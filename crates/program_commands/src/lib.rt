@@ -12,6 +12,6 @@ pub use explain::{Topic, asks_for_explanations};
 pub use names::recording_name;
 pub use plans::{CopyPaths, KeepPaths, Kept, MergePaths, PlanPaths, TakePaths, TidyPaths, Zones};
 pub use words::{
-    ApplyPaths, CanonPaths, DiffPaths, Forms, ImportPaths, LivePaths, MapPaths, NewBank, PlayPaths,
-    Request, ScriptPaths, ShowPaths, WavePaths, request_of,
+    ApplyOnlyPaths, ApplyPaths, CanonPaths, DiffPaths, Forms, ImportPaths, LivePaths, MapPaths,
+    NewBank, PlayPaths, Request, ScriptPaths, ShowPaths, WavePaths, request_of,
 };

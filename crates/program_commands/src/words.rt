@@ -23,6 +23,8 @@ use std::convert::AsStr;
 pub enum Request<'a> {
     /// Run a script on a bank.
     Apply(ApplyPaths<'a>),
+    /// Run a script on a bank, and write no undo script.
+    ApplyOnly(ApplyOnlyPaths<'a>),
     /// Write a bank in its canonical form.
     Canon(CanonPaths<'a>),
     /// Copy a preset, an instrument or a sample.
@@ -75,6 +77,15 @@ pub struct ApplyPaths<'a> {
     pub forms: Forms,
     /// Whether the undo script may replace a bank.
     pub force: bool,
+}
+
+/// The operands of `apply --no-undo`.
+#[derive(Clone, Copy)]
+pub struct ApplyOnlyPaths<'a> {
+    pub input: &'a str,
+    pub script: &'a str,
+    pub out: &'a str,
+    pub forms: Forms,
 }
 
 /// The operands of `canon`.
@@ -210,6 +221,7 @@ fn no_request(matches: &ArgMatches<'_>) -> &'static str {
         Some((_, words)) if saves_in_dry_run(words) => {
             "--script saves the edits that --dry-run prints: give one of the two"
         }
+        Some(("apply", _)) => "apply needs UNDO, or --no-undo and neither UNDO nor --force",
         Some(("copy", _)) => {
             "copy takes --name NAME of at most 20 bytes, and --as BANK:NUMBER for a preset only, such as --as 8:24"
         }
@@ -267,6 +279,16 @@ fn request_to_take<'a>(
     }
 }
 
+/// Returns the request of `apply`: the one that UNDO is for, or that of `--no-undo`. No words ask for both.
+fn request_to_apply<'a>(words: &ArgMatches<'a>) -> Option<Request<'a>>
+    ensures { FindsOne result (AsksFor (Some (codes "apply", rows_in words.now))) }
+{
+    match read_apply(words) {
+        Some(paths) => Some(Request::Apply(paths)),
+        None => Some(Request::ApplyOnly(read_apply_only(words)?)),
+    }
+}
+
 /// Returns the request of `copy`. Its operands hold a name and borrow words, for which the language has no `?`.
 fn request_to_copy<'a>(words: &ArgMatches<'a>) -> Option<Request<'a>>
     ensures { FindsOne result (AsksFor (Some (codes "copy", rows_in words.now))) }
@@ -284,7 +306,7 @@ fn request_of_command<'a>(name: &str, words: &ArgMatches<'a>) -> Option<Request<
     ensures { FindsOne result (AsksFor (Some (name.now, rows_in words.now))) }
 {
     Some(match name {
-        "apply" => Request::Apply(read_apply(words)?),
+        "apply" => return request_to_apply(words),
         "canon" => Request::Canon(read_canon(words)?),
         "copy" => return request_to_copy(words),
         "diff" => Request::Diff(read_diff(words)?),
@@ -306,6 +328,9 @@ fn request_of_command<'a>(name: &str, words: &ArgMatches<'a>) -> Option<Request<
 fn read_apply<'a>(matches: &ArgMatches<'a>) -> Option<ApplyPaths<'a>>
     ensures { FindsOne result (λ paths. AreGiven (rows_in matches.now) (operands_of (Request.Apply paths))) }
 {
+    if is_set(matches, "no-undo") {
+        return None;
+    }
     Some(ApplyPaths {
         input: read_word(matches, "IN")?,
         script: read_word(matches, "SCRIPT")?,
@@ -313,6 +338,23 @@ fn read_apply<'a>(matches: &ArgMatches<'a>) -> Option<ApplyPaths<'a>>
         undo: read_word(matches, "UNDO")?,
         forms: read_forms(matches),
         force: read_flag(matches, "force"),
+    })
+}
+
+fn read_apply_only<'a>(matches: &ArgMatches<'a>) -> Option<ApplyOnlyPaths<'a>>
+    ensures { FindsOne result (λ paths. AreGiven (rows_in matches.now) (operands_of (Request.ApplyOnly paths))) }
+{
+    if !is_set(matches, "no-undo")
+        || read_word(matches, "UNDO").is_some()
+        || is_set(matches, "force")
+    {
+        return None;
+    }
+    Some(ApplyOnlyPaths {
+        input: read_word(matches, "IN")?,
+        script: read_word(matches, "SCRIPT")?,
+        out: read_word(matches, "OUT")?,
+        forms: read_forms(matches),
     })
 }
 

@@ -3,7 +3,6 @@ use Rattle.program_commands.specs.Words.{AreGiven, AsksFor, rows_in, topic_opera
 use Rattle.program_commands.proofs.GetterLaws.{none_found}
 use Rattle.program_commands.proofs.RequestLaws.{asks, explained}
 use Rattle.program_commands.proofs.words.request_of_command.Goals as goal
-use Rattle.program_commands.proofs.words.request_of_command.Goals.{in-apply+in_ok-read_apply-in-apply}
 use Rattle.program_commands.proofs.words.request_of_command.Goals.{in-canon+in_ok-read_canon-in-canon}
 use Rattle.program_commands.proofs.words.request_of_command.Goals.{in-diff+in_ok-read_diff-in-diff}
 use Rattle.program_commands.proofs.words.request_of_command.Goals.{in-explain+in_ok-read_topic-in-explain}
@@ -31,8 +30,6 @@ returns-in_err-read_topic-in-explain c =
 pub returns : goal.returns
 returns c = let rows = rows_in c.args.words.now in (
   elim c.match-name.branch [
-    | in-apply+in_ok-read_apply-in-apply w ↦
-        asks rows w.result-is w.in-apply.is w.in_ok-read_apply-in-apply.ensures.0
     | in-canon+in_ok-read_canon-in-canon w ↦
         asks rows w.result-is w.in-canon.is w.in_ok-read_canon-in-canon.ensures.0
     | in-diff+in_ok-read_diff-in-diff w ↦
