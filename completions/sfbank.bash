@@ -3,7 +3,7 @@
 # The options of a command, or of the program if there is none.
 _sfbank_options() {
   case $1 in
-    apply) echo --force --neutral --explain --help ;;
+    apply) echo --force --neutral --no-undo --explain --help ;;
     copy) echo --as --dry-run --force --name --script --explain --help ;;
     diff | import | live | map | play | wave) echo --force --explain --help ;;
     keep) echo --dry-run --force --notes --preset --script --zones --explain --help ;;

@@ -1,5 +1,5 @@
 # Tests the tables of scripts, row by row: a script on a bank, and the result of `apply`. Each script is tested with and
-# without a line feed after its last line.
+# without a line feed after its last line, and with `--no-undo`.
 package Scripts;
 use strict;
 use warnings;
@@ -48,19 +48,25 @@ sub wrong_of_undo {
     return read_bytes('again') eq lines($printed) ? undef : 'is printed otherwise: ' . short(read_bytes('again'));
 }
 
+# Applies the last script again, without an undo script.
+sub apply_alone { my ($bank) = @_; return run_command(['apply', '--no-undo', $bank, 'script', 'alone'], 'alone'); }
+
 # Returns what is wrong with a script that must be done with these results, or undef.
 sub wrong_of_done {
     my ($bank, $script, $due) = @_;
     my $wrong = Rows::is_done(apply_text($bank, "$script\n", 'out', 'undo')) // wrong_of_out($due) // wrong_of_undo($bank, $script, $due);
     $wrong //= Rows::is_done(apply_text($bank, $script, 'bare', 'bare.undo'));
-    return $wrong // (same('bare', 'out') && same('bare.undo', 'undo') ? undef : 'another answer without the last line feed');
+    $wrong //= same('bare', 'out') && same('bare.undo', 'undo') ? undef : 'another answer without the last line feed';
+    $wrong //= Rows::is_done(apply_alone($bank));
+    return $wrong // (same('alone', 'out') ? undef : 'another bank without an undo script');
 }
 
 # Returns what is wrong with a script that must be refused with this line, or undef.
 sub wrong_of_refused {
     my ($bank, $script, $due) = @_;
     my $wrong = wrong_of_line(apply_text($bank, "$script\n", 'out', 'undo'), $due);
-    return $wrong // wrong_of_line(apply_text($bank, $script, 'out', 'undo'), $due);
+    $wrong //= wrong_of_line(apply_text($bank, $script, 'out', 'undo'), $due);
+    return $wrong // wrong_of_line(apply_alone($bank), $due);
 }
 
 # Returns what is wrong with a row, or undef. Its results are one line, or parts that begin with a keyword each.

@@ -21,7 +21,7 @@ use Rattle.sfbank.specs.Outcome.{Done, after_reading}
 use Rattle.sfbank.specs.Written.{FailsBefore}
 use Rattle.sfbank.specs.Plans.{Action, Content, Texts, Known, Why, Fails, SavesBoth, Prints, Text, Explanation}
 use Rattle.sfbank.specs.Plans.{standard_output, put_at}
-use Rattle.sfbank.specs.Plans.{Difference, with_text, with_print, with_both, with_difference}
+use Rattle.sfbank.specs.Plans.{Difference, with_text, without_undo, with_print, with_both, with_difference}
 use Rattle.sfbank.specs.Differences.{TwoBanks, FindsDifference, banks_in, two_banks_of}
 use Rattle.sfbank.specs.Ends.{Outside, AreTexts, IsContent, IsEarly, IsStopped, EndsAs, EndsFor, path_of}
 use Rattle.sfbank.specs.Meanings.{EndsExplained, MeansPlan}
@@ -99,6 +99,13 @@ pub text_put : (path text : List ℕ) (outcome : Result (List ℕ) RunFault) (ol
     → EndsFor (λ w. with_text w path outcome) old new written end
 text_put path text outcome old new written end e h =
     subst (λ (o : Result (List ℕ) RunFault). EndsFor (λ w. with_text w path o) old new written end) (sym e) h
+
+pub only_fails : (files : Option World) (printed : Option (List ℕ)) (written : ℕ) (path : Bor (List ℕ))
+    (why : RunFault) (outcome : Result Done RunFault) → FailsBefore why outcome
+    → EndsFor {U = Unit {0}} (λ w. with_text w path.now (without_undo outcome)) (at files printed) (at files printed) written
+    (Err (Run why path))
+only_fails files printed written path why outcome h =
+    outcome_fails files printed written path (λ w r. with_text w path.now (without_undo r)) why outcome (λ w fault. refl) h
 
 -- ---- a text that is printed
 

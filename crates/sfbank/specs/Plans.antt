@@ -14,7 +14,7 @@ use Rattle.script_of_bank.specs.declared.samples.SamplePoints.TheVariants.{Kept,
 use Rattle.show_listing.specs.declared.listing.Details.{Details}
 use Rattle.program_commands.specs.declared.explain.Topic.{Topic}
 use Rattle.program_commands.specs.declared.words.Request.{Request}
-use Rattle.program_commands.specs.declared.words.Request.TheVariants.{Apply, Canon, Copy, Diff, Explain, Import, Keep}
+use Rattle.program_commands.specs.declared.words.Request.TheVariants.{Apply, ApplyOnly, Canon, Copy, Diff, Explain, Import, Keep}
 use Rattle.program_commands.specs.declared.words.Request.TheVariants.{Live, Map, Merge, New, Play, Script, Show, Take}
 use Rattle.program_commands.specs.declared.words.Request.TheVariants.{Tidy, Wave}
 use Rattle.program_commands.specs.declared.plans.Kept as kept
@@ -80,6 +80,7 @@ pub record Inputs : Type 0 where
 -- the paths of the inputs
 abbrev pub first_input : Request → Option Path
 first_input (Apply paths) = Some paths.input.now
+first_input (ApplyOnly paths) = Some paths.input.now
 first_input (Canon paths) = Some paths.input.now
 first_input (Copy copy) = Some copy.paths.input.now
 first_input (Diff paths) = Some paths.first.now
@@ -104,6 +105,7 @@ notes_in (Presets list) = None
 
 abbrev pub second_input : Request → Option Path
 second_input (Apply paths) = Some paths.script.now
+second_input (ApplyOnly paths) = Some paths.script.now
 second_input (Diff paths) = Some paths.second.now
 second_input (Import paths) = Some paths.wave.now
 second_input (Keep keep) = notes_in keep.kept
@@ -159,6 +161,11 @@ with_print (Err fault) = Err (Fails standard_output fault)
 abbrev pub with_both : Path → Path → Result Done RunFault → Result Action Why
 with_both out undo (Ok done) = Ok (SavesBoth out undo (Known done))
 with_both out undo (Err fault) = Err (Fails out fault)
+
+-- the outcome of a run without its undo script
+abbrev pub without_undo : Result Done RunFault → Result (List ℕ) RunFault
+without_undo (Ok done) = Ok done.out
+without_undo (Err fault) = Err fault
 
 -- a difference of two files whose banks are of one version
 abbrev pub with_difference : World → Path → List ℕ → List ℕ → Result TwoBanks RunFault → Result Action Why
@@ -237,6 +244,11 @@ plan (Apply p) world inputs =
     (no_bank world p.undo.now p.force
     (with_input p.input.now inputs.first
     (λ file. with_input p.script.now inputs.second (λ script. with_both p.out.now p.undo.now (outcome_of p.forms file script))))))
+plan (ApplyOnly p) world inputs =
+    apart world p.out.now (p.script.now ∷ [])
+    (with_input p.input.now inputs.first
+    (λ file. with_input p.script.now inputs.second
+    (λ script. with_text world p.out.now (without_undo (outcome_of p.forms file script)))))
 plan (Canon p) world inputs = with_input p.input.now inputs.first (λ file. with_text world p.out.now (canon_outcome file))
 plan (Copy copy) world inputs =
     undo_apart world copy.paths

@@ -25,7 +25,7 @@ mod take;
 mod tidy;
 mod wave;
 
-use apply::apply;
+use apply::{apply, apply_only};
 use base_progress::Progress;
 use canon::canon;
 use clap::error::ErrorKind;
@@ -171,6 +171,7 @@ fn serve<'a, H: Host, I: Read, O: Write + ClosedPipe, P: Progress>(
 {
     match request {
         Request::Apply(paths) => apply(host, alloc, paths, source, progress),
+        Request::ApplyOnly(paths) => apply_only(host, alloc, paths, output, source, progress),
         Request::Canon(paths) => canon(host, alloc, paths, output),
         Request::Copy(operands) => copy(host, alloc, operands, output),
         Request::Diff(paths) => diff(host, alloc, paths, output),

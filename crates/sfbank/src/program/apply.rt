@@ -1,20 +1,22 @@
-//! The command `apply`.
+//! The command `apply`, with an undo script and without.
 ghost use Rattle.std.specs.Prelude.{Option, List, ℕ};
-ghost use Rattle.program_commands.specs.declared.words.Request.TheVariants.{Apply};
+ghost use Rattle.program_commands.specs.declared.words.Request.TheVariants.{Apply, ApplyOnly};
 ghost use Rattle.sfbank.specs.EditRuns.{outcome_of};
-ghost use Rattle.sfbank.specs.Plans.{with_both};
+ghost use Rattle.sfbank.specs.Plans.{with_both, with_text, without_undo};
 ghost use Rattle.sfbank.specs.Ends.{EndsFor};
 ghost use Rattle.sfbank.specs.Meanings.{Means};
 
-use super::checks::{EditPaths, reject_outputs};
+use super::checks::{EditPaths, reject_outputs, reject_same_file};
 use super::inputs::read_two;
-use super::outputs::save_both;
+use super::outputs::{put, save_both};
 use crate::edited_bank::{apply_script, read_script};
 use base_progress::Progress;
 use file_host::Host;
-use program_commands::ApplyPaths;
-use program_reports::{Fault, SourceLine};
+use program_commands::{ApplyOnlyPaths, ApplyPaths};
+use program_reports::{ClosedPipe, Fault, SourceLine};
+use sf_writer::BankFile;
 use std::alloc::Global;
+use std::io::Write;
 
 /// Runs the script on the bank. Both files are read whole first, so OUT may be the bank's own file. The line of a fault is
 /// noted as `source`.
@@ -70,6 +72,69 @@ fn save_edited<'a, H: Host, P: Progress>(
         Ok((bank, pool)) => {
             match apply_script(alloc, bank, script, pool.as_slice(), paths.forms, progress) {
                 Ok(edited_bank) => save_both(host, paths.out, paths.undo, &edited_bank),
+                Err(fault) => {
+                    source.note(script, &fault);
+                    Err(Fault::Run(fault, paths.out))
+                }
+            }
+        }
+        Err(fault) => {
+            source.note(script, &fault);
+            Err(Fault::Run(fault, paths.out))
+        }
+    }
+}
+
+/// Runs the script on the bank, and writes no undo script. Both files are read whole first, so OUT may be the bank's own
+/// file. The line of a fault is noted as `source`.
+pub(crate) fn apply_only<'a, H: Host, O: Write + ClosedPipe, P: Progress>(
+    host: &mut H,
+    alloc: Global,
+    paths: ApplyOnlyPaths<'a>,
+    output: &mut O,
+    source: &mut SourceLine,
+    progress: &mut P,
+) -> Result<(), Fault<'a>>
+    ensures { Means (ApplyOnly paths.entry)
+        (record { files = H.world host.old; printed = O.contents output.old })
+        (record { files = H.world host.new; printed = O.contents output.new }) (H.written host.new) result }
+{
+    match reject_same_file(host, paths.out, &[paths.script]) {
+        Ok(()) => match read_two(host, alloc, paths.input, paths.script) {
+            Ok((file, script)) => put_edited(
+                host,
+                alloc,
+                paths,
+                file.as_slice(),
+                script.as_slice(),
+                output,
+                source,
+                progress,
+            ),
+            Err(fault) => Err(fault),
+        },
+        Err(fault) => Err(fault),
+    }
+}
+
+fn put_edited<'a, H: Host, O: Write + ClosedPipe, P: Progress>(
+    host: &mut H,
+    alloc: Global,
+    paths: ApplyOnlyPaths<'a>,
+    file: &[u8],
+    script: &[u8],
+    output: &mut O,
+    source: &mut SourceLine,
+    progress: &mut P,
+) -> Result<(), Fault<'a>>
+    ensures { EndsFor (λ w. with_text w paths.entry.out.now (without_undo (outcome_of paths.entry.forms file.now script.now)))
+        (record { files = H.world host.old; printed = O.contents output.old })
+        (record { files = H.world host.new; printed = O.contents output.new }) (H.written host.new) result }
+{
+    match read_script(alloc, file, script) {
+        Ok((bank, pool)) => {
+            match apply_script(alloc, bank, script, pool.as_slice(), paths.forms, progress) {
+                Ok(edited_bank) => put(host, paths.out, &BankFile(&edited_bank.bank), output),
                 Err(fault) => {
                     source.note(script, &fault);
                     Err(Fault::Run(fault, paths.out))
