@@ -5,8 +5,9 @@ _sfbank_options() {
   case $1 in
     apply) echo --force --neutral --no-undo --explain --help ;;
     copy) echo --as --dry-run --force --name --script --explain --help ;;
-    diff | import | live | map | play | wave) echo --force --explain --help ;;
+    diff | import | map | wave) echo --force --explain --help ;;
     keep) echo --dry-run --force --notes --preset --script --zones --explain --help ;;
+    live | play) echo --force --report --explain --help ;;
     merge) echo --dry-run --force --script --shift --explain --help ;;
     new) echo --force --minor --explain --help ;;
     script) echo --force --no-points --explain --help ;;

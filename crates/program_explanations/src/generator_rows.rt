@@ -2,10 +2,11 @@
 //! 8.1.2 and 8.1.3).
 ghost use Rattle.std.specs.Prelude.{◌≡◌};
 ghost use Rattle.program_explanations.specs.GeneratorTable.{unit_name};
+ghost use Rattle.program_explanations.specs.declared.generator_rows.TheConstants.{ROWS};
 
 /// The unit of a generator's amount.
 #[derive(Clone, Copy)]
-pub(crate) enum Unit {
+pub enum Unit {
     /// Points of the sample data.
     Points,
     /// Multiples of 32,768 points.
@@ -42,7 +43,7 @@ pub(crate) enum Unit {
 
 /// The amount that counts where no zone sets a generator.
 #[derive(Clone, Copy)]
-pub(crate) enum DefaultAmount {
+pub enum DefaultAmount {
     /// This number.
     Number(i16),
     /// All keys, or all velocities.
@@ -52,14 +53,14 @@ pub(crate) enum DefaultAmount {
 }
 
 /// The length of the longest name.
-pub(crate) const NAME_LENGTH: usize = 26;
+pub const NAME_LENGTH: usize = 26;
 
 /// The length of the longest range.
-pub(crate) const RANGE_LENGTH: usize = 13;
+pub const RANGE_LENGTH: usize = 13;
 
 /// A generator, and its amounts.
 #[derive(Clone, Copy)]
-pub(crate) struct GeneratorRow {
+pub struct GeneratorRow {
     /// The number of its operator.
     pub number: u16,
     /// Its name in the standard, and blanks.
@@ -72,6 +73,13 @@ pub(crate) struct GeneratorRow {
     pub default: DefaultAmount,
     /// Whether the frames of a note depend on it.
     pub is_played: bool,
+}
+
+/// The generators that a script can set or that have an edit of their own, in the order of their numbers.
+pub fn generator_rows() -> &'static [GeneratorRow]
+    ensures { result.now ≡ ROWS }
+{
+    &ROWS
 }
 
 impl Unit {

@@ -8,4 +8,7 @@ mod generator_table;
 pub mod laws;
 
 pub use explanations::{Explanation, Explanations, FaultCode, explain, explain_name};
+pub use generator_rows::{
+    DefaultAmount, GeneratorRow, NAME_LENGTH, RANGE_LENGTH, Unit, generator_rows,
+};
 pub use generator_table::GeneratorTable;

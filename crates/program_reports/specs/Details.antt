@@ -1,6 +1,5 @@
 -- What follows the line of a fault where it is explained.
 use Rattle.std.specs.Prelude.{◌≡◌, ℕ, List, [], ◌∷◌, ◌++◌, codes, Option, Some, None}
-use Rattle.std.specs.Borrow.{Bor}
 use Rattle.std.specs.List.{concat}
 use Rattle.edit_refusals.specs.declared.refusal.Refusal.TheVariants.{Of}
 use Rattle.edit_forms.specs.declared.cause.Cause.TheVariants as cause
@@ -49,13 +48,8 @@ advice_text Nothing = []
 advice_text (Line text) = indented text.now
 advice_text (Explained e) = indented e.meaning.now ++ indented e.what_to_do.now
 
--- the line of a text that a fault is about, if it is known
-abbrev pub source_text : Option (Bor (List ℕ)) → List ℕ
-source_text (Some line) = concat (codes "    " ∷ line.now ∷ codes "\n" ∷ [])
-source_text None = []
-
 abbrev pub details_text : Details → List ℕ
-details_text details = source_text details.source ++ advice_text details.advice
+details_text details = details.remarks.now ++ advice_text details.advice
 
 -- the advice is the explanation of this code, or some line if there is no code
 abbrev pub IsExplained : Option FaultCode → List ℕ → Type 0
@@ -70,7 +64,6 @@ IsAdvice (Output fault path) text = IsExplained (Some (code.Output fault)) text
 IsAdvice (Run fault path) text = IsExplained (code_of fault) text
 IsAdvice fault text = text ≡ []
 
--- The details of a fault: a line of a text that it may be about, which is not specified, and advice.
+-- The details of a fault: remarks, such as the line of a script that it is about, which are not specified, and advice.
 abbrev pub AreDetails : Fault → List ℕ → Type 0
-AreDetails fault text =
-    (source : Option (Bor (List ℕ))) × (advice : List ℕ) × IsAdvice fault advice × (text ≡ source_text source ++ advice)
+AreDetails fault text = (remarks : List ℕ) × (advice : List ℕ) × IsAdvice fault advice × (text ≡ remarks ++ advice)

@@ -3,7 +3,7 @@ ghost use Rattle.std.specs.Prelude.{◌≡◌, []};
 ghost use Rattle.base_outputs.specs.Output.{Puts};
 ghost use Rattle.program_reports.specs.declared.details.Advice as Advice;
 ghost use Rattle.program_reports.specs.Details.{AreDetails, IsAdvice, IsExplained, code_of};
-ghost use Rattle.program_reports.specs.Details.{advice_text, details_text, indented, source_text};
+ghost use Rattle.program_reports.specs.Details.{advice_text, details_text, indented};
 
 use crate::fault::Fault;
 use crate::fault_lines::put_pieces;
@@ -15,9 +15,9 @@ use std::io::Write;
 
 /// What follows the line of a fault, in indented lines.
 #[derive(Clone, Copy)]
-pub(crate) struct Details<'s> {
-    // the line of a script or a note list that the fault is about
-    source: Option<&'s [u8]>,
+pub(crate) struct Details<'r> {
+    // what was found out about the fault
+    remarks: &'r [u8],
     advice: Advice,
 }
 
@@ -31,24 +31,24 @@ enum Advice {
     Explained(Explanation),
 }
 
-impl<'s> Details<'s> {
+impl<'r> Details<'r> {
     /// No details.
-    pub(crate) fn nothing() -> Details<'s>
+    pub(crate) fn nothing() -> Details<'r>
         ensures { details_text result ≡ [] }
     {
         Details {
-            source: None,
+            remarks: &[],
             advice: Advice::Nothing,
         }
     }
 }
 
-/// The details of a fault, which may be about a line of a text.
-pub(crate) fn details_of<'s>(fault: &Fault<'_>, source: Option<&'s [u8]>) -> Details<'s>
+/// The details of a fault, after remarks on it.
+pub(crate) fn details_of<'r>(fault: &Fault<'_>, remarks: &'r [u8]) -> Details<'r>
     ensures { AreDetails fault.now (details_text result) }
 {
     let advice = advice_on(fault);
-    Details { source, advice }
+    Details { remarks, advice }
 }
 
 // The reason why an input can't be read, or the explanation of another fault.
@@ -111,17 +111,8 @@ fn what_to_do(fault: &RunFault) -> &'static str {
 pub(crate) fn put_details<W: Write>(details: &Details<'_>, output: &mut Output<'_, W>)
     ensures { Puts W.contents output.old output.new (details_text details.now) }
 {
-    put_source(details.source, output);
+    output.put(details.remarks);
     put_advice(&details.advice, output);
-}
-
-fn put_source<W: Write>(source: Option<&[u8]>, output: &mut Output<'_, W>)
-    ensures { Puts W.contents output.old output.new (source_text source.entry) }
-{
-    match source {
-        Some(line) => put_pieces(&[b"    ", line, b"\n"], output),
-        None => {}
-    }
 }
 
 fn put_advice<W: Write>(advice: &Advice, output: &mut Output<'_, W>)

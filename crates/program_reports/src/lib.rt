@@ -3,12 +3,14 @@
 //! A crate of its own, so that it is proved in parallel with the crates that the runs depend on.
 #![tactic(auto)]
 
+mod decibels;
 mod details;
 mod fault;
 mod fault_lines;
 mod reporting;
 mod run_fault;
-mod source_line;
+mod run_remarks;
+mod sound_report;
 mod terminal;
 mod watched;
 
@@ -16,6 +18,6 @@ pub use fault::{Fault, STANDARD_OUTPUT};
 pub use fault_lines::{exit_status, fault_text};
 pub use reporting::report;
 pub use run_fault::RunFault;
-pub use source_line::SourceLine;
+pub use run_remarks::remark_on_run;
 pub use terminal::{ProgressMeter, Prompted};
-pub use watched::{ClosedPipe, Watched};
+pub use watched::{KnowsError, Watched};

@@ -49,14 +49,9 @@ fn put_line<W: Write>(fault: &Fault<'_>, output: &mut Output<'_, W>)
 }
 
 /// Reports a fault, and returns its exit status, also if the fault could not be written. If `explains`, its line is
-/// followed by indented lines: the line of the script or the note list that it is about (`source`), what it means and what
-/// to do about it, or why an input can't be read.
-pub fn report<E: Write>(
-    fault: &Fault<'_>,
-    explains: bool,
-    source: Option<&[u8]>,
-    errors: &mut E,
-) -> u8
+/// followed by indented lines: `remarks` on it, and what it means and what to do about it, or why an input can't be
+/// read.
+pub fn report<E: Write>(fault: &Fault<'_>, explains: bool, remarks: &[u8], errors: &mut E) -> u8
     ensures status { result ≡ status_of fault.now }
     ensures reported { Reports explains (E.contents errors.old) (E.contents errors.new) fault.now }
 {
@@ -66,18 +61,18 @@ pub fn report<E: Write>(
             1
         }
         _ => {
-            let details = shown_details(fault, explains, source);
+            let details = shown_details(fault, explains, remarks);
             let _ = write_text(&FaultReport { fault, details }, errors);
             status_of(fault)
         }
     }
 }
 
-fn shown_details<'s>(fault: &Fault<'_>, explains: bool, source: Option<&'s [u8]>) -> Details<'s>
+fn shown_details<'r>(fault: &Fault<'_>, explains: bool, remarks: &'r [u8]) -> Details<'r>
     ensures { AreShown explains fault.now (details_text result) }
 {
     if explains {
-        details_of(fault, source)
+        details_of(fault, remarks)
     } else {
         Details::nothing()
     }

@@ -1,7 +1,10 @@
 //! What the program writes on a terminal: the prompt of a live session, and the progress of long work.
 
+use crate::sound_report::SoundReport;
 use base_outputs::put_all;
-use base_progress::{Progress, Work};
+use base_progress::{MixedFrames, OverriddenSetting, Progress, StartedNote, Work};
+use program_hints::{Remarks, remark_on_live_line};
+use std::alloc::Global;
 use std::io;
 use std::io::{Read, Write};
 use std::time::{Clock, Duration, Instant};
@@ -60,12 +63,16 @@ const SHORT_TIME: u64 = 2;
 const CLEARED: &str = "\r\x1b[K";
 
 /// Shows the progress of long work on a terminal, in a line that is overwritten, and cleared at the end. On anything
-/// else, and for short work, it writes nothing.
+/// else, and for short work, it writes no progress. Where details are wanted, it also writes what helps with a faulty
+/// line of a live session, which settings of a script have no effect, and what was measured of the sound.
 #[derive(Drop)]
 pub struct ProgressMeter<'a, C: Clock, O: Write> {
+    alloc: Global,
     clock: &'a C,
     output: O,
     is_terminal: bool,
+    is_detailed: bool,
+    sound: SoundReport,
     work: Work,
     // The size of the work and how much is done, in lines or frames.
     count: u64,
@@ -78,11 +85,19 @@ pub struct ProgressMeter<'a, C: Clock, O: Write> {
 
 impl<'a, C: Clock, O: Write> ProgressMeter<'a, C, O> {
     /// A meter of no work yet, which writes to `output`.
-    pub fn new(clock: &'a C, output: O, is_terminal: bool) -> ProgressMeter<'a, C, O> {
+    pub fn new(
+        alloc: Global,
+        clock: &'a C,
+        output: O,
+        is_terminal: bool,
+    ) -> ProgressMeter<'a, C, O> {
         ProgressMeter {
+            alloc,
             clock,
             output,
             is_terminal,
+            is_detailed: is_terminal,
+            sound: SoundReport::new(),
             work: Work::Lines,
             count: 0,
             done: 0,
@@ -147,6 +162,48 @@ impl<'a, C: Clock, O: Write> Progress for ProgressMeter<'a, C, O> {
         if self.reported.is_some() {
             self.reported = None;
             let _ = put_all(&mut self.output, CLEARED.as_bytes());
+        }
+    }
+
+    fn set_detailed(&mut self, is_detailed: bool) {
+        self.is_detailed = is_detailed;
+    }
+
+    fn is_detailed(&self) -> bool {
+        self.is_detailed
+    }
+
+    fn started(&mut self, note: StartedNote) {
+        self.sound.add_note(note);
+    }
+
+    fn mixed(&mut self, frames: MixedFrames) {
+        self.sound.add_frames(frames);
+    }
+
+    fn found_fault(&mut self, line: &[u8]) {
+        let mut remarks = Remarks::new(true);
+        remark_on_live_line(self.alloc, line, &mut remarks);
+        let _ = put_all(&mut self.output, remarks.text());
+    }
+
+    fn found_overridden(&mut self, setting: OverriddenSetting) {
+        let OverriddenSetting { line, more } = setting;
+        let _ = write!(
+            self.output,
+            "line {line}: no effect, since each zone has its own value of this generator\n"
+        );
+        if more > 0 {
+            let _ = write!(
+                self.output,
+                "{more} more lines have no effect for the same reason\n"
+            );
+        }
+    }
+
+    fn report_sound(&mut self) {
+        if self.is_detailed {
+            let _ = self.sound.write_to(&mut self.output);
         }
     }
 }

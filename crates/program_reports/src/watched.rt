@@ -6,16 +6,17 @@ ghost use Rattle.std.specs.Io.KnownBytes.{WriteAppends, Keeps};
 use std::io;
 use std::io::{ErrorKind, Write};
 
-/// A writer that knows whether its last write or flush failed because nothing reads the other end of its pipe.
-pub trait ClosedPipe {
-    fn is_pipe_closed(&self) -> bool;
+/// A writer that knows the kind of the error by which its last write or flush failed, if it did. It is `BrokenPipe`
+/// where nothing reads the other end of a pipe.
+pub trait KnowsError {
+    fn last_error(&self) -> Option<ErrorKind>;
 }
 
-/// A writer that notices that nothing reads the other end of its pipe.
+/// A writer that notes its last error.
 #[derive(Drop)]
 pub struct Watched<'a, O: Write> {
     output: &'a mut O,
-    is_pipe_closed: bool,
+    last_error: Option<ErrorKind>,
 }
 
 impl<'a, O: Write> Watched<'a, O> {
@@ -23,14 +24,14 @@ impl<'a, O: Write> Watched<'a, O> {
     pub fn new(output: &'a mut O) -> Watched<'a, O> {
         Watched {
             output,
-            is_pipe_closed: false,
+            last_error: None,
         }
     }
 }
 
-impl<O: Write> ClosedPipe for Watched<'_, O> {
-    fn is_pipe_closed(&self) -> bool {
-        self.is_pipe_closed
+impl<O: Write> KnowsError for Watched<'_, O> {
+    fn last_error(&self) -> Option<ErrorKind> {
+        self.last_error
     }
 }
 
@@ -40,7 +41,7 @@ impl<O: Write> Write for Watched<'_, O> {
         ensures bytes { WriteAppends None None result bytes.now }
     {
         let result = self.output.write(bytes);
-        self.is_pipe_closed = is_broken_pipe(&result);
+        self.last_error = kind_of(&result);
         result
     }
 
@@ -48,15 +49,14 @@ impl<O: Write> Write for Watched<'_, O> {
         ensures { Keeps None None }
     {
         let result = self.output.flush();
-        self.is_pipe_closed = is_broken_pipe(&result);
+        self.last_error = kind_of(&result);
         result
     }
 }
 
-/// Whether a call failed because nothing reads the other end of a pipe.
-fn is_broken_pipe<T>(answer: &io::Result<T>) -> bool {
+fn kind_of<T>(answer: &io::Result<T>) -> Option<ErrorKind> {
     match answer {
-        Ok(_) => false,
-        Err(error) => error.kind() == ErrorKind::BrokenPipe,
+        Ok(_) => None,
+        Err(error) => Some(error.kind()),
     }
 }

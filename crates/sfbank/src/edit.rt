@@ -8,6 +8,7 @@ use crate::edited_bank::{apply_script, read_script};
 use crate::writing::write_edited;
 use base_progress::{NoReports, Progress};
 use program_commands::Forms;
+use program_hints::Remarks;
 use program_reports::RunFault;
 use std::alloc::Global;
 use std::io::Write;
@@ -94,7 +95,16 @@ pub(crate) fn run_script<W: Write, V: Write, P: Progress>(
 {
     match read_script(alloc, file, script) {
         Ok((bank, pool)) => {
-            match apply_script(alloc, bank, script, pool.as_slice(), forms, progress) {
+            let mut remarks = Remarks::new(false);
+            match apply_script(
+                alloc,
+                bank,
+                script,
+                pool.as_slice(),
+                forms,
+                &mut remarks,
+                progress,
+            ) {
                 Ok(edited_bank) => write_edited(&edited_bank, out, undo),
                 Err(fault) => Err(fault),
             }

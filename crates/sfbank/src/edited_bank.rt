@@ -17,10 +17,11 @@ use bank_core::Bank;
 use bank_edits::apply;
 use base_progress::{Progress, Work};
 use edit_forms::Edit;
-use edit_refusals::Refusal;
+use edit_refusals::{Cause, Refusal};
 use edit_script::{Line, parse, pool_of};
 use plan_edits::PlanFault;
 use program_commands::Forms;
+use program_hints::{Remarks, remark_on_users};
 use program_reports::RunFault;
 use sf_base::OutOfMemory;
 use sound_neutral_edits::is_neutral;
@@ -58,13 +59,14 @@ pub(crate) fn read_script<'a>(
 }
 
 /// Runs a script whose edits must be of these forms on a bank. `pool` holds the script's literals. Reports to
-/// `base_progress`, and writes nothing.
+/// `base_progress`, adds what uses a member that can't be removed to `remarks`, and writes nothing.
 pub(crate) fn apply_script<'a, P: Progress>(
     alloc: Global,
     mut bank: Bank<'a>,
     script: &[u8],
     pool: &'a [u8],
     forms: Forms,
+    remarks: &mut Remarks,
     progress: &mut P,
 ) -> Result<EditedBank<'a>, RunFault>
     requires pool { pool_bytes script.now ≡ Ok pool.now }
@@ -72,7 +74,7 @@ pub(crate) fn apply_script<'a, P: Progress>(
 {
     let lines = parse(alloc, script, pool)?;
     all_of(forms, lines.as_slice())?;
-    let undo = apply_all(alloc, &mut bank, lines, progress)?;
+    let undo = apply_all(alloc, &mut bank, lines, remarks, progress)?;
     Ok(EditedBank { bank, undo })
 }
 
@@ -102,13 +104,14 @@ pub(crate) fn apply_all<'a, P: Progress>(
     alloc: Global,
     bank: &mut Bank<'a>,
     lines: Vec<Line<'a>>,
+    remarks: &mut Remarks,
     progress: &mut P,
 ) -> Result<Vec<Edit<'a>>, RunFault>
     ensures applied { MatchResult result (λ undo. AllApplied bank.old bank.new lines.entry.items undo.items)
         (λ fault. StopsAtLine fault (first_refused bank.old lines.entry.items)) }
 {
     progress.begin(Work::Lines, lines.len() as u64);
-    let applied = apply_each(alloc, bank, lines, progress);
+    let applied = apply_each(alloc, bank, lines, remarks, progress);
     progress.end();
     let mut inverses = applied?;
     inverses.as_mut_slice().reverse();
@@ -120,6 +123,7 @@ fn apply_each<'a, P: Progress>(
     alloc: Global,
     bank: &mut Bank<'a>,
     lines: Vec<Line<'a>>,
+    remarks: &mut Remarks,
     progress: &mut P,
 ) -> Result<Vec<Edit<'a>>, RunFault>
     ensures applied { MatchResult result (λ inverses. AllApplied bank.old bank.new lines.entry.items (reverse inverses.items))
@@ -127,14 +131,19 @@ fn apply_each<'a, P: Progress>(
 {
     let mut inverses = Vec::new(alloc);
     for line in lines {
-        inverses.push(apply_line(alloc, bank, line)?)?;
+        inverses.push(apply_line(alloc, bank, line, remarks)?)?;
         progress.advance(1);
     }
     Ok(inverses)
 }
 
 // Applies the edit of a line, and returns its inverse. A function of its own, so that the loop drops no edit.
-fn apply_line<'a>(alloc: Global, bank: &mut Bank<'a>, line: Line<'a>) -> Result<Edit<'a>, RunFault>
+fn apply_line<'a>(
+    alloc: Global,
+    bank: &mut Bank<'a>,
+    line: Line<'a>,
+    remarks: &mut Remarks,
+) -> Result<Edit<'a>, RunFault>
     ensures done { IfOk result (λ back. IsDone bank.old bank.new line.entry.edit back) }
     ensures refused { (rest : List Line) → IfErr result (λ fault. StopsAtLine fault (first_refused bank.old (line.entry ∷ rest))) }
 {
@@ -142,7 +151,17 @@ fn apply_line<'a>(alloc: Global, bank: &mut Bank<'a>, line: Line<'a>) -> Result<
     match apply(alloc, bank, line.into_edit()) {
         Ok(back) => Ok(back),
         Err((Refusal::OutOfMemory, _edit)) => Err(RunFault::Memory),
-        Err((why, _edit)) => Err(RunFault::Refused(number, why)),
+        Err((why, edit)) => {
+            remark_on_refusal(bank, why, &edit, remarks);
+            Err(RunFault::Refused(number, why))
+        }
+    }
+}
+
+// Says what uses the member that an edit can't remove.
+fn remark_on_refusal(bank: &Bank<'_>, why: Refusal, edit: &Edit<'_>, remarks: &mut Remarks) {
+    if remarks.is_wanted() && why == Refusal::Of(Cause::InUse) {
+        remark_on_users(bank, edit, remarks);
     }
 }
 
@@ -165,7 +184,8 @@ pub(crate) fn apply_accepted<'a>(
     Ok(EditedBank { bank, undo })
 }
 
-// Applies an edit that the bank accepts, and returns its inverse. A function of its own, so that the loop drops no edit.
+// Applies an edit that the bank accepts, and returns its inverse. A function of its own, so that the loop drops no
+// edit.
 fn apply_one<'a>(
     alloc: Global,
     bank: &mut Bank<'a>,

@@ -40,10 +40,11 @@ use live::live;
 use map::map;
 use merge::merge;
 use new::new;
-use outputs::print;
+use outputs::{print, remark_on_output};
 use play::play;
 use program_commands::{Request, asks_for_explanations, request_of};
-use program_reports::{ClosedPipe, Fault, SourceLine, Watched, report};
+use program_hints::Remarks;
+use program_reports::{Fault, KnowsError, Watched, report};
 use script::script;
 use show::show;
 use std::alloc::{AllocError, Global};
@@ -78,7 +79,7 @@ pub fn run_with_arguments<R: Env + Files + AllocGlobal, I: Read, O: Write, E: Wr
             is_terminal,
             progress,
         ),
-        Err(fault) => report(&fault, is_terminal, None, errors),
+        Err(fault) => report(&fault, is_terminal, &[], errors),
     }
 }
 
@@ -110,9 +111,9 @@ fn arguments<R: Env + AllocGlobal>(rt: &R) -> Result<Vec<String>, Fault<'static>
 ///
 /// If the status is not 0, one line (for arguments that clap rejects, its whole text) is written to `errors`, except
 /// where the reader of an output closed it early. If `is_terminal`, which means that `errors` is a terminal, or if
-/// `--explain` is given, indented lines follow: the line of the script or the note list, what the fault means and what to
-/// do about it, or why an input can't be read. A failed write to `errors` does not change the status.
-pub fn run<H: Host, S: AsStr, I: Read, O: Write + ClosedPipe, E: Write, P: Progress>(
+/// `--explain` is given, indented lines follow: the line of the script or the note list, what the fault means and what
+/// to do about it, or why an input can't be read. A failed write to `errors` does not change the status.
+pub fn run<H: Host, S: AsStr, I: Read, O: Write + KnowsError, E: Write, P: Progress>(
     host: &mut H,
     alloc: Global,
     words: &[S],
@@ -131,13 +132,15 @@ pub fn run<H: Host, S: AsStr, I: Read, O: Write + ClosedPipe, E: Write, P: Progr
         result }
 {
     let explains = is_terminal || asks_for_explanations(words);
+    progress.set_detailed(explains);
     match request_of(alloc, words) {
         Ok(request) => {
-            let mut source = SourceLine::new();
-            let end = serve(host, alloc, request, input, output, &mut source, progress);
-            status_of(&end, explains, source.shown(), errors)
+            let mut remarks = Remarks::new(explains);
+            let end = serve(host, alloc, request, input, output, &mut remarks, progress);
+            remark_on_output(&end, host, output, &mut remarks);
+            status_of(&end, explains, remarks.text(), errors)
         }
-        Err(error) => status_of(&answer(alloc, error, output), explains, None, errors),
+        Err(error) => status_of(&answer(alloc, error, output), explains, &[], errors),
     }
 }
 
@@ -145,44 +148,44 @@ pub fn run<H: Host, S: AsStr, I: Read, O: Write + ClosedPipe, E: Write, P: Progr
 fn status_of<E: Write>(
     end: &Result<(), Fault<'_>>,
     explains: bool,
-    source: Option<&[u8]>,
+    remarks: &[u8],
     errors: &mut E,
 ) -> u8
     ensures { IsReported explains (E.contents errors.old) (E.contents errors.new) result end.now }
 {
     match end {
         Ok(()) => 0,
-        Err(fault) => report(fault, explains, source, errors),
+        Err(fault) => report(fault, explains, remarks, errors),
     }
 }
 
-// Does what a request asks for. The line of a script or a note list that a fault is about is noted as `source`.
-fn serve<'a, H: Host, I: Read, O: Write + ClosedPipe, P: Progress>(
+// Does what a request asks for. What helps with a fault is added to `remarks`.
+fn serve<'a, H: Host, I: Read, O: Write + KnowsError, P: Progress>(
     host: &mut H,
     alloc: Global,
     request: Request<'a>,
     input: &mut I,
     output: &mut O,
-    source: &mut SourceLine,
+    remarks: &mut Remarks,
     progress: &mut P,
 ) -> Result<(), Fault<'a>>
     ensures { Means request.entry (record { files = H.world host.old; printed = O.contents output.old })
         (record { files = H.world host.new; printed = O.contents output.new }) (H.written host.new) result }
 {
     match request {
-        Request::Apply(paths) => apply(host, alloc, paths, source, progress),
-        Request::ApplyOnly(paths) => apply_only(host, alloc, paths, output, source, progress),
+        Request::Apply(paths) => apply(host, alloc, paths, remarks, progress),
+        Request::ApplyOnly(paths) => apply_only(host, alloc, paths, output, remarks, progress),
         Request::Canon(paths) => canon(host, alloc, paths, output),
         Request::Copy(operands) => copy(host, alloc, operands, output),
         Request::Diff(paths) => diff(host, alloc, paths, output),
         Request::Explain(topic) => explain(alloc, topic, output),
         Request::Import(paths) => import(host, alloc, paths),
-        Request::Keep(paths) => keep(host, alloc, paths, output, source),
-        Request::Live(paths) => live(host, alloc, paths, input, output),
+        Request::Keep(paths) => keep(host, alloc, paths, output, remarks),
+        Request::Live(paths) => live(host, alloc, paths, input, output, remarks, progress),
         Request::Map(paths) => map(host, alloc, paths, output),
         Request::Merge(operands) => merge(host, alloc, operands, output),
         Request::New(bank) => new(host, alloc, bank, output),
-        Request::Play(paths) => play(host, alloc, paths, output, source, progress),
+        Request::Play(paths) => play(host, alloc, paths, output, remarks, progress),
         Request::Script(paths) => script(host, alloc, paths, output),
         Request::Show(paths) => show(host, alloc, paths, output),
         Request::Take(operands) => take(host, alloc, operands, output),
@@ -192,7 +195,7 @@ fn serve<'a, H: Host, I: Read, O: Write + ClosedPipe, P: Progress>(
 }
 
 // Writes help or the version to the standard output; other errors of clap mean that it rejects the arguments.
-fn answer<'a, O: Write + ClosedPipe>(
+fn answer<'a, O: Write + KnowsError>(
     alloc: Global,
     error: clap::Error,
     output: &mut O,

@@ -10,7 +10,7 @@ fn main(rt: HostRuntime) -> ExitCode {
     let is_watched = rt.stderr().is_terminal();
     let mut input = Prompted::new(rt.stdin(), rt.stderr(), is_typed);
     let (mut output, mut errors) = (rt.stdout(), rt.stderr());
-    let mut meter = ProgressMeter::new(&rt, rt.stderr(), is_watched);
+    let mut meter = ProgressMeter::new(rt.alloc(), &rt, rt.stderr(), is_watched);
     ExitCode::from(run_with_arguments(
         &rt,
         &mut input,

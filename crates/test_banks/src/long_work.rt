@@ -44,7 +44,7 @@ fn reports_progress(
 ) -> bool {
     let clock = TickingClock::by(step);
     let mut output = Vec::new(rt.alloc());
-    let mut meter = ProgressMeter::new(&clock, &mut output, is_terminal);
+    let mut meter = ProgressMeter::new(rt.alloc(), &clock, &mut output, is_terminal);
     meter.begin(work, half.saturating_mul(2));
     meter.advance(half);
     meter.advance(half);

@@ -10,21 +10,23 @@ use super::checks::{EditPaths, reject_outputs, reject_same_file};
 use super::inputs::read_two;
 use super::outputs::{put, save_both};
 use crate::edited_bank::{apply_script, read_script};
+use bank_core::Bank;
 use base_progress::Progress;
 use file_host::Host;
 use program_commands::{ApplyOnlyPaths, ApplyPaths};
-use program_reports::{ClosedPipe, Fault, SourceLine};
+use program_hints::{Remarks, first_overridden};
+use program_reports::{Fault, KnowsError, remark_on_run};
 use sf_writer::BankFile;
 use std::alloc::Global;
 use std::io::Write;
 
-/// Runs the script on the bank. Both files are read whole first, so OUT may be the bank's own file. The line of a fault is
-/// noted as `source`.
+/// Runs the script on the bank. Both files are read whole first, so OUT may be the bank's own file. Remarks on a
+/// fault are added to `remarks`.
 pub(crate) fn apply<'a, H: Host, P: Progress>(
     host: &mut H,
     alloc: Global,
     paths: ApplyPaths<'a>,
-    source: &mut SourceLine,
+    remarks: &mut Remarks,
     progress: &mut P,
 ) -> Result<(), Fault<'a>>
     ensures { (printed : Option (List ℕ)) → Means (Apply paths.entry)
@@ -46,7 +48,7 @@ pub(crate) fn apply<'a, H: Host, P: Progress>(
                 paths,
                 file.as_slice(),
                 script.as_slice(),
-                source,
+                remarks,
                 progress,
             ),
             Err(fault) => Err(fault),
@@ -61,7 +63,7 @@ fn save_edited<'a, H: Host, P: Progress>(
     paths: ApplyPaths<'a>,
     file: &[u8],
     script: &[u8],
-    source: &mut SourceLine,
+    remarks: &mut Remarks,
     progress: &mut P,
 ) -> Result<(), Fault<'a>>
     ensures { (printed : Option (List ℕ)) → EndsFor (λ w. with_both paths.entry.out.now paths.entry.undo.now (outcome_of paths.entry.forms file.now script.now))
@@ -70,29 +72,41 @@ fn save_edited<'a, H: Host, P: Progress>(
 {
     match read_script(alloc, file, script) {
         Ok((bank, pool)) => {
-            match apply_script(alloc, bank, script, pool.as_slice(), paths.forms, progress) {
-                Ok(edited_bank) => save_both(host, paths.out, paths.undo, &edited_bank),
+            match apply_script(
+                alloc,
+                bank,
+                script,
+                pool.as_slice(),
+                paths.forms,
+                remarks,
+                progress,
+            ) {
+                Ok(edited_bank) => {
+                    let saved = save_both(host, paths.out, paths.undo, &edited_bank);
+                    report_overridden(&saved, &edited_bank.bank, script, progress);
+                    saved
+                }
                 Err(fault) => {
-                    source.note(script, &fault);
+                    remark_on_run(alloc, script, &fault, remarks);
                     Err(Fault::Run(fault, paths.out))
                 }
             }
         }
         Err(fault) => {
-            source.note(script, &fault);
+            remark_on_run(alloc, script, &fault, remarks);
             Err(Fault::Run(fault, paths.out))
         }
     }
 }
 
-/// Runs the script on the bank, and writes no undo script. Both files are read whole first, so OUT may be the bank's own
-/// file. The line of a fault is noted as `source`.
-pub(crate) fn apply_only<'a, H: Host, O: Write + ClosedPipe, P: Progress>(
+/// Runs the script on the bank, and writes no undo script. Both files are read whole first, so OUT may be the bank's
+/// own file. Remarks on a fault are added to `remarks`.
+pub(crate) fn apply_only<'a, H: Host, O: Write + KnowsError, P: Progress>(
     host: &mut H,
     alloc: Global,
     paths: ApplyOnlyPaths<'a>,
     output: &mut O,
-    source: &mut SourceLine,
+    remarks: &mut Remarks,
     progress: &mut P,
 ) -> Result<(), Fault<'a>>
     ensures { Means (ApplyOnly paths.entry)
@@ -108,7 +122,7 @@ pub(crate) fn apply_only<'a, H: Host, O: Write + ClosedPipe, P: Progress>(
                 file.as_slice(),
                 script.as_slice(),
                 output,
-                source,
+                remarks,
                 progress,
             ),
             Err(fault) => Err(fault),
@@ -117,14 +131,14 @@ pub(crate) fn apply_only<'a, H: Host, O: Write + ClosedPipe, P: Progress>(
     }
 }
 
-fn put_edited<'a, H: Host, O: Write + ClosedPipe, P: Progress>(
+fn put_edited<'a, H: Host, O: Write + KnowsError, P: Progress>(
     host: &mut H,
     alloc: Global,
     paths: ApplyOnlyPaths<'a>,
     file: &[u8],
     script: &[u8],
     output: &mut O,
-    source: &mut SourceLine,
+    remarks: &mut Remarks,
     progress: &mut P,
 ) -> Result<(), Fault<'a>>
     ensures { EndsFor (λ w. with_text w paths.entry.out.now (without_undo (outcome_of paths.entry.forms file.now script.now)))
@@ -133,17 +147,43 @@ fn put_edited<'a, H: Host, O: Write + ClosedPipe, P: Progress>(
 {
     match read_script(alloc, file, script) {
         Ok((bank, pool)) => {
-            match apply_script(alloc, bank, script, pool.as_slice(), paths.forms, progress) {
-                Ok(edited_bank) => put(host, paths.out, &BankFile(&edited_bank.bank), output),
+            match apply_script(
+                alloc,
+                bank,
+                script,
+                pool.as_slice(),
+                paths.forms,
+                remarks,
+                progress,
+            ) {
+                Ok(edited_bank) => {
+                    let ended = put(host, paths.out, &BankFile(&edited_bank.bank), output);
+                    report_overridden(&ended, &edited_bank.bank, script, progress);
+                    ended
+                }
                 Err(fault) => {
-                    source.note(script, &fault);
+                    remark_on_run(alloc, script, &fault, remarks);
                     Err(Fault::Run(fault, paths.out))
                 }
             }
         }
         Err(fault) => {
-            source.note(script, &fault);
+            remark_on_run(alloc, script, &fault, remarks);
             Err(Fault::Run(fault, paths.out))
+        }
+    }
+}
+
+// Reports the settings of a script that have no effect in the edited bank, if it is saved.
+fn report_overridden<P: Progress>(
+    saved: &Result<(), Fault<'_>>,
+    bank: &Bank<'_>,
+    script: &[u8],
+    progress: &mut P,
+) {
+    if saved.is_ok() && progress.is_detailed() {
+        if let Some(setting) = first_overridden(bank, script) {
+            progress.found_overridden(setting);
         }
     }
 }

@@ -10,13 +10,13 @@ use super::outputs::put;
 use crate::reading::read_bank;
 use file_host::Host;
 use program_commands::CanonPaths;
-use program_reports::{ClosedPipe, Fault};
+use program_reports::{Fault, KnowsError};
 use sf_writer::BankFile;
 use std::alloc::Global;
 use std::io::Write;
 
 /// Writes a bank in canonical form. The bank is read whole first, so the output may be its own file.
-pub(crate) fn canon<'a, H: Host, O: Write + ClosedPipe>(
+pub(crate) fn canon<'a, H: Host, O: Write + KnowsError>(
     host: &mut H,
     alloc: Global,
     paths: CanonPaths<'a>,
@@ -32,7 +32,7 @@ pub(crate) fn canon<'a, H: Host, O: Write + ClosedPipe>(
     }
 }
 
-fn put_canon<'a, H: Host, O: Write + ClosedPipe>(
+fn put_canon<'a, H: Host, O: Write + KnowsError>(
     host: &mut H,
     alloc: Global,
     paths: CanonPaths<'a>,

@@ -13,14 +13,14 @@ use file_host::Host;
 use plan_copy::CopyMember;
 use plan_presets::CopiedMember;
 use program_commands::{CopyPaths, PlanPaths};
-use program_reports::{ClosedPipe, Fault};
+use program_reports::{Fault, KnowsError};
 use sf_base::Name20;
 use std::alloc::Global;
 use std::io::Write;
 
 /// Copies a preset, an instrument or a sample of a bank to the end of its list. The bank is read whole first, so OUT may
 /// be its own file.
-pub(crate) fn copy<'a, H: Host, O: Write + ClosedPipe>(
+pub(crate) fn copy<'a, H: Host, O: Write + KnowsError>(
     host: &mut H,
     alloc: Global,
     operands: CopyPaths<'a>,
@@ -44,7 +44,7 @@ pub(crate) fn copy<'a, H: Host, O: Write + ClosedPipe>(
     }
 }
 
-fn put_copied<'a, H: Host, O: Write + ClosedPipe>(
+fn put_copied<'a, H: Host, O: Write + KnowsError>(
     host: &mut H,
     alloc: Global,
     paths: PlanPaths<'a>,

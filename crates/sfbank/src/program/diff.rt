@@ -11,13 +11,13 @@ use super::outputs::put;
 use crate::diff::difference_of;
 use file_host::Host;
 use program_commands::DiffPaths;
-use program_reports::{ClosedPipe, Fault};
+use program_reports::{Fault, KnowsError};
 use std::alloc::Global;
 use std::io::Write;
 
 /// Writes a script that turns the first bank into the second. Both files are read whole first, so with `force` the
 /// output may be one of them.
-pub(crate) fn diff<'a, H: Host, O: Write + ClosedPipe>(
+pub(crate) fn diff<'a, H: Host, O: Write + KnowsError>(
     host: &mut H,
     alloc: Global,
     paths: DiffPaths<'a>,
@@ -45,7 +45,7 @@ pub(crate) fn diff<'a, H: Host, O: Write + ClosedPipe>(
     }
 }
 
-fn put_difference<'a, H: Host, O: Write + ClosedPipe>(
+fn put_difference<'a, H: Host, O: Write + KnowsError>(
     host: &mut H,
     alloc: Global,
     path: &'a str,

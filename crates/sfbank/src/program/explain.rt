@@ -5,12 +5,12 @@ ghost use Rattle.sfbank.specs.Outputs.{PrintsExplanation};
 use super::outputs::print;
 use program_commands::Topic;
 use program_explanations::{Explanations, GeneratorTable, explain as explanation_of, explain_name};
-use program_reports::{ClosedPipe, Fault, RunFault, STANDARD_OUTPUT};
+use program_reports::{Fault, KnowsError, RunFault, STANDARD_OUTPUT};
 use std::alloc::Global;
 use std::io::Write;
 
 /// Writes the text about a topic to the standard output.
-pub(crate) fn explain<'a, O: Write + ClosedPipe>(
+pub(crate) fn explain<'a, O: Write + KnowsError>(
     alloc: Global,
     topic: Topic<'a>,
     output: &mut O,
@@ -24,7 +24,7 @@ pub(crate) fn explain<'a, O: Write + ClosedPipe>(
     }
 }
 
-fn explain_number<'a, O: Write + ClosedPipe>(number: u32, output: &mut O) -> Result<(), Fault<'a>>
+fn explain_number<'a, O: Write + KnowsError>(number: u32, output: &mut O) -> Result<(), Fault<'a>>
     ensures { PrintsExplanation (Number number) (O.contents output.old) (O.contents output.new) result }
 {
     match explanation_of(number) {
@@ -33,7 +33,7 @@ fn explain_number<'a, O: Write + ClosedPipe>(number: u32, output: &mut O) -> Res
     }
 }
 
-fn explain_named<'a, O: Write + ClosedPipe>(
+fn explain_named<'a, O: Write + KnowsError>(
     alloc: Global,
     name: &'a str,
     output: &mut O,

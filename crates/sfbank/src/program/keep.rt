@@ -19,19 +19,20 @@ use bank_core::Bank;
 use file_host::Host;
 use plan_edits::{Keep, KeepPlayed, PresetNumbers, check_presets};
 use program_commands::{KeepPaths, Kept, PlanPaths, Zones};
-use program_reports::{ClosedPipe, Fault, RunFault, SourceLine};
+use program_hints::Remarks;
+use program_reports::{Fault, KnowsError, RunFault, remark_on_run};
 use script_notes::Note;
 use std::alloc::Global;
 use std::io::Write;
 
 /// Keeps some presets of a bank, and removes what they don't need. All inputs are read whole first, so OUT may be the
-/// bank's own file. The line of a fault is noted as `source`.
-pub(crate) fn keep<'a, H: Host, O: Write + ClosedPipe>(
+/// bank's own file. Remarks on a fault are added to `remarks`.
+pub(crate) fn keep<'a, H: Host, O: Write + KnowsError>(
     host: &mut H,
     alloc: Global,
     keep: KeepPaths<'a>,
     output: &mut O,
-    source: &mut SourceLine,
+    remarks: &mut Remarks,
 ) -> Result<(), Fault<'a>>
     ensures { Means (request.Keep keep.entry)
         (record { files = H.world host.old; printed = O.contents output.old })
@@ -39,13 +40,13 @@ pub(crate) fn keep<'a, H: Host, O: Write + ClosedPipe>(
 {
     let KeepPaths { paths, kept } = keep;
     match kept {
-        Kept::Notes(notes, zones) => keep_played(host, alloc, paths, notes, zones, output, source),
+        Kept::Notes(notes, zones) => keep_played(host, alloc, paths, notes, zones, output, remarks),
         Kept::Presets(presets) => keep_listed(host, alloc, paths, presets, output),
     }
 }
 
 // Keeps the presets with these numbers.
-fn keep_listed<'a, H: Host, O: Write + ClosedPipe>(
+fn keep_listed<'a, H: Host, O: Write + KnowsError>(
     host: &mut H,
     alloc: Global,
     paths: PlanPaths<'a>,
@@ -72,7 +73,7 @@ fn keep_listed<'a, H: Host, O: Write + ClosedPipe>(
     }
 }
 
-fn put_listed<'a, H: Host, O: Write + ClosedPipe>(
+fn put_listed<'a, H: Host, O: Write + KnowsError>(
     host: &mut H,
     alloc: Global,
     paths: PlanPaths<'a>,
@@ -94,14 +95,14 @@ fn put_listed<'a, H: Host, O: Write + ClosedPipe>(
 }
 
 // Keeps what the notes of a file play.
-fn keep_played<'a, H: Host, O: Write + ClosedPipe>(
+fn keep_played<'a, H: Host, O: Write + KnowsError>(
     host: &mut H,
     alloc: Global,
     paths: PlanPaths<'a>,
     notes: &'a str,
     zones: Zones,
     output: &mut O,
-    source: &mut SourceLine,
+    remarks: &mut Remarks,
 ) -> Result<(), Fault<'a>>
     ensures { Means (request.Keep (record { paths = paths.entry; kept = kept.Notes notes.entry zones }))
         (record { files = H.world host.old; printed = O.contents output.old })
@@ -117,7 +118,7 @@ fn keep_played<'a, H: Host, O: Write + ClosedPipe>(
                 text.as_slice(),
                 zones,
                 output,
-                source,
+                remarks,
             ),
             Err(fault) => Err(fault),
         },
@@ -125,7 +126,7 @@ fn keep_played<'a, H: Host, O: Write + ClosedPipe>(
     }
 }
 
-fn put_played<'a, H: Host, O: Write + ClosedPipe>(
+fn put_played<'a, H: Host, O: Write + KnowsError>(
     host: &mut H,
     alloc: Global,
     paths: PlanPaths<'a>,
@@ -133,7 +134,7 @@ fn put_played<'a, H: Host, O: Write + ClosedPipe>(
     text: &[u8],
     zones: Zones,
     output: &mut O,
-    source: &mut SourceLine,
+    remarks: &mut Remarks,
 ) -> Result<(), Fault<'a>>
     ensures { EndsFor (λ w. with_edits paths.entry file.now (keeping_played zones file.now text.now))
         (record { files = H.world host.old; printed = O.contents output.old })
@@ -142,14 +143,14 @@ fn put_played<'a, H: Host, O: Write + ClosedPipe>(
     match read_to_keep(alloc, file, text) {
         Ok((bank, notes)) => put_notes(host, alloc, paths, bank, notes.as_slice(), zones, output),
         Err(fault) => {
-            source.note(text, &fault);
+            remark_on_run(alloc, text, &fault, remarks);
             Err(Fault::Run(fault, paths.out))
         }
     }
 }
 
 // Keeps what notes play of a bank.
-fn put_notes<'a, H: Host, O: Write + ClosedPipe>(
+fn put_notes<'a, H: Host, O: Write + KnowsError>(
     host: &mut H,
     alloc: Global,
     paths: PlanPaths<'a>,

@@ -4,10 +4,13 @@ ghost use Rattle.sfbank.specs.LiveRuns.{EndsFrames, IsReportOf, MeansLive, Plays
 
 use super::checks::{reject_bank, reject_same_file};
 use super::inputs::read_input;
+use super::outputs::{is_broken_pipe, remark_on_error};
+use base_progress::Progress;
 use file_host::{Host, InputFault, Which};
 use live_sessions::{InputLines, LineReader, LiveFault, SessionFiles, live_run};
 use program_commands::LivePaths;
-use program_reports::{ClosedPipe, Fault, RunFault, STANDARD_OUTPUT};
+use program_hints::Remarks;
+use program_reports::{Fault, KnowsError, RunFault, STANDARD_OUTPUT, Watched};
 use std::alloc::Global;
 use std::io::{BufReader, Read, Write};
 
@@ -15,20 +18,31 @@ use std::io::{BufReader, Read, Write};
 const STANDARD_INPUT: &str = "-";
 
 /// Runs a live session on the bank. The bank is read whole first. Frames are written directly to their file, so it may
-/// be a pipe to a player.
-pub(crate) fn live<'a, H: Host, I: Read, O: Write + ClosedPipe>(
+/// be a pipe to a player. Why frames can't be written is added to `remarks`.
+pub(crate) fn live<'a, H: Host, I: Read, O: Write + KnowsError, P: Progress>(
     host: &mut H,
     alloc: Global,
     paths: LivePaths<'a>,
     input: &mut I,
     output: &mut O,
+    remarks: &mut Remarks,
+    progress: &mut P,
 ) -> Result<(), Fault<'a>>
     ensures { MeansLive paths.entry (record { files = H.world host.old; printed = O.contents output.old })
         (record { files = H.world host.new; printed = O.contents output.new }) (H.written host.new) result }
 {
     match reject_frames(host, paths) {
         Ok(()) => match read_input(host, alloc, paths.input) {
-            Ok(file) => play_session(host, alloc, paths, file.as_slice(), input, output),
+            Ok(file) => play_session(
+                host,
+                alloc,
+                paths,
+                file.as_slice(),
+                input,
+                output,
+                remarks,
+                progress,
+            ),
             Err(fault) => Err(fault),
         },
         Err(fault) => Err(fault),
@@ -46,13 +60,15 @@ fn reject_frames<'a, H: Host>(host: &mut H, paths: LivePaths<'a>) -> Result<(), 
 }
 
 // Plays a session on the file of a bank.
-fn play_session<'a, H: Host, I: Read, O: Write + ClosedPipe>(
+fn play_session<'a, H: Host, I: Read, O: Write + KnowsError, P: Progress>(
     host: &mut H,
     alloc: Global,
     paths: LivePaths<'a>,
     file: &[u8],
     input: &mut I,
     output: &mut O,
+    remarks: &mut Remarks,
+    progress: &mut P,
 ) -> Result<(), Fault<'a>>
     ensures { PlaysOrNot paths.entry file.now (record { files = H.world host.old; printed = O.contents output.old })
         (record { files = H.world host.new; printed = O.contents output.new }) (H.written host.new) result }
@@ -64,11 +80,23 @@ fn play_session<'a, H: Host, I: Read, O: Write + ClosedPipe>(
         return Err(Fault::Run(RunFault::Memory, paths.pcm));
     };
     let mut lines = InputLines::new(reader);
-    play_lines(host, alloc, paths, file, &mut lines, output, &mut pcm)
+    let mut watched = Watched::new(&mut pcm);
+    let ended = play_lines(
+        host,
+        alloc,
+        paths,
+        file,
+        &mut lines,
+        output,
+        &mut watched,
+        progress,
+    );
+    remark_on_error(watched.last_error(), remarks);
+    ended
 }
 
 // Answers the lines of a session.
-fn play_lines<'a, H: Host, R: LineReader, O: Write + ClosedPipe, W: Write>(
+fn play_lines<'a, H: Host, R: LineReader, O: Write + KnowsError, W: Write, P: Progress>(
     host: &mut H,
     alloc: Global,
     paths: LivePaths<'a>,
@@ -76,6 +104,7 @@ fn play_lines<'a, H: Host, R: LineReader, O: Write + ClosedPipe, W: Write>(
     lines: &mut R,
     output: &mut O,
     pcm: &mut W,
+    progress: &mut P,
 ) -> Result<(), Fault<'a>>
     ensures { RunsSession paths.entry file.now (record { files = H.world host.old; printed = O.contents output.old })
         (record { files = H.world host.new; printed = O.contents output.new }) (H.written host.new) result }
@@ -85,9 +114,12 @@ fn play_lines<'a, H: Host, R: LineReader, O: Write + ClosedPipe, W: Write>(
         pcm: paths.pcm,
         force: paths.force,
     };
-    match live_run(alloc, file, files, lines, output, pcm, host) {
-        Ok(()) => end_frames(paths.pcm, pcm),
-        Err(fault) => Err(reported(fault, paths, output.is_pipe_closed())),
+    match live_run(alloc, file, files, lines, output, pcm, host, progress) {
+        Ok(()) => {
+            progress.report_sound();
+            end_frames(paths.pcm, pcm)
+        }
+        Err(fault) => Err(reported(fault, paths, is_broken_pipe(output.last_error()))),
     }
 }
 

@@ -11,14 +11,14 @@ use super::outputs::put;
 use crate::map::read_owner;
 use file_host::Host;
 use program_commands::MapPaths;
-use program_reports::{ClosedPipe, Fault};
+use program_reports::{Fault, KnowsError};
 use show_zone_map::ZoneMap;
 use std::alloc::Global;
 use std::io::Write;
 
 /// Writes the map of a preset or an instrument. The bank is read whole first, so with `force` the output may be its
 /// file.
-pub(crate) fn map<'a, H: Host, O: Write + ClosedPipe>(
+pub(crate) fn map<'a, H: Host, O: Write + KnowsError>(
     host: &mut H,
     alloc: Global,
     paths: MapPaths<'a>,
@@ -37,7 +37,7 @@ pub(crate) fn map<'a, H: Host, O: Write + ClosedPipe>(
     }
 }
 
-fn put_map<'a, H: Host, O: Write + ClosedPipe>(
+fn put_map<'a, H: Host, O: Write + KnowsError>(
     host: &mut H,
     alloc: Global,
     paths: MapPaths<'a>,

@@ -12,13 +12,13 @@ use crate::other_banks::read_to_merge;
 use file_host::Host;
 use plan_take::Merge;
 use program_commands::{MergePaths, PlanPaths};
-use program_reports::{ClosedPipe, Fault};
+use program_reports::{Fault, KnowsError};
 use std::alloc::Global;
 use std::io::Write;
 
 /// Adds all that another bank has after what a bank has. Both banks are read whole first, so OUT may be the file of the
 /// first.
-pub(crate) fn merge<'a, H: Host, O: Write + ClosedPipe>(
+pub(crate) fn merge<'a, H: Host, O: Write + KnowsError>(
     host: &mut H,
     alloc: Global,
     operands: MergePaths<'a>,
@@ -45,7 +45,7 @@ pub(crate) fn merge<'a, H: Host, O: Write + ClosedPipe>(
     }
 }
 
-fn put_merged<'a, H: Host, O: Write + ClosedPipe>(
+fn put_merged<'a, H: Host, O: Write + KnowsError>(
     host: &mut H,
     alloc: Global,
     paths: PlanPaths<'a>,

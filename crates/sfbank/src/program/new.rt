@@ -10,13 +10,13 @@ use super::outputs::put;
 use crate::new::empty_bank;
 use file_host::Host;
 use program_commands::NewBank;
-use program_reports::{ClosedPipe, Fault, RunFault};
+use program_reports::{Fault, KnowsError, RunFault};
 use sf_writer::BankFile;
 use std::alloc::Global;
 use std::io::Write;
 
 /// Writes an empty bank.
-pub(crate) fn new<'a, H: Host, O: Write + ClosedPipe>(
+pub(crate) fn new<'a, H: Host, O: Write + KnowsError>(
     host: &mut H,
     alloc: Global,
     bank: NewBank<'a>,
@@ -32,7 +32,7 @@ pub(crate) fn new<'a, H: Host, O: Write + ClosedPipe>(
     }
 }
 
-fn put_empty<'a, H: Host, O: Write + ClosedPipe>(
+fn put_empty<'a, H: Host, O: Write + KnowsError>(
     host: &mut H,
     alloc: Global,
     bank: NewBank<'a>,

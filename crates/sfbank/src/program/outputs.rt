@@ -8,15 +8,16 @@ ghost use Rattle.sfbank.specs.Outputs.{PrintsAt, SavesAt, SavesPairAt, write_fau
 use crate::edited_bank::EditedBank;
 use base_texts::{Text, write_text};
 use edit_script::EditLines;
-use file_host::{Host, PairFault, Which};
-use program_reports::{ClosedPipe, Fault, RunFault, STANDARD_OUTPUT};
+use file_host::{Host, PairFault, Which, reason_of_output};
+use program_hints::Remarks;
+use program_reports::{Fault, KnowsError, RunFault, STANDARD_OUTPUT};
 use sf_base::Failure;
 use sf_writer::BankFile;
-use std::io::Write;
+use std::io::{ErrorKind, Write};
 
 /// Writes a text at a path: to the standard output, if the path leads to it (so that later writes of others follow in
 /// order), else as a file.
-pub(super) fn put<'a, H: Host, T: Text, O: Write + ClosedPipe>(
+pub(super) fn put<'a, H: Host, T: Text, O: Write + KnowsError>(
     host: &mut H,
     path: &'a str,
     text: &T,
@@ -34,7 +35,7 @@ pub(super) fn put<'a, H: Host, T: Text, O: Write + ClosedPipe>(
 }
 
 /// Writes a text to the standard output.
-pub(super) fn print<'a, T: Text, O: Write + ClosedPipe>(
+pub(super) fn print<'a, T: Text, O: Write + KnowsError>(
     text: &T,
     output: &mut O,
 ) -> Result<(), Fault<'a>>
@@ -44,7 +45,7 @@ pub(super) fn print<'a, T: Text, O: Write + ClosedPipe>(
 }
 
 // Writes a text to the standard output, to which a path leads.
-fn print_at<'a, T: Text, O: Write + ClosedPipe>(
+fn print_at<'a, T: Text, O: Write + KnowsError>(
     path: &'a str,
     text: &T,
     output: &mut O,
@@ -53,7 +54,12 @@ fn print_at<'a, T: Text, O: Write + ClosedPipe>(
 {
     match write_text(text, output) {
         Ok(()) => Ok(()),
-        Err(fault) => Err(write_fault(Which::Out, fault.written, path, output.is_pipe_closed())),
+        Err(fault) => Err(write_fault(
+            Which::Out,
+            fault.written,
+            path,
+            is_broken_pipe(output.last_error()),
+        )),
     }
 }
 
@@ -69,7 +75,7 @@ pub(super) fn save<'a, H: Host, T: Text>(
         Ok(()) => Ok(()),
         Err(Failure::OutOfMemory) => Err(Fault::Run(RunFault::Memory, path)),
         Err(Failure::Fault(fault)) => {
-            let is_closed = host.is_pipe_closed();
+            let is_closed = is_broken_pipe(host.last_error());
             Err(write_fault(Which::Out, fault.written, path, is_closed))
         }
     }
@@ -91,7 +97,7 @@ pub(super) fn save_both<'a, H: Host>(
         Err(PairFault::OutOfMemory) => Err(Fault::Run(RunFault::Memory, out)),
         Err(PairFault::Write(which, written)) => {
             let path = path_of(which, out, undo);
-            Err(write_fault(which, written, path, host.is_pipe_closed()))
+            Err(write_fault(which, written, path, is_broken_pipe(host.last_error())))
         }
     }
 }
@@ -114,4 +120,42 @@ fn write_fault(which: Which, written: u64, path: &str, is_pipe_closed: bool) -> 
         return Fault::PipeClosed;
     }
     Fault::Run(RunFault::Write(which, written), path)
+}
+
+/// Whether a write failed because nothing reads the other end of a pipe.
+pub(super) fn is_broken_pipe(error: Option<ErrorKind>) -> bool {
+    match error {
+        Some(ErrorKind::BrokenPipe) => true,
+        _ => false,
+    }
+}
+
+/// Adds the system's reason why an output can't be written, if it is known.
+pub(super) fn remark_on_error(error: Option<ErrorKind>, remarks: &mut Remarks) {
+    if let Some(kind) = error {
+        remarks.line(&[reason_of_output(kind).as_bytes()]);
+    }
+}
+
+/// Adds the system's reason why a run failed to write an output, if it did and no reason is known yet.
+pub(super) fn remark_on_output<H: Host, O: KnowsError>(
+    end: &Result<(), Fault<'_>>,
+    host: &H,
+    output: &O,
+    remarks: &mut Remarks,
+) {
+    match end {
+        Err(Fault::Run(RunFault::Write(_, _), path)) if remarks.text().is_empty() => {
+            remark_on_error(error_of(path, host, output), remarks);
+        }
+        _ => {}
+    }
+}
+
+// The error of the output at a path: that of a file, or of the standard output, to which a path may lead.
+fn error_of<H: Host, O: KnowsError>(path: &str, host: &H, output: &O) -> Option<ErrorKind> {
+    match host.last_error() {
+        Some(kind) if path != STANDARD_OUTPUT => Some(kind),
+        _ => output.last_error(),
+    }
 }

@@ -18,13 +18,13 @@ use edit_script::EditLines;
 use file_host::Host;
 use plan_edits::Plan;
 use program_commands::PlanPaths;
-use program_reports::{ClosedPipe, Fault, RunFault};
+use program_reports::{Fault, KnowsError, RunFault};
 use sf_base::OutOfMemory;
 use std::alloc::Global;
 use std::io::Write;
 
 /// Reads a file as a bank, and does what `put_edits` does.
-pub(super) fn put_planned<'a, 'b, H: Host, P: Plan<'b>, O: Write + ClosedPipe>(
+pub(super) fn put_planned<'a, 'b, H: Host, P: Plan<'b>, O: Write + KnowsError>(
     host: &mut H,
     alloc: Global,
     paths: PlanPaths<'a>,
@@ -45,7 +45,7 @@ pub(super) fn put_planned<'a, 'b, H: Host, P: Plan<'b>, O: Write + ClosedPipe>(
 
 /// Finds the edits of a plan for a bank. Prints their script, or saves the edited bank with its undo script, and before
 /// them the script if it has a path.
-pub(super) fn put_edits<'a, 'b, H: Host, P: Plan<'b>, O: Write + ClosedPipe>(
+pub(super) fn put_edits<'a, 'b, H: Host, P: Plan<'b>, O: Write + KnowsError>(
     host: &mut H,
     alloc: Global,
     paths: PlanPaths<'a>,
@@ -65,7 +65,7 @@ pub(super) fn put_edits<'a, 'b, H: Host, P: Plan<'b>, O: Write + ClosedPipe>(
 }
 
 // Prints the script of edits, or saves the edited bank with its undo script, and before them the script if it has a path.
-fn put_found<'a, 'b, H: Host, O: Write + ClosedPipe>(
+fn put_found<'a, 'b, H: Host, O: Write + KnowsError>(
     host: &mut H,
     alloc: Global,
     paths: PlanPaths<'a>,

@@ -13,19 +13,20 @@ use crate::play::render_notes;
 use base_progress::Progress;
 use file_host::Host;
 use program_commands::PlayPaths;
-use program_reports::{ClosedPipe, Fault, SourceLine};
+use program_hints::Remarks;
+use program_reports::{Fault, KnowsError, remark_on_run};
 use std::alloc::Global;
 use std::io::Write;
 use wave_file::WaveFile;
 
 /// Renders the notes on the bank as a WAVE file. Both files are read whole first, so the output may be the bank's file.
-/// The line of a fault is noted as `source`.
-pub(crate) fn play<'a, H: Host, O: Write + ClosedPipe, P: Progress>(
+/// Remarks on a fault are added to `remarks`.
+pub(crate) fn play<'a, H: Host, O: Write + KnowsError, P: Progress>(
     host: &mut H,
     alloc: Global,
     paths: PlayPaths<'a>,
     output: &mut O,
-    source: &mut SourceLine,
+    remarks: &mut Remarks,
     progress: &mut P,
 ) -> Result<(), Fault<'a>>
     ensures { Means (Play paths.entry)
@@ -41,7 +42,7 @@ pub(crate) fn play<'a, H: Host, O: Write + ClosedPipe, P: Progress>(
                 file.as_slice(),
                 notes.as_slice(),
                 output,
-                source,
+                remarks,
                 progress,
             ),
             Err(fault) => Err(fault),
@@ -59,14 +60,14 @@ fn reject_output<'a, H: Host>(host: &mut H, paths: PlayPaths<'a>) -> Result<(), 
     }
 }
 
-fn put_sound<'a, H: Host, O: Write + ClosedPipe, P: Progress>(
+fn put_sound<'a, H: Host, O: Write + KnowsError, P: Progress>(
     host: &mut H,
     alloc: Global,
     path: &'a str,
     file: &[u8],
     notes: &[u8],
     output: &mut O,
-    source: &mut SourceLine,
+    remarks: &mut Remarks,
     progress: &mut P,
 ) -> Result<(), Fault<'a>>
     ensures { EndsFor (λ w. with_text w path.entry.now (play_outcome file.now notes.now))
@@ -74,10 +75,21 @@ fn put_sound<'a, H: Host, O: Write + ClosedPipe, P: Progress>(
         (record { files = H.world host.new; printed = O.contents output.new }) (H.written host.new) result }
 {
     match render_notes(alloc, file, notes, progress) {
-        Ok(frames) => put(host, path, &WaveFile::new(frames.as_slice()), output),
+        Ok(frames) => {
+            let ended = put(host, path, &WaveFile::new(frames.as_slice()), output);
+            report_sound(&ended, progress);
+            ended
+        }
         Err(fault) => {
-            source.note(notes, &fault);
+            remark_on_run(alloc, notes, &fault, remarks);
             Err(Fault::Run(fault, path))
         }
+    }
+}
+
+// Reports what was measured of the sound, if it is written.
+fn report_sound<P: Progress>(ended: &Result<(), Fault<'_>>, progress: &mut P) {
+    if ended.is_ok() {
+        progress.report_sound();
     }
 }

@@ -12,13 +12,13 @@ use super::outputs::put;
 use crate::reading::read_bank;
 use file_host::Host;
 use program_commands::ScriptPaths;
-use program_reports::{ClosedPipe, Fault};
+use program_reports::{Fault, KnowsError};
 use script_of_bank::{BankScript, SamplePoints};
 use std::alloc::Global;
 use std::io::Write;
 
 /// Writes the script of a bank. The bank is read whole first, so with `force` the output may be its own file.
-pub(crate) fn script<'a, H: Host, O: Write + ClosedPipe>(
+pub(crate) fn script<'a, H: Host, O: Write + KnowsError>(
     host: &mut H,
     alloc: Global,
     paths: ScriptPaths<'a>,
@@ -37,7 +37,7 @@ pub(crate) fn script<'a, H: Host, O: Write + ClosedPipe>(
     }
 }
 
-fn put_script<'a, H: Host, O: Write + ClosedPipe>(
+fn put_script<'a, H: Host, O: Write + KnowsError>(
     host: &mut H,
     alloc: Global,
     paths: ScriptPaths<'a>,

@@ -13,13 +13,13 @@ use bank_core::Bank;
 use bank_format::Counts;
 use file_host::Host;
 use program_commands::ShowPaths;
-use program_reports::{ClosedPipe, Fault, RunFault, STANDARD_OUTPUT};
+use program_reports::{Fault, KnowsError, RunFault, STANDARD_OUTPUT};
 use show_listing::{Details, Listing};
 use std::alloc::Global;
 use std::io::Write;
 
 /// Writes the listing of a bank to the standard output.
-pub(crate) fn show<'a, H: Host, O: Write + ClosedPipe>(
+pub(crate) fn show<'a, H: Host, O: Write + KnowsError>(
     host: &mut H,
     alloc: Global,
     paths: ShowPaths<'a>,
@@ -35,7 +35,7 @@ pub(crate) fn show<'a, H: Host, O: Write + ClosedPipe>(
     }
 }
 
-fn print_listing<'a, O: Write + ClosedPipe>(
+fn print_listing<'a, O: Write + KnowsError>(
     alloc: Global,
     paths: ShowPaths<'a>,
     file: &[u8],
@@ -61,7 +61,7 @@ fn has_details(paths: ShowPaths<'_>) -> bool
     paths.zones || paths.uses
 }
 
-fn print_details<'a, O: Write + ClosedPipe>(
+fn print_details<'a, O: Write + KnowsError>(
     alloc: Global,
     paths: ShowPaths<'a>,
     bank: &Bank<'_>,

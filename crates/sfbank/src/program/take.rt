@@ -12,13 +12,13 @@ use crate::other_banks::read_to_take;
 use file_host::Host;
 use plan_take::{Take, TakenPreset};
 use program_commands::{PlanPaths, TakePaths};
-use program_reports::{ClosedPipe, Fault};
+use program_reports::{Fault, KnowsError};
 use std::alloc::Global;
 use std::io::Write;
 
 /// Copies presets of another bank into a bank, with what they need. Both banks are read whole first, so OUT may be the
 /// file of the first.
-pub(crate) fn take<'a, H: Host, O: Write + ClosedPipe>(
+pub(crate) fn take<'a, H: Host, O: Write + KnowsError>(
     host: &mut H,
     alloc: Global,
     take: TakePaths<'a>,
@@ -36,7 +36,7 @@ pub(crate) fn take<'a, H: Host, O: Write + ClosedPipe>(
     take_listed(host, alloc, paths, from, presets, output)
 }
 
-fn take_listed<'a, H: Host, O: Write + ClosedPipe>(
+fn take_listed<'a, H: Host, O: Write + KnowsError>(
     host: &mut H,
     alloc: Global,
     paths: PlanPaths<'a>,
@@ -65,7 +65,7 @@ fn take_listed<'a, H: Host, O: Write + ClosedPipe>(
     }
 }
 
-fn put_taken<'a, H: Host, O: Write + ClosedPipe>(
+fn put_taken<'a, H: Host, O: Write + KnowsError>(
     host: &mut H,
     alloc: Global,
     paths: PlanPaths<'a>,

@@ -12,13 +12,13 @@ use file_host::Host;
 use plan_edits::Tidy;
 use plan_take::RemoveDuplicates;
 use program_commands::TidyPaths;
-use program_reports::{ClosedPipe, Fault};
+use program_reports::{Fault, KnowsError};
 use std::alloc::Global;
 use std::io::Write;
 
 /// Tidies a bank: removes what it doesn't use, and changes no sound. The bank is read whole first, so OUT may be its own
 /// file.
-pub(crate) fn tidy<'a, H: Host, O: Write + ClosedPipe>(
+pub(crate) fn tidy<'a, H: Host, O: Write + KnowsError>(
     host: &mut H,
     alloc: Global,
     operands: TidyPaths<'a>,
@@ -37,7 +37,7 @@ pub(crate) fn tidy<'a, H: Host, O: Write + ClosedPipe>(
     }
 }
 
-fn put_tidied<'a, H: Host, O: Write + ClosedPipe>(
+fn put_tidied<'a, H: Host, O: Write + KnowsError>(
     host: &mut H,
     alloc: Global,
     operands: TidyPaths<'a>,

@@ -12,14 +12,14 @@ use crate::reading::read_bank;
 use edit_refusals::Cause;
 use file_host::Host;
 use program_commands::WavePaths;
-use program_reports::{ClosedPipe, Fault, RunFault};
+use program_reports::{Fault, KnowsError, RunFault};
 use std::alloc::Global;
 use std::io::Write;
 use wave_file::SampleWave;
 
 /// Writes a sample of the bank as a WAVE file. The bank is read whole first, so with `force` the output may be its
 /// file.
-pub(crate) fn wave<'a, H: Host, O: Write + ClosedPipe>(
+pub(crate) fn wave<'a, H: Host, O: Write + KnowsError>(
     host: &mut H,
     alloc: Global,
     paths: WavePaths<'a>,
@@ -38,7 +38,7 @@ pub(crate) fn wave<'a, H: Host, O: Write + ClosedPipe>(
     }
 }
 
-fn put_wave<'a, H: Host, O: Write + ClosedPipe>(
+fn put_wave<'a, H: Host, O: Write + KnowsError>(
     host: &mut H,
     alloc: Global,
     paths: WavePaths<'a>,

@@ -1,0 +1,23 @@
+//! What helps a person with a fault: the line that it is about, the token that is wrong, what is expected there, and
+//! what uses a member of a bank. Nothing here is specified; each call is only proved not to panic.
+#![tactic(auto)]
+
+mod expected;
+mod faulty_token;
+mod forms;
+mod live_hints;
+mod note_hints;
+mod overridden;
+mod remarks;
+mod script_hints;
+mod source_line;
+mod spans;
+mod trial;
+mod users;
+mod word_hints;
+
+pub use live_hints::remark_on_live_line;
+pub use overridden::first_overridden;
+pub use remarks::Remarks;
+pub use source_line::{remark_on_notes, remark_on_script};
+pub use users::remark_on_users;

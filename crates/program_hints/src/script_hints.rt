@@ -1,0 +1,146 @@
+//! What helps with a faulty line of a script.
+
+use crate::expected::{TokenPlace, remark_on_expected};
+use crate::faulty_token::{Wrong, wrong_in};
+use crate::forms::{Form, form_of, nearest_form};
+use crate::remarks::Remarks;
+use crate::source_line::{put_caret, put_missing};
+use crate::spans::{Span, span_at};
+use crate::word_hints::{has_other_letters, has_printed_quote, is_digits, remark_on_word};
+use std::alloc::Global;
+
+/// The most bytes of a name.
+const NAME_LENGTH: usize = 20;
+
+/// Says what is wrong in a line without an edit, which is shown already.
+pub(crate) fn remark_on_edit(alloc: Global, line: &[u8], remarks: &mut Remarks) {
+    let Some(wrong) = wrong_in(alloc, line) else {
+        return;
+    };
+    match wrong {
+        Wrong::Token(span) => {
+            put_caret(line, span, remarks);
+            remark_on_token(alloc, line, span, remarks);
+        }
+        Wrong::Literal(span) => {
+            put_caret(line, span, remarks);
+            remark_on_literal(span.of(line), remarks);
+        }
+        Wrong::Missing(end) => {
+            put_missing(line, end, remarks);
+            remark_on_expected(place_at(alloc, line, end), remarks);
+        }
+    }
+    remark_on_form(line, remarks);
+}
+
+fn place_at<'t>(alloc: Global, line: &'t [u8], start: usize) -> TokenPlace<'t> {
+    TokenPlace { alloc, line, start }
+}
+
+// Says what is wrong with a token, or what is expected in its place.
+fn remark_on_token(alloc: Global, line: &[u8], span: Span, remarks: &mut Remarks) {
+    let token = span.of(line);
+    let place = place_at(alloc, line, span.start);
+    if is_form_word(line, span) {
+        remark_on_first(token, remarks);
+    } else if has_printed_quote(token) {
+        remarks.line(&[b"Names are in straight quotes: \"..\"."]);
+    } else if has_joined_brace(token) {
+        remarks.line(&[b"Braces have blanks around them: { 0 g 48 100 }."]);
+    } else if is_long_name(token) {
+        remarks.line(&[b"A name has 20 characters at most."]);
+    } else if !remark_on_word(token, remarks) {
+        remark_on_expected(place, remarks);
+    }
+}
+
+// Whether a token is where the word of a form belongs: at the start of a line, or after a brace of a group.
+fn is_form_word(line: &[u8], span: Span) -> bool {
+    let Some(first) = span_at(line, 0) else {
+        return false;
+    };
+    if first.start == span.start {
+        return true;
+    }
+    first.of(line) == b"group".as_slice() && follows_brace(line, span.start)
+}
+
+fn follows_brace(line: &[u8], position: usize) -> bool {
+    let before = match line.get(..position) {
+        Some(before) => before,
+        None => &[],
+    };
+    before.trim_ascii_end().ends_with(b"{")
+}
+
+// Says which form is meant by the first word of a line.
+fn remark_on_first(word: &[u8], remarks: &mut Remarks) {
+    if is_digits(word) {
+        remarks.line(&[b"This looks like a note: sfbank play reads note lists."]);
+    } else if let Some(form) = nearest_form(word) {
+        remarks.line(&[
+            b"No form of this name. Perhaps: ",
+            form.word,
+            b" ",
+            form.operands,
+        ]);
+    } else {
+        remarks.line(&[
+            b"A line begins with the name of a form, such as set-gen: SCRIPT.md lists them.",
+        ]);
+    }
+}
+
+// Says what is wrong with a malformed literal.
+fn remark_on_literal(token: &[u8], remarks: &mut Remarks) {
+    if has_other_letters(token) {
+        put_hex(token, remarks);
+    } else if token.starts_with(b"\"") {
+        remarks.line(&[
+            b"A text in quotes ends with a quote and a blank, and has no quote within.",
+        ]);
+    } else {
+        remarks.line(&[
+            b"After x there are two hex digits for each byte; a word can't begin with x.",
+        ]);
+    }
+}
+
+// Gives a text in quotes that isn't ASCII in hex digits.
+fn put_hex(token: &[u8], remarks: &mut Remarks) {
+    remarks.put(b"  Texts of other than ASCII characters are written in hex: x");
+    for byte in token {
+        if *byte != b'"' {
+            remarks.put(&[hex_digit(*byte >> 4), hex_digit(*byte & 15)]);
+        }
+    }
+    remarks.put(b".\n");
+}
+
+fn hex_digit(value: u8) -> u8 {
+    match b"0123456789abcdef".get(usize::from(value)) {
+        Some(digit) => *digit,
+        None => b'?',
+    }
+}
+
+// Whether a brace is joined to something else.
+fn has_joined_brace(token: &[u8]) -> bool {
+    token.len() > 1 && !token.starts_with(b"\"") && (token.contains(&b'{') || token.contains(&b'}'))
+}
+
+fn is_long_name(token: &[u8]) -> bool {
+    token.starts_with(b"\"") && token.len().saturating_sub(2) > NAME_LENGTH
+}
+
+// Repeats the form of the line.
+fn remark_on_form(line: &[u8], remarks: &mut Remarks) {
+    if let Some(form) = form_of_line(line) {
+        remarks.line(&[b"The form: ", form.word, b" ", form.operands]);
+    }
+}
+
+fn form_of_line(line: &[u8]) -> Option<&'static Form> {
+    form_of(span_at(line, 0)?.of(line))
+}

@@ -1,0 +1,107 @@
+//! Lines that are tried on the parser of edits.
+
+use crate::spans::Span;
+use arrayvec::ArrayVec;
+use edit_script::edit;
+use script_tokens::{Cursor, pool_of};
+use sf_base::Failure;
+use std::alloc::Global;
+
+/// The longest line that is tried, in bytes. Hints are for lines that are written by hand.
+const LONGEST: usize = 400;
+
+/// A token that no form accepts as a word, after a line that is tried.
+const NEXT: &[u8] = b" ?";
+
+/// How far the parser of edits comes in a line.
+#[derive(Clone, Copy)]
+pub(crate) enum Trial {
+    /// It accepts the line.
+    Accepted,
+    /// It stops with a fault after it has read all but this many tokens.
+    Stopped(usize),
+}
+
+impl Trial {
+    /// Whether all tokens were read.
+    pub(crate) fn has_read_all(self) -> bool {
+        match self {
+            Trial::Accepted => true,
+            Trial::Stopped(remaining) => remaining == 0,
+        }
+    }
+}
+
+/// Tries a line, unless a literal of it is malformed or memory is short.
+pub(crate) fn try_line(alloc: Global, line: &[u8]) -> Option<Trial> {
+    let Ok(pool) = pool_of(alloc, line) else {
+        return None;
+    };
+    let mut cursor = Cursor::of(line, pool.as_slice());
+    match edit(alloc, &mut cursor) {
+        Ok(_edit) => Some(Trial::Accepted),
+        Err(Failure::Fault(_)) => Some(Trial::Stopped(remaining(cursor))),
+        Err(Failure::OutOfMemory) => None,
+    }
+}
+
+/// How many tokens a line has.
+pub(crate) fn token_count(line: &[u8]) -> usize {
+    remaining(Cursor::of(line, &[]))
+}
+
+// How many tokens a cursor has not read.
+fn remaining(mut cursor: Cursor<'_, '_>) -> usize {
+    let mut count = 0usize;
+    while !cursor.is_empty() {
+        let _ = cursor.word();
+        count = count.saturating_add(1);
+    }
+    count
+}
+
+/// Whether the parser reads a line's first tokens, up to a position, and another token after them. It is asked with a
+/// further token, since a missing one is a fault too.
+pub(crate) fn accepts_after(alloc: Global, line: &[u8], end: usize, token: &[u8]) -> bool {
+    let Some(front) = line.get(..end) else {
+        return false;
+    };
+    match joined(&[front, b" ", token, NEXT]) {
+        Some(tried) => reads_all(alloc, tried.as_slice()),
+        None => false,
+    }
+}
+
+/// Whether the parser accepts a line's bytes up to a position as an edit.
+pub(crate) fn is_edit(alloc: Global, line: &[u8], end: usize) -> bool {
+    let Some(front) = line.get(..end) else {
+        return false;
+    };
+    match try_line(alloc, front) {
+        Some(Trial::Accepted) => true,
+        _ => false,
+    }
+}
+
+/// Whether the token of a span is what stops the parser, and not that one is missing after it.
+pub(crate) fn stops_at(alloc: Global, line: &[u8], span: Span) -> bool {
+    !accepts_after(alloc, line, span.start, span.of(line))
+}
+
+fn reads_all(alloc: Global, line: &[u8]) -> bool {
+    match try_line(alloc, line) {
+        Some(trial) => trial.has_read_all(),
+        None => false,
+    }
+}
+
+// The pieces one after the other, unless they are too long.
+fn joined(pieces: &[&[u8]]) -> Option<ArrayVec<u8, LONGEST>> {
+    let mut line = ArrayVec::new();
+    for piece in pieces {
+        if line.try_extend_from_slice(piece).is_err() {
+            return None;
+        }
+    }
+    Some(line)
+}

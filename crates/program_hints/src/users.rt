@@ -1,0 +1,133 @@
+//! What uses an instrument or a sample.
+
+use crate::remarks::Remarks;
+use crate::source_line::put_printable;
+use bank_changes::Owner;
+use bank_core::Bank;
+use bank_parts::Kind;
+use edit_forms::{Edit, InstrumentStep, SampleStep, Step};
+use sf_base::Name20;
+
+/// The zones of a level that target a member: the first, and how many more there are.
+#[derive(Clone, Copy)]
+struct Users {
+    first: Option<(Owner, u32)>,
+    more: u64,
+}
+
+/// Says what uses the instrument or the sample that an edit removes.
+pub fn remark_on_users(bank: &Bank<'_>, edit: &Edit<'_>, remarks: &mut Remarks) {
+    match edit {
+        Edit::One(Step::Instrument(InstrumentStep::RemoveInstrument { instrument })) => {
+            remark_on(bank, users_of_instrument(bank, *instrument), remarks);
+        }
+        Edit::One(Step::Sample(SampleStep::RemoveSample { sample })) => {
+            remark_on(bank, users_of_sample(bank, *sample), remarks);
+            remark_on_link(bank, *sample, remarks);
+        }
+        _ => {}
+    }
+}
+
+fn users_of_instrument(bank: &Bank<'_>, instrument: u32) -> Users {
+    let mut users = no_users();
+    for preset in 0..bank.presets().len() as u32 {
+        users = with_users_in(bank, Owner::Preset(preset), instrument, users);
+    }
+    users
+}
+
+fn users_of_sample(bank: &Bank<'_>, sample: u32) -> Users {
+    let mut users = no_users();
+    for instrument in 0..bank.instruments().len() as u32 {
+        users = with_users_in(bank, Owner::Inst(instrument), sample, users);
+    }
+    users
+}
+
+fn no_users() -> Users {
+    Users {
+        first: None,
+        more: 0,
+    }
+}
+
+// Adds the zones of an owner that target this member.
+fn with_users_in(bank: &Bank<'_>, owner: Owner, member: u32, mut users: Users) -> Users {
+    let count = bank.zone_count(owner).unwrap_or(0) as u32;
+    for zone in 0..count {
+        if bank.target(owner, zone).map(u32::from) == Some(member) {
+            users = with_user(users, owner, zone);
+        }
+    }
+    users
+}
+
+fn with_user(users: Users, owner: Owner, zone: u32) -> Users {
+    match users.first {
+        Some(_) => Users {
+            first: users.first,
+            more: users.more.saturating_add(1),
+        },
+        None => Users {
+            first: Some((owner, zone)),
+            more: 0,
+        },
+    }
+}
+
+fn remark_on(bank: &Bank<'_>, users: Users, remarks: &mut Remarks) {
+    let Some((owner, zone)) = users.first else {
+        return;
+    };
+    remarks.put(b"  Used by ");
+    put_owner(bank, owner, remarks);
+    remarks.put(b", zone ");
+    remarks.put_number(zone);
+    if users.more > 0 {
+        remarks.put(b", and ");
+        remarks.put_number(users.more);
+        remarks.put(b" more");
+    }
+    remarks.put(b".\n");
+}
+
+// Puts an owner by its number and its name.
+fn put_owner(bank: &Bank<'_>, owner: Owner, remarks: &mut Remarks) {
+    match owner {
+        Owner::Preset(number) => {
+            let name = bank.head(number).map(|head| head.name);
+            put_member(b"preset ", number, name, remarks);
+        }
+        Owner::Inst(number) => put_member(b"inst ", number, bank.inst_name(number), remarks),
+    }
+}
+
+fn put_member(level: &[u8], number: u32, name: Option<Name20>, remarks: &mut Remarks) {
+    remarks.put(level);
+    remarks.put_number(number);
+    if let Some(name) = name {
+        remarks.put(b" \"");
+        put_printable(name.bytes(), remarks);
+        remarks.put(b"\"");
+    }
+}
+
+// Says which other sample links to this one.
+fn remark_on_link(bank: &Bank<'_>, sample: u32, remarks: &mut Remarks) {
+    for (index, other) in bank.samples().iter().enumerate() {
+        if index != sample as usize && link_of(other.kind) == Some(sample) {
+            remarks.put(b"  Linked to by ");
+            put_member(b"sample ", index as u32, Some(other.name), remarks);
+            remarks.put(b": set its kind to mono by set-kind first.\n");
+            return;
+        }
+    }
+}
+
+fn link_of(kind: Kind) -> Option<u32> {
+    match kind {
+        Kind::Mono => None,
+        Kind::Right(link) | Kind::Left(link) | Kind::Linked(link) => Some(u32::from(link)),
+    }
+}

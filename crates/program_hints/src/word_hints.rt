@@ -1,0 +1,128 @@
+//! What is usually meant by a token that isn't accepted.
+
+use crate::remarks::Remarks;
+use program_explanations::{GeneratorRow, generator_rows};
+
+/// The left and right quotes of word processors, and the low one, in UTF-8.
+static PRINTED_QUOTES: [&[u8]; 4] = [
+    b"\xe2\x80\x9c",
+    b"\xe2\x80\x9d",
+    b"\xe2\x80\x9e",
+    b"\xc2\xab",
+];
+
+/// Whether a token begins with a quote of a word processor.
+pub(crate) fn has_printed_quote(token: &[u8]) -> bool {
+    PRINTED_QUOTES.iter().any(|quote| token.starts_with(quote))
+}
+
+/// Whether a token has a byte that is not ASCII.
+pub(crate) fn has_other_letters(token: &[u8]) -> bool {
+    token.iter().any(|byte| *byte >= 0x80)
+}
+
+/// Says what is usually meant by a token in the place of a number. Returns whether something was said.
+pub(crate) fn remark_on_word(token: &[u8], remarks: &mut Remarks) -> bool {
+    if let Some(number) = generator_named(token) {
+        remarks.put(b"  A generator is a number: ");
+        remarks.put(token);
+        remarks.put(b" is ");
+        remarks.put_number(number);
+        remarks.put(b".\n");
+        return true;
+    }
+    if let Some((low, high)) = ends_of_hyphen(token) {
+        remarks.line(&[
+            b"The ends of a range have two dots between them: ",
+            low,
+            b"..",
+            high,
+            b".",
+        ]);
+        return true;
+    }
+    remark_on_sign(token, remarks)
+}
+
+// The number of the generator with this name, in letters of any case.
+fn generator_named(name: &[u8]) -> Option<u16> {
+    for row in generator_rows() {
+        if is_named(row, name) {
+            return Some(row.number);
+        }
+    }
+    None
+}
+
+// Whether a generator has this name. The table has blanks after it.
+fn is_named(row: &GeneratorRow, name: &[u8]) -> bool {
+    let length = row.name.iter().take_while(|byte| **byte != b' ').count();
+    match row.name.get(..length) {
+        Some(letters) => letters.eq_ignore_ascii_case(name),
+        None => false,
+    }
+}
+
+// Says what is wrong with a number that has another sign in it.
+fn remark_on_sign(token: &[u8], remarks: &mut Remarks) -> bool {
+    match token.split_last() {
+        Some((b',' | b';', number)) if is_number(number) => {
+            remarks.line(&[
+                b"Numbers have blanks between them, and edits lines of their own: ",
+                number,
+                b".",
+            ]);
+            true
+        }
+        Some((b'%', number)) if is_number(number) => {
+            remarks.line(&[
+                b"Numbers have no unit: ",
+                number,
+                b". `sfbank explain generators` lists the units.",
+            ]);
+            true
+        }
+        _ if is_decimal(token) => {
+            remarks.line(&[b"Numbers are whole: decibels, for example, are given in tenths."]);
+            true
+        }
+        _ => false,
+    }
+}
+
+// The two numbers of a range with a hyphen.
+fn ends_of_hyphen(token: &[u8]) -> Option<(&[u8], &[u8])> {
+    let length = token
+        .iter()
+        .take_while(|byte| byte.is_ascii_digit())
+        .count();
+    let low = token.get(..length)?;
+    let (hyphen, high) = token.get(length..)?.split_first()?;
+    if *hyphen == b'-' && is_digits(low) && is_digits(high) {
+        Some((low, high))
+    } else {
+        None
+    }
+}
+
+/// Whether a token is one or more digits.
+pub(crate) fn is_digits(token: &[u8]) -> bool {
+    !token.is_empty() && token.iter().all(|byte| byte.is_ascii_digit())
+}
+
+// Whether a token is a whole number, which may be negative.
+fn is_number(token: &[u8]) -> bool {
+    match token.split_first() {
+        Some((b'-', digits)) => is_digits(digits),
+        _ => is_digits(token),
+    }
+}
+
+// Whether a token is a number with a fraction.
+fn is_decimal(token: &[u8]) -> bool {
+    let length = token.iter().take_while(|byte| **byte != b'.').count();
+    match (token.get(..length), token.get(length..)) {
+        (Some(whole), Some([b'.', fraction @ ..])) => is_number(whole) && is_digits(fraction),
+        _ => false,
+    }
+}
