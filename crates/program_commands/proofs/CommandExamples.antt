@@ -1,12 +1,16 @@
 -- Words of some commands, with what they ask for.
 use Rattle.std.proofs.Common.{◌≡◌, ◌∷◌, List, [], None, Option, Some, arith, codes, false, inl, inr, option_map, refl}
 use Rattle.std.proofs.Common.{rules, true}
+use Rattle.std.specs.Option.{unwrap_or}
+use Rattle.std.specs.Path.{path_file_name, path_file_stem, rsplit_once, split_last_component, trim_trailing}
 use Rattle.clap.specs.Words.{Text, all_of, fault_of, first_of, one_of, subcommand_of}
+use Rattle.clap.specs.declared.error.kind.ErrorKind.TheVariants.{UnknownArgument}
 use Rattle.clap.proofs.OnLiterals.{clap_on_literals}
 use Rattle.program_commands.specs.Commands.{sfbank_app}
 use Rattle.program_commands.specs.declared.explain.Topic.TheVariants.{Generators, Name, Number}
-use Rattle.program_commands.specs.Words.{asks_for_explanations, AsksForNone, IsPreset, IsTakenPreset, IsTopic}
-use Rattle.program_commands.proofs.RequestLaws.{apply_asks_none}
+use Rattle.program_commands.specs.Words.{asks_for_explanations, input_named, output_named, standard_input}
+use Rattle.program_commands.specs.Words.{AsksForNone, IsPreset, IsTakenPreset, IsTopic}
+use Rattle.program_commands.proofs.RequestLaws.{apply_asks_none, live_asks_none}
 
 abbrev pub apply_words : List Text
 apply_words =
@@ -57,6 +61,30 @@ copy_words =
     codes "sfbank" ∷ codes "copy" ∷ codes "--as" ∷ codes "8:24" ∷ codes "--script=edits.txt" ∷ codes "in.sf2"
     ∷ codes "preset" ∷ codes "3" ∷ codes "out.sf2" ∷ codes "undo.txt" ∷ []
 
+-- `-` for each path, and a path that ends with it
+abbrev pub play_words : List Text
+play_words = codes "sfbank" ∷ codes "play" ∷ codes "--report" ∷ codes "-" ∷ codes "notes.txt" ∷ codes "-" ∷ []
+
+abbrev pub canon_words : List Text
+canon_words = codes "sfbank" ∷ codes "canon" ∷ codes "./-" ∷ codes "./-" ∷ []
+
+abbrev pub tidy_words : List Text
+tidy_words =
+    codes "sfbank" ∷ codes "tidy" ∷ codes "--script" ∷ codes "-" ∷ codes "in.sf2" ∷ codes "out.sf2" ∷ codes "-" ∷ []
+
+abbrev pub keep_input_words : List Text
+keep_input_words =
+    codes "sfbank" ∷ codes "keep" ∷ codes "--notes=-" ∷ codes "in.sf2" ∷ codes "out.sf2" ∷ codes "undo.txt" ∷ []
+
+abbrev pub live_words : List Text
+live_words = codes "sfbank" ∷ codes "live" ∷ codes "--report" ∷ codes "in.sf2" ∷ codes "frames" ∷ []
+
+abbrev pub live_standard_words : List Text
+live_standard_words = codes "sfbank" ∷ codes "live" ∷ codes "in.sf2" ∷ codes "-" ∷ []
+
+abbrev pub report_words : List Text
+report_words = codes "sfbank" ∷ codes "canon" ∷ codes "--report" ∷ codes "in.sf2" ∷ codes "out.sf2" ∷ []
+
 -- the command that words use
 abbrev pub command_used : List Text → Option Text
 command_used words = option_map (λ used. used.0) (subcommand_of sfbank_app words)
@@ -67,6 +95,13 @@ word_given words name = option_map (λ used. first_of name used.1) (subcommand_o
 
 abbrev pub value_given : List Text → Text → Option (Option Text)
 value_given words name = option_map (λ used. one_of name used.1) (subcommand_of sfbank_app words)
+
+-- the path of the input and of the output that words give under this name
+abbrev pub input_given : List Text → Text → Option (Option Text)
+input_given words name = option_map (option_map input_named) (word_given words name)
+
+abbrev pub output_given : List Text → Text → Option (Option Text)
+output_given words name = option_map (option_map output_named) (word_given words name)
 
 -- all words that words give under this name
 abbrev pub words_given : List Text → Text → Option (Option (List Text))
@@ -225,7 +260,74 @@ pub copy_no_name : word_given copy_words (codes "name") ≡ Some None
 unfolding clap_on_literals
 copy_no_name = refl
 
--- clap finds no fault in any of them
+-- `-` is the standard input, or the standard output
+pub play_input : input_given play_words (codes "IN") ≡ Some (Some (codes "/dev/stdin"))
+unfolding clap_on_literals
+play_input = refl
+
+pub play_notes : input_given play_words (codes "NOTES") ≡ Some (Some (codes "notes.txt"))
+unfolding clap_on_literals
+play_notes = refl
+
+pub play_output : output_given play_words (codes "OUT") ≡ Some (Some (codes "/dev/stdout"))
+unfolding clap_on_literals
+play_output = refl
+
+-- a file of this name has a path
+pub canon_input : input_given canon_words (codes "IN") ≡ Some (Some (codes "./-"))
+unfolding clap_on_literals
+canon_input = refl
+
+pub canon_output : output_given canon_words (codes "OUT") ≡ Some (Some (codes "./-"))
+unfolding clap_on_literals
+canon_output = refl
+
+pub tidy_script : output_given tidy_words (codes "script") ≡ Some (Some (codes "/dev/stdout"))
+unfolding clap_on_literals
+tidy_script = refl
+
+pub tidy_undo : output_given tidy_words (codes "UNDO") ≡ Some (Some (codes "/dev/stdout"))
+unfolding clap_on_literals
+tidy_undo = refl
+
+pub keep_input_notes : input_given keep_input_words (codes "notes") ≡ Some (Some (codes "/dev/stdin"))
+unfolding clap_on_literals
+keep_input_notes = refl
+
+-- the name of a recording that is read there
+pub standard_recording : unwrap_or (path_file_stem standard_input) [] ≡ codes "stdin"
+unfolding path_file_stem path_file_name split_last_component trim_trailing rsplit_once
+standard_recording = refl
+
+pub live_frames : word_given live_words (codes "PCM") ≡ Some (Some (codes "frames"))
+unfolding clap_on_literals
+live_frames = refl
+
+pub live_standard_used : command_used live_standard_words ≡ Some (codes "live")
+unfolding clap_on_literals
+live_standard_used = refl
+
+pub live_standard_frames : word_given live_standard_words (codes "PCM") ≡ Some (Some (codes "-"))
+unfolding clap_on_literals
+live_standard_frames = refl
+
+-- frames to the standard output are asked for by no request
+pub live_standard_asks_none : AsksForNone (subcommand_of sfbank_app live_standard_words)
+live_standard_asks_none = live_asks_none (subcommand_of sfbank_app live_standard_words) live_standard_used
+    live_standard_frames
+
+pub play_report_asked : asks_for_explanations play_words ≡ true
+play_report_asked = refl
+
+pub live_report_asked : asks_for_explanations live_words ≡ true
+live_report_asked = refl
+
+-- only the commands that play have the flag of reports
+pub report_fails : fault_of sfbank_app report_words ≡ UnknownArgument ∷ []
+unfolding clap_on_literals
+report_fails = refl
+
+-- clap finds no fault in any of the others
 pub apply_passes : fault_of sfbank_app apply_words ≡ []
 unfolding clap_on_literals
 apply_passes = refl
@@ -273,3 +375,27 @@ merge_passes = refl
 pub copy_passes : fault_of sfbank_app copy_words ≡ []
 unfolding clap_on_literals
 copy_passes = refl
+
+pub play_passes : fault_of sfbank_app play_words ≡ []
+unfolding clap_on_literals
+play_passes = refl
+
+pub canon_passes : fault_of sfbank_app canon_words ≡ []
+unfolding clap_on_literals
+canon_passes = refl
+
+pub tidy_passes : fault_of sfbank_app tidy_words ≡ []
+unfolding clap_on_literals
+tidy_passes = refl
+
+pub keep_input_passes : fault_of sfbank_app keep_input_words ≡ []
+unfolding clap_on_literals
+keep_input_passes = refl
+
+pub live_passes : fault_of sfbank_app live_words ≡ []
+unfolding clap_on_literals
+live_passes = refl
+
+pub live_standard_passes : fault_of sfbank_app live_standard_words ≡ []
+unfolding clap_on_literals
+live_standard_passes = refl

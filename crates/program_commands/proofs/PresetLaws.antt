@@ -1,7 +1,7 @@
 -- Presets that texts name, and what is kept.
-use Rattle.std.proofs.Common.{◌≡◌, ◌==◌, ◌≢◌, ◌<◌, ◌+◌, ◌^◌, ◌++◌, ◌∷◌, ℕ, Bool, true, false, List, [], Option}
+use Rattle.std.proofs.Common.{◌≡◌, ◌∙◌, ◌==◌, ◌≢◌, ◌<◌, ◌+◌, ◌^◌, ◌++◌, ◌∷◌, ℕ, Bool, true, false, List, [], Option}
 use Rattle.std.proofs.Common.{Some, None, Result, Ok, Err, MatchOption, ap, arith, codes, cond, drop, eqb-true}
-use Rattle.std.proofs.Common.{get_or, inl, inr, length, map, refl, subst, suc, sym, take, zero}
+use Rattle.std.proofs.Common.{get_or, inl, inr, length, map, option_map, refl, subst, suc, sym, take, zero}
 use Rattle.std.specs.Borrow.{Bor}
 use Rattle.std.specs.Global.{Vec}
 use Rattle.std.specs.List.{AllZip}
@@ -18,7 +18,8 @@ use Rattle.program_commands.specs.declared.plans.Kept.{Kept}
 use Rattle.program_commands.specs.declared.plans.Kept.TheVariants as choice
 use Rattle.program_commands.specs.declared.plans.TakePaths.{TakePaths}
 use Rattle.program_commands.specs.Words.{AreGiven, AreValues, FindsOne, IsDecimal, IsGiven, IsPreset, IsTakenPreset}
-use Rattle.program_commands.specs.Words.{colon, equals, kept_operands, optional_preset, take_operands}
+use Rattle.program_commands.specs.Words.{Input, colon, equals, input_named, kept_operands, optional_preset}
+use Rattle.program_commands.specs.Words.{take_operands}
 
 -- the number that `parse` reads is that of the numeral
 pub decimal_read : {E : Type 0} (bits : ℕ) (text : Text) (parsed : Result ℕ E) → ParsesUnsigned bits 10 text parsed
@@ -230,6 +231,11 @@ module _ {A : Type 0} (IsNamed : Text → A → Type 0) where
     )
     no_values (text ∷ texts) all none = absurd (omega arith)
 
+-- an operand that is not used names no input
+no_input : (rows : List Row) (name path : Text) → first_of name rows ≡ None → IsGiven rows (Input name path) → ⊥
+no_input rows name path none given =
+    let bad : Some path ≡ None = sym given ∙ ap (option_map input_named) none in absurd cc
+
 -- with neither notes nor presets nothing is kept
 pub none_kept : (rows : List Row) → first_of (codes "notes") rows ≡ None
     → FindsValues IsPreset (λ (presets : Vec PresetNumbers). presets.items) rows (codes "preset") None
@@ -237,7 +243,7 @@ pub none_kept : (rows : List Row) → first_of (codes "notes") rows ≡ None
 none_kept rows notes none = (tt, λ kept given. absurd (go kept given))
   where
     go : (kept : Kept) → AreGiven rows (kept_operands kept) → ⊥
-    go (choice.Notes path zones) given = let bad = given.0 in absurd cc
+    go (choice.Notes path zones) given = no_input rows (codes "notes") path.now notes given.0
     go (choice.Presets presets) given = let bad : false ≡ true = none.1 presets given.0 in absurd cc
 
 -- with the flag for zones nothing is kept without notes
@@ -247,7 +253,7 @@ pub none_kept_with_zones : (rows : List Row) → first_of (codes "notes") rows �
 none_kept_with_zones rows notes zones = (tt, λ kept given. absurd (go kept given))
   where
     go : (kept : Kept) → AreGiven rows (kept_operands kept) → ⊥
-    go (choice.Notes path kept) given = let bad = given.0 in absurd cc
+    go (choice.Notes path kept) given = no_input rows (codes "notes") path.now notes given.0
     go (choice.Presets presets) given = given.1.1.0 zones
 
 -- without presets nothing is copied

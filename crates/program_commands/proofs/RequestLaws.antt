@@ -7,10 +7,10 @@ use Rattle.clap.specs.declared.error.Error.{Error}
 use Rattle.clap.specs.declared.parser.matches.ArgMatches.{ArgMatches}
 use Rattle.program_commands.specs.declared.explain.Topic.{Topic}
 use Rattle.program_commands.specs.declared.words.Request.{Request}
-use Rattle.program_commands.specs.declared.words.Request.TheVariants.{Apply, ApplyOnly, Explain}
+use Rattle.program_commands.specs.declared.words.Request.TheVariants.{Apply, ApplyOnly, Explain, Live}
 use Rattle.program_commands.specs.Commands.{IsSfbankApp, app_with, parsers_of, sfbank_app}
 use Rattle.program_commands.specs.Words.{AreGiven, AsksFor, AsksForNone, FailsByFault, FindsOne, IsParsedBy}
-use Rattle.program_commands.specs.Words.{command_of, operands_of, topic_operands}
+use Rattle.program_commands.specs.Words.{command_of, operands_of, output_named, standard_word, topic_operands}
 use Rattle.program_commands.proofs.AppLaws.{fault_same, free_app, simple_app, subcommand_same}
 
 -- a request is asked for if its command was used and the words give its operands their values
@@ -41,11 +41,27 @@ apply_asks_none (Some used) name flag undo request asked =
   where
     go : (r : Request) → codes "apply" ≡ used.0 → AsksFor (Some used) r → ⊥
     go (Apply paths) is asked =
-        let bad : Some (Some paths.undo.now) ≡ Some None = ap Some (sym asked.1.1.1.1.0) ∙ undo in absurd cc
+        let bad : Some (Some paths.undo.now) ≡ Some None =
+        ap Some (sym asked.1.1.1.1.0) ∙ ap (option_map (option_map output_named)) undo in
+        absurd cc
     go (ApplyOnly paths) is asked =
         let bad : Some (Some (codes "true")) ≡ Some (Some (codes "false")) =
         ap Some (sym asked.1.1.1.1.1.1.1.0) ∙ flag in
         absurd (grind arith)
+    go _ is asked = absurd (grind arith)
+
+-- if `live` was used, with `-` for the frames, no request is asked for
+pub live_asks_none : (used : Option (Text × List Row)) → option_map (λ u. u.0) used ≡ Some (codes "live")
+    → option_map (λ u. first_of (codes "PCM") u.1) used ≡ Some (Some standard_word) → AsksForNone used
+live_asks_none None name pcm request asked = asked
+live_asks_none (Some used) name pcm request asked =
+    let is : codes "live" ≡ used.0 = cc in
+    go request is asked
+  where
+    go : (r : Request) → codes "live" ≡ used.0 → AsksFor (Some used) r → ⊥
+    go (Live paths) is asked =
+        let same : Some (Some paths.pcm.now) ≡ Some (Some standard_word) = ap Some (sym asked.1.1.0.0) ∙ pcm in
+        asked.1.1.0.1 cc
     go _ is asked = absurd (grind arith)
 
 -- what a command with the app of sfbank is asked for, the words ask sfbank for

@@ -67,6 +67,9 @@ dry_run_flag = Flag (codes "dry-run")
 abbrev pub script_option : Argument
 script_option = Single (codes "script")
 
+abbrev pub report_flag : Argument
+report_flag = Flag (codes "report")
+
 -- the arguments of `apply`
 abbrev pub apply_arguments : List Argument
 apply_arguments =
@@ -99,7 +102,7 @@ commands_to_live =
     ∷ (codes "explain", Word (codes "TOPIC") ∷ [])
     ∷ (codes "import", force_flag ∷ input_path ∷ Path (codes "WAVE") ∷ output_path ∷ undo_path ∷ [])
     ∷ (codes "keep", Single (codes "notes") ∷ Flag (codes "zones") ∷ Repeated (codes "preset") ∷ plan_arguments)
-    ∷ (codes "live", force_flag ∷ input_path ∷ Path (codes "PCM") ∷ [])
+    ∷ (codes "live", force_flag ∷ report_flag ∷ input_path ∷ Path (codes "PCM") ∷ [])
     ∷ []
 
 -- the commands from `map` on
@@ -108,7 +111,7 @@ commands_from_map =
     (codes "map", force_flag ∷ input_path ∷ Level (codes "LEVEL") ∷ Number (codes "N") ∷ output_path ∷ [])
     ∷ (codes "merge", Small (codes "shift") (codes "0") ∷ second_bank_arguments)
     ∷ (codes "new", force_flag ∷ Small (codes "minor") (codes "4") ∷ output_path ∷ [])
-    ∷ (codes "play", force_flag ∷ input_path ∷ Path (codes "NOTES") ∷ output_path ∷ [])
+    ∷ (codes "play", force_flag ∷ report_flag ∷ input_path ∷ Path (codes "NOTES") ∷ output_path ∷ [])
     ∷ (codes "script", force_flag ∷ Flag (codes "no-points") ∷ input_path ∷ output_path ∷ [])
     ∷ (codes "show", Flag (codes "zones") ∷ Flag (codes "uses") ∷ input_path ∷ [])
     ∷ (codes "take", Repeated (codes "preset") ∷ second_bank_arguments)

@@ -1,6 +1,6 @@
 -- The operands of each request, and when the words of a command ask for it.
 use Rattle.std.specs.Prelude.{◌≡◌, ◌≢◌, ◌<◌, ◌^◌, ℕ, Bool, true, false, not, List, [], ◌∷◌, ◌++◌, codes, length}
-use Rattle.std.specs.Prelude.{take_while}
+use Rattle.std.specs.Prelude.{◌||◌, if◌then◌else◌, option_map, take_while}
 use Rattle.std.specs.Prelude.{◌⊎◌, MatchResult, Option, Result, Some, None, IfSome, IsSome}
 use Rattle.std.specs.Borrow.{Bor}
 use Rattle.std.specs.List.{AllZip, list_any}
@@ -36,11 +36,15 @@ use Rattle.program_commands.specs.declared.words.Request.TheVariants.{Play, Scri
 use Rattle.program_commands.specs.declared.words.Forms.{Forms}
 use Rattle.program_commands.specs.declared.words.Forms.TheVariants.{Every, Neutral}
 
--- an operand of a request with its name and its value: a word, a name of a member, a number with its width in bits, a
--- flag, a flag that is given, a flag that is not given, an option or operand that is not used, an option and a flag of
--- which at most one is given, the numbers of a preset, presets, presets to copy, or a topic of `explain`
+-- an operand of a request with its name and its value: a word, the path of an input, that of an output, a path that is
+-- not `-`, a name of a member, a number with its width in bits, a flag, a flag that is given, a flag that is not given,
+-- an option or operand that is not used, an option and a flag of which at most one is given, the numbers of a preset,
+-- presets, presets to copy, or a topic of `explain`
 pub data Operand : Type 0 where
   Word : Text → Text → Operand
+  Input : Text → Text → Operand
+  Output : Text → Text → Operand
+  Path : Text → Text → Operand
   Name : Text → List ℕ → Operand
   Number : Text → ℕ → ℕ → Operand
   Flag : Text → Bool → Operand
@@ -72,19 +76,19 @@ owner_number (Inst n) = n
 abbrev pub owner_operands : Owner → List Operand
 owner_operands owner = Word (codes "LEVEL") (level_word owner) ∷ Number (codes "N") 32 (owner_number owner) ∷ []
 
--- an option with a word, if it is used
-abbrev pub optional_word : Text → Option (Bor Text) → Operand
-optional_word name (Some text) = Word name text.now
-optional_word name None = Absent name
+-- an option with the path of an output, if it is used
+abbrev pub optional_output : Text → Option (Bor Text) → Operand
+optional_output name (Some path) = Output name path.now
+optional_output name None = Absent name
 
 -- the operands of a command that finds edits: what a dry run prints is not saved
 abbrev pub plan_operands : PlanPaths → List Operand
 plan_operands paths =
-    Word (codes "IN") paths.input.now
-    ∷ Word (codes "OUT") paths.out.now
-    ∷ Word (codes "UNDO") paths.undo.now
+    Input (codes "IN") paths.input.now
+    ∷ Output (codes "OUT") paths.out.now
+    ∷ Output (codes "UNDO") paths.undo.now
     ∷ Flag (codes "dry-run") paths.dry_run
-    ∷ optional_word (codes "script") paths.script
+    ∷ optional_output (codes "script") paths.script
     ∷ NotBoth (codes "script") (codes "dry-run")
     ∷ Flag (codes "force") paths.force
     ∷ []
@@ -97,7 +101,7 @@ is_played zones.Played = true
 -- the operands that name what is kept: exactly one of two options is used, and the flag for zones only with notes
 abbrev pub kept_operands : Kept → List Operand
 kept_operands (choice.Notes path kept) =
-    Word (codes "notes") path.now ∷ Absent (codes "preset") ∷ Flag (codes "zones") (is_played kept) ∷ []
+    Input (codes "notes") path.now ∷ Absent (codes "preset") ∷ Flag (codes "zones") (is_played kept) ∷ []
 kept_operands (choice.Presets presets) =
     Presets (codes "preset") presets.items ∷ Absent (codes "notes") ∷ Unset (codes "zones") ∷ []
 
@@ -149,12 +153,12 @@ copy_operands copy =
 -- the operands of `merge`
 abbrev pub merge_operands : MergePaths → List Operand
 merge_operands merge =
-    plan_operands merge.paths ++ Word (codes "FROM") merge.from.now ∷ Number (codes "shift") 16 merge.shift ∷ []
+    plan_operands merge.paths ++ Input (codes "FROM") merge.from.now ∷ Number (codes "shift") 16 merge.shift ∷ []
 
 -- the operands of `take`
 abbrev pub take_operands : TakePaths → List Operand
 take_operands take =
-    plan_operands take.paths ++ Word (codes "FROM") take.from.now ∷ Taken (codes "preset") take.presets.items ∷ []
+    plan_operands take.paths ++ Input (codes "FROM") take.from.now ∷ Taken (codes "preset") take.presets.items ∷ []
 
 -- the operands of `tidy`
 abbrev pub tidy_operands : TidyPaths → List Operand
@@ -167,72 +171,72 @@ topic_operands topic = About (codes "TOPIC") topic ∷ []
 -- the operands of each request
 abbrev pub operands_of : Request → List Operand
 operands_of (Apply paths) =
-    Word (codes "IN") paths.input.now
-    ∷ Word (codes "SCRIPT") paths.script.now
-    ∷ Word (codes "OUT") paths.out.now
-    ∷ Word (codes "UNDO") paths.undo.now
+    Input (codes "IN") paths.input.now
+    ∷ Input (codes "SCRIPT") paths.script.now
+    ∷ Output (codes "OUT") paths.out.now
+    ∷ Output (codes "UNDO") paths.undo.now
     ∷ Flag (codes "neutral") (is_neutral paths.forms)
     ∷ Flag (codes "force") paths.force
     ∷ Unset (codes "no-undo")
     ∷ []
 operands_of (ApplyOnly paths) =
-    Word (codes "IN") paths.input.now
-    ∷ Word (codes "SCRIPT") paths.script.now
-    ∷ Word (codes "OUT") paths.out.now
+    Input (codes "IN") paths.input.now
+    ∷ Input (codes "SCRIPT") paths.script.now
+    ∷ Output (codes "OUT") paths.out.now
     ∷ Absent (codes "UNDO")
     ∷ Flag (codes "neutral") (is_neutral paths.forms)
     ∷ Unset (codes "force")
     ∷ Set (codes "no-undo")
     ∷ []
-operands_of (Canon paths) = Word (codes "IN") paths.input.now ∷ Word (codes "OUT") paths.out.now ∷ []
+operands_of (Canon paths) = Input (codes "IN") paths.input.now ∷ Output (codes "OUT") paths.out.now ∷ []
 operands_of (Copy copy) = copy_operands copy
 operands_of (Diff paths) =
-    Word (codes "A") paths.first.now
-    ∷ Word (codes "B") paths.second.now
-    ∷ Word (codes "OUT") paths.out.now
+    Input (codes "A") paths.first.now
+    ∷ Input (codes "B") paths.second.now
+    ∷ Output (codes "OUT") paths.out.now
     ∷ Flag (codes "force") paths.force
     ∷ []
 operands_of (Explain topic) = topic_operands topic
 operands_of (Import paths) =
-    Word (codes "IN") paths.input.now
-    ∷ Word (codes "WAVE") paths.wave.now
-    ∷ Word (codes "OUT") paths.out.now
-    ∷ Word (codes "UNDO") paths.undo.now
+    Input (codes "IN") paths.input.now
+    ∷ Input (codes "WAVE") paths.wave.now
+    ∷ Output (codes "OUT") paths.out.now
+    ∷ Output (codes "UNDO") paths.undo.now
     ∷ Flag (codes "force") paths.force
     ∷ []
 operands_of (Keep keep) = keep_operands keep
 operands_of (Live paths) =
-    Word (codes "IN") paths.input.now ∷ Word (codes "PCM") paths.pcm.now ∷ Flag (codes "force") paths.force ∷ []
+    Input (codes "IN") paths.input.now ∷ Path (codes "PCM") paths.pcm.now ∷ Flag (codes "force") paths.force ∷ []
 operands_of (Map paths) =
-    Word (codes "IN") paths.input.now
+    Input (codes "IN") paths.input.now
     ∷ Word (codes "LEVEL") (level_word paths.owner)
     ∷ Number (codes "N") 32 (owner_number paths.owner)
-    ∷ Word (codes "OUT") paths.out.now
+    ∷ Output (codes "OUT") paths.out.now
     ∷ Flag (codes "force") paths.force
     ∷ []
 operands_of (Merge merge) = merge_operands merge
 operands_of (New bank) =
-    Word (codes "OUT") bank.out.now ∷ Number (codes "minor") 16 bank.minor ∷ Flag (codes "force") bank.force ∷ []
+    Output (codes "OUT") bank.out.now ∷ Number (codes "minor") 16 bank.minor ∷ Flag (codes "force") bank.force ∷ []
 operands_of (Play paths) =
-    Word (codes "IN") paths.input.now
-    ∷ Word (codes "NOTES") paths.notes.now
-    ∷ Word (codes "OUT") paths.out.now
+    Input (codes "IN") paths.input.now
+    ∷ Input (codes "NOTES") paths.notes.now
+    ∷ Output (codes "OUT") paths.out.now
     ∷ Flag (codes "force") paths.force
     ∷ []
 operands_of (Script paths) =
-    Word (codes "IN") paths.input.now
-    ∷ Word (codes "OUT") paths.out.now
+    Input (codes "IN") paths.input.now
+    ∷ Output (codes "OUT") paths.out.now
     ∷ Flag (codes "no-points") paths.no_points
     ∷ Flag (codes "force") paths.force
     ∷ []
 operands_of (Show paths) =
-    Word (codes "IN") paths.input.now ∷ Flag (codes "zones") paths.zones ∷ Flag (codes "uses") paths.uses ∷ []
+    Input (codes "IN") paths.input.now ∷ Flag (codes "zones") paths.zones ∷ Flag (codes "uses") paths.uses ∷ []
 operands_of (Take take) = take_operands take
 operands_of (Tidy tidy) = tidy_operands tidy
 operands_of (Wave paths) =
-    Word (codes "IN") paths.input.now
+    Input (codes "IN") paths.input.now
     ∷ Number (codes "S") 32 paths.sample
-    ∷ Word (codes "OUT") paths.out.now
+    ∷ Output (codes "OUT") paths.out.now
     ∷ Flag (codes "force") paths.force
     ∷ []
 
@@ -260,6 +264,24 @@ command_of (Wave paths) = codes "wave"
 -- what clap found for a command, under the names of its operands
 abbrev pub rows_in : ArgMatches → List Row
 rows_in matches = rows_of (found_of matches)
+
+-- the word for the standard input and the standard output
+abbrev pub standard_word : Text
+standard_word = codes "-"
+
+-- the paths of the two
+abbrev pub standard_input : Text
+standard_input = codes "/dev/stdin"
+
+abbrev pub standard_output : Text
+standard_output = codes "/dev/stdout"
+
+-- the path of the input that a word names, and of the output: any other word is the path itself
+abbrev pub input_named : Text → Text
+input_named word = if bytes_eq word standard_word then standard_input else word
+
+abbrev pub output_named : Text → Text
+output_named word = if bytes_eq word standard_word then standard_output else word
 
 -- the text is the numeral of n in base 10, which may begin with a plus, and n has at most this many bits
 abbrev pub IsDecimal : ℕ → Text → ℕ → Type 0
@@ -312,6 +334,9 @@ AreValues IsNamed rows name values =
 -- the words give the operand its value: a flag that is not given is false
 abbrev pub IsGiven : List Row → Operand → Type 0
 IsGiven rows (Word name text) = first_of name rows ≡ Some text
+IsGiven rows (Input name path) = option_map input_named (first_of name rows) ≡ Some path
+IsGiven rows (Output name path) = option_map output_named (first_of name rows) ≡ Some path
+IsGiven rows (Path name path) = (first_of name rows ≡ Some path) × (path ≢ standard_word)
 IsGiven rows (Name option name) = (first_of option rows ≡ Some name) × IsName name
 IsGiven rows (Number name bits n) = (text : Text) × (one_of name rows ≡ Some text) × IsDecimal bits text n
 IsGiven rows (Flag name value) =
@@ -356,7 +381,10 @@ FailsByFault app words result = MatchResult result
     (λ request. fault_of app words ≡ [])
     (λ e. HasKind (fault_of app words) e ⊎ AsksForNone (subcommand_of app words))
 
--- whether the words ask for explanations of faults: `--explain` is one of those before the first `--`
+-- the word is a flag that asks for explanations of faults, or for reports
+abbrev pub is_explaining : Text → Bool
+is_explaining word = bytes_eq word (codes "--explain") || bytes_eq word (codes "--report")
+
+-- whether the words ask for what a terminal gets: one of these flags is before the first `--`
 abbrev pub asks_for_explanations : List Text → Bool
-asks_for_explanations words =
-    list_any (λ word. bytes_eq word (codes "--explain")) (take_while (λ word. not (bytes_eq word (codes "--"))) words)
+asks_for_explanations words = list_any is_explaining (take_while (λ word. not (bytes_eq word (codes "--"))) words)

@@ -12,6 +12,10 @@ use std::alloc::{AllocError, Global};
 /// The program's name in help and in errors, whatever path it was started by.
 const NAME: &str = "sfbank";
 
+/// The note on paths in help.
+const STANDARD_FILES: &str =
+    "Where a file is read, - is the standard input; where one is written, the standard output.";
+
 /// The default minor version of an empty bank.
 const DEFAULT_MINOR: &str = "4";
 
@@ -84,6 +88,12 @@ const DRY_RUN: Operand = Operand::Flag("dry-run", "Prints the script of edits, a
 
 /// The option that saves the script of the edits.
 const SCRIPT: Operand = Operand::Single("script", "FILE", "Saves the script of edits too");
+
+/// The flag of the commands that play.
+const REPORT: Operand = Operand::Flag(
+    "report",
+    "Reports silent notes, the peak and clipping at the end, as on a terminal",
+);
 
 /// The flag that lets the outputs of `live` replace banks.
 const LIVE_FORCE: Operand = Operand::Flag(
@@ -210,6 +220,7 @@ static COMMANDS_TO_LIVE: [Entry; 8] = [
         about: "Edits and plays a bank live, by the lines of the standard input",
         operands: &[
             LIVE_FORCE,
+            REPORT,
             Operand::Path("IN", "The bank to begin with"),
             Operand::Path(
                 "PCM",
@@ -274,6 +285,7 @@ static COMMANDS_FROM_MAP: [Entry; 9] = [
         about: "Plays notes on a bank into a WAVE file",
         operands: &[
             FORCE,
+            REPORT,
             Operand::Path("IN", "The bank to play on"),
             Operand::Path("NOTES", "The notes, one a line"),
             Operand::Path("OUT", "Where the WAVE file is written"),
@@ -388,6 +400,7 @@ fn bare_program<'a>(alloc: Global) -> Result<Command<'a>, AllocError>
         command
             .version("0.1.0")
             .about("Edits SoundFont 2 banks by scripts, writes their undo scripts, and plays banks")
+            .after_help(STANDARD_FILES)
             .subcommand_required(true)
             .arg_required_else_help(true),
     )

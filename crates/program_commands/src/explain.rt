@@ -1,7 +1,7 @@
-//! What `explain` is asked about, and the flag `--explain` of every command.
+//! What `explain` is asked about, and the flags that ask for what a terminal gets.
 ghost use Rattle.std.specs.Prelude.{◌≡◌, map};
-ghost use Rattle.program_commands.specs.Words.{asks_for_explanations, rows_in, topic_operands, AreGiven, FindsOne};
-ghost use Rattle.program_commands.specs.Words.{IsTopic};
+ghost use Rattle.program_commands.specs.Words.{asks_for_explanations, is_explaining, rows_in, topic_operands};
+ghost use Rattle.program_commands.specs.Words.{AreGiven, FindsOne, IsTopic};
 
 use crate::words::read_word;
 use clap::ArgMatches;
@@ -18,15 +18,22 @@ pub enum Topic<'a> {
     Generators,
 }
 
-/// Whether the words ask for explanations of faults: whether `--explain` is one of those before the first `--`. It
-/// depends on the words alone, also where clap rejects them.
+/// Whether the words ask for what a terminal gets: explanations of faults, and reports. They do if `--explain` or
+/// `--report` is one of those before the first `--`. It depends on the words alone, also where clap rejects them.
 pub fn asks_for_explanations<S: AsStr>(words: &[S]) -> bool
     ensures { result ≡ asks_for_explanations (map S.text words.now) }
 {
     words
         .iter()
         .take_while(|word| word.as_str() != "--")
-        .any(|word| word.as_str() == "--explain")
+        .any(|word| is_explaining(word.as_str()))
+}
+
+// Whether the word is one of the two flags.
+fn is_explaining(word: &str) -> bool
+    ensures { result ≡ is_explaining word.now }
+{
+    word == "--explain" || word == "--report"
 }
 
 pub(crate) fn read_topic<'a>(matches: &ArgMatches<'a>) -> Option<Topic<'a>>

@@ -4,6 +4,7 @@
 mod commands;
 mod explain;
 mod names;
+mod paths;
 mod plans;
 mod presets;
 mod words;

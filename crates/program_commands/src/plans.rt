@@ -7,8 +7,9 @@ ghost use Rattle.program_commands.specs.Words.{merge_operands, plan_operands, ro
 ghost use Rattle.program_commands.specs.Words.{is_played, optional_name, tidy_operands, AreGiven, FindsOne, Flag};
 ghost use Rattle.program_commands.specs.Words.{IsGiven, NotBoth};
 
+use crate::paths::{read_input, read_optional_output, read_output};
 use crate::presets::{read_optional_preset, read_values};
-use crate::words::{is_set, read_flag, read_number, read_optional_word, read_small, read_word};
+use crate::words::{is_set, read_flag, read_number, read_small, read_word};
 use clap::ArgMatches;
 use plan_presets::{CopiedMember, PresetNumbers, TakenPreset};
 use sf_base::Name20;
@@ -96,11 +97,11 @@ pub(crate) fn read_plan<'a>(matches: &ArgMatches<'a>) -> Option<PlanPaths<'a>>
         return None;
     }
     Some(PlanPaths {
-        input: read_word(matches, "IN")?,
-        out: read_word(matches, "OUT")?,
-        undo: read_word(matches, "UNDO")?,
+        input: read_input(matches, "IN")?,
+        out: read_output(matches, "OUT")?,
+        undo: read_output(matches, "UNDO")?,
         dry_run: read_flag(matches, "dry-run"),
-        script: read_optional_word(matches, "script"),
+        script: read_optional_output(matches, "script"),
         force: read_flag(matches, "force"),
     })
 }
@@ -134,7 +135,7 @@ pub(crate) fn read_keep<'a>(
 fn read_kept<'a>(alloc: Global, matches: &ArgMatches<'a>) -> Result<Option<Kept<'a>>, AllocError>
     ensures { IfOk result (λ found. FindsOne found (λ kept. AreGiven (rows_in matches.now) (kept_operands kept))) }
 {
-    let notes = read_word(matches, "notes");
+    let notes = read_input(matches, "notes");
     let preset = read_word(matches, "preset");
     match (notes, preset) {
         (Some(notes), None) => Ok(Some(Kept::Notes(notes, read_zones(matches)))),
@@ -182,7 +183,7 @@ pub(crate) fn read_take<'a>(
     let Some(paths) = read_plan(matches) else {
         return Ok(None);
     };
-    let Some(from) = read_word(matches, "FROM") else {
+    let Some(from) = read_input(matches, "FROM") else {
         return Ok(None);
     };
     let named = read_values(alloc, matches, "preset")?;
@@ -202,7 +203,7 @@ pub(crate) fn read_merge<'a>(matches: &ArgMatches<'a>) -> Option<MergePaths<'a>>
 {
     Some(MergePaths {
         paths: read_plan(matches)?,
-        from: read_word(matches, "FROM")?,
+        from: read_input(matches, "FROM")?,
         shift: read_small(matches, "shift")?,
     })
 }

@@ -2,12 +2,13 @@
 ghost use Rattle.std.specs.Prelude.{◌≡◌, ◌≢◌, IfOk, codes, false, map, option_map, true};
 ghost use Rattle.clap.specs.Words.{app_of, first_of, is_simple_and_free, subcommand_of, subcommand_rows_of};
 ghost use Rattle.program_commands.specs.Commands.{sfbank_app};
-ghost use Rattle.program_commands.specs.Words.{Number, Flag, is_neutral, optional_word, owner_operands, operands_of};
+ghost use Rattle.program_commands.specs.Words.{Number, Flag, is_neutral, owner_operands, operands_of};
 ghost use Rattle.program_commands.specs.Words.{rows_in, AreGiven, AsksFor, FailsByFault, FindsOne, IsGiven};
 ghost use Rattle.program_commands.specs.Words.{IsParsedBy};
 
 use crate::commands::sfbank_command;
 use crate::explain::{Topic, read_topic};
+use crate::paths::{read_input, read_output, read_path};
 use crate::plans::{
     CopyPaths, KeepPaths, MergePaths, TakePaths, TidyPaths, read_copy, read_keep, read_merge,
     read_take, read_tidy, saves_in_dry_run,
@@ -228,6 +229,9 @@ fn no_request(matches: &ArgMatches<'_>) -> &'static str {
         Some(("keep", _)) => {
             "keep needs either --notes NOTES, which --zones can follow, or --preset BANK:NUMBER, such as --preset 0:24"
         }
+        Some(("live", _)) => {
+            "live writes its answers to the standard output, so PCM can't be -: name a pipe or a file"
+        }
         Some(("take", _)) => {
             "take needs --preset BANK:NUMBER[=BANK:NUMBER], such as --preset 0:24 or --preset 0:24=8:24"
         }
@@ -332,10 +336,10 @@ fn read_apply<'a>(matches: &ArgMatches<'a>) -> Option<ApplyPaths<'a>>
         return None;
     }
     Some(ApplyPaths {
-        input: read_word(matches, "IN")?,
-        script: read_word(matches, "SCRIPT")?,
-        out: read_word(matches, "OUT")?,
-        undo: read_word(matches, "UNDO")?,
+        input: read_input(matches, "IN")?,
+        script: read_input(matches, "SCRIPT")?,
+        out: read_output(matches, "OUT")?,
+        undo: read_output(matches, "UNDO")?,
         forms: read_forms(matches),
         force: read_flag(matches, "force"),
     })
@@ -351,9 +355,9 @@ fn read_apply_only<'a>(matches: &ArgMatches<'a>) -> Option<ApplyOnlyPaths<'a>>
         return None;
     }
     Some(ApplyOnlyPaths {
-        input: read_word(matches, "IN")?,
-        script: read_word(matches, "SCRIPT")?,
-        out: read_word(matches, "OUT")?,
+        input: read_input(matches, "IN")?,
+        script: read_input(matches, "SCRIPT")?,
+        out: read_output(matches, "OUT")?,
         forms: read_forms(matches),
     })
 }
@@ -372,8 +376,8 @@ fn read_canon<'a>(matches: &ArgMatches<'a>) -> Option<CanonPaths<'a>>
     ensures { FindsOne result (λ paths. AreGiven (rows_in matches.now) (operands_of (Request.Canon paths))) }
 {
     Some(CanonPaths {
-        input: read_word(matches, "IN")?,
-        out: read_word(matches, "OUT")?,
+        input: read_input(matches, "IN")?,
+        out: read_output(matches, "OUT")?,
     })
 }
 
@@ -381,9 +385,9 @@ fn read_diff<'a>(matches: &ArgMatches<'a>) -> Option<DiffPaths<'a>>
     ensures { FindsOne result (λ paths. AreGiven (rows_in matches.now) (operands_of (Request.Diff paths))) }
 {
     Some(DiffPaths {
-        first: read_word(matches, "A")?,
-        second: read_word(matches, "B")?,
-        out: read_word(matches, "OUT")?,
+        first: read_input(matches, "A")?,
+        second: read_input(matches, "B")?,
+        out: read_output(matches, "OUT")?,
         force: read_flag(matches, "force"),
     })
 }
@@ -392,10 +396,10 @@ fn read_import<'a>(matches: &ArgMatches<'a>) -> Option<ImportPaths<'a>>
     ensures { FindsOne result (λ paths. AreGiven (rows_in matches.now) (operands_of (Request.Import paths))) }
 {
     Some(ImportPaths {
-        input: read_word(matches, "IN")?,
-        wave: read_word(matches, "WAVE")?,
-        out: read_word(matches, "OUT")?,
-        undo: read_word(matches, "UNDO")?,
+        input: read_input(matches, "IN")?,
+        wave: read_input(matches, "WAVE")?,
+        out: read_output(matches, "OUT")?,
+        undo: read_output(matches, "UNDO")?,
         force: read_flag(matches, "force"),
     })
 }
@@ -404,8 +408,8 @@ fn read_live<'a>(matches: &ArgMatches<'a>) -> Option<LivePaths<'a>>
     ensures { FindsOne result (λ paths. AreGiven (rows_in matches.now) (operands_of (Request.Live paths))) }
 {
     Some(LivePaths {
-        input: read_word(matches, "IN")?,
-        pcm: read_word(matches, "PCM")?,
+        input: read_input(matches, "IN")?,
+        pcm: read_path(matches, "PCM")?,
         force: read_flag(matches, "force"),
     })
 }
@@ -414,9 +418,9 @@ fn read_map<'a>(matches: &ArgMatches<'a>) -> Option<MapPaths<'a>>
     ensures { FindsOne result (λ paths. AreGiven (rows_in matches.now) (operands_of (Request.Map paths))) }
 {
     Some(MapPaths {
-        input: read_word(matches, "IN")?,
+        input: read_input(matches, "IN")?,
         owner: read_owner(matches)?,
-        out: read_word(matches, "OUT")?,
+        out: read_output(matches, "OUT")?,
         force: read_flag(matches, "force"),
     })
 }
@@ -439,7 +443,7 @@ fn read_new<'a>(matches: &ArgMatches<'a>) -> Option<NewBank<'a>>
     ensures { FindsOne result (λ bank. AreGiven (rows_in matches.now) (operands_of (Request.New bank))) }
 {
     Some(NewBank {
-        out: read_word(matches, "OUT")?,
+        out: read_output(matches, "OUT")?,
         minor: read_small(matches, "minor")?,
         force: read_flag(matches, "force"),
     })
@@ -449,9 +453,9 @@ fn read_play<'a>(matches: &ArgMatches<'a>) -> Option<PlayPaths<'a>>
     ensures { FindsOne result (λ paths. AreGiven (rows_in matches.now) (operands_of (Request.Play paths))) }
 {
     Some(PlayPaths {
-        input: read_word(matches, "IN")?,
-        notes: read_word(matches, "NOTES")?,
-        out: read_word(matches, "OUT")?,
+        input: read_input(matches, "IN")?,
+        notes: read_input(matches, "NOTES")?,
+        out: read_output(matches, "OUT")?,
         force: read_flag(matches, "force"),
     })
 }
@@ -460,8 +464,8 @@ fn read_script<'a>(matches: &ArgMatches<'a>) -> Option<ScriptPaths<'a>>
     ensures { FindsOne result (λ paths. AreGiven (rows_in matches.now) (operands_of (Request.Script paths))) }
 {
     Some(ScriptPaths {
-        input: read_word(matches, "IN")?,
-        out: read_word(matches, "OUT")?,
+        input: read_input(matches, "IN")?,
+        out: read_output(matches, "OUT")?,
         no_points: read_flag(matches, "no-points"),
         force: read_flag(matches, "force"),
     })
@@ -471,7 +475,7 @@ fn read_show<'a>(matches: &ArgMatches<'a>) -> Option<ShowPaths<'a>>
     ensures { FindsOne result (λ paths. AreGiven (rows_in matches.now) (operands_of (Request.Show paths))) }
 {
     Some(ShowPaths {
-        input: read_word(matches, "IN")?,
+        input: read_input(matches, "IN")?,
         zones: read_flag(matches, "zones"),
         uses: read_flag(matches, "uses"),
     })
@@ -481,9 +485,9 @@ fn read_wave<'a>(matches: &ArgMatches<'a>) -> Option<WavePaths<'a>>
     ensures { FindsOne result (λ paths. AreGiven (rows_in matches.now) (operands_of (Request.Wave paths))) }
 {
     Some(WavePaths {
-        input: read_word(matches, "IN")?,
+        input: read_input(matches, "IN")?,
         sample: read_number(matches, "S")?,
-        out: read_word(matches, "OUT")?,
+        out: read_output(matches, "OUT")?,
         force: read_flag(matches, "force"),
     })
 }
@@ -492,13 +496,6 @@ pub(crate) fn read_word<'a>(matches: &ArgMatches<'a>, name: &str) -> Option<&'a 
     ensures { option_map (λ word. word.now) result ≡ first_of name.now (rows_in matches.now) }
 {
     matches.get_str(name)
-}
-
-/// Returns the word of the option, if it is used.
-pub(crate) fn read_optional_word<'a>(matches: &ArgMatches<'a>, name: &str) -> Option<&'a str>
-    ensures { IsGiven (rows_in matches.now) (optional_word name.now result) }
-{
-    read_word(matches, name)
 }
 
 pub(crate) fn read_number(matches: &ArgMatches<'_>, name: &str) -> Option<u32>
