@@ -5,7 +5,7 @@ use file_host::InputFault;
 use sf_base::Failure;
 use std::alloc::AllocError;
 use std::io;
-use std::io::Write;
+use std::io::{ErrorKind, Write};
 
 /// What a system does to files: each method is one call of it. One file at a time is open for writing, and one for
 /// reading.
@@ -207,7 +207,7 @@ pub trait Device {
         ensures left { ChangesIfOk result (with_stream path.now) (durable self.old) (durable self.new) }
         ensures crash { Passes (past self.old) (past self.new) (durable self.old) (durable self.new) };
 
-    /// Whether the last write failed because nothing reads the other end of a pipe, and no file was opened for writing
-    /// since.
-    fn is_pipe_closed(&self) -> bool;
+    /// The kind of the error by which the last save failed by a write fault, if the system reported one. `BrokenPipe`
+    /// where nothing reads the other end of a pipe.
+    fn last_error(&self) -> Option<ErrorKind>;
 }

@@ -16,6 +16,7 @@ use base_texts::Text;
 use file_host::{Host, InputFault, PairFault};
 use sf_base::Failure;
 use std::alloc::{AllocError, Global};
+use std::io::ErrorKind;
 
 /// Files on a device. A text is written to a new file in the folder of its path, which is put in place once it is written,
 /// and synced if it replaces a file; a pipe, a device or a descriptor is written in place.
@@ -131,10 +132,10 @@ impl<D: Device + Drop> Host for Disk<D> {
         }
     }
 
-    fn is_pipe_closed(&self) -> bool {
+    fn last_error(&self) -> Option<ErrorKind> {
         match &self.device {
-            Some(device) => device.is_pipe_closed(),
-            None => false,
+            Some(device) => device.last_error(),
+            None => None,
         }
     }
 }

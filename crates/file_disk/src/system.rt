@@ -1,5 +1,5 @@
 //! The device of a real system.
-ghost use Rattle.std.specs.Prelude.{None, false};
+ghost use Rattle.std.specs.Prelude.{◌≡◌, None, false};
 ghost use Rattle.file_disk.specs.Crashes.{none_left};
 
 use crate::descriptor::Descriptor;
@@ -31,9 +31,9 @@ pub struct System<'a, R: Files> {
     rt: &'a R,
     output: Option<R::File>,
     input: Option<R::File>,
-    // Whether the last write failed because nothing reads the other end of a pipe, and no file was opened for writing
-    // since.
-    is_pipe_closed: bool,
+    // The first error since a file was last checked, opened for writing or linked: none of these calls cleans up after
+    // an error that makes a save fail.
+    last_error: Option<ErrorKind>,
 }
 
 impl<'a, R: Files> System<'a, R> {
@@ -43,8 +43,22 @@ impl<'a, R: Files> System<'a, R> {
             rt,
             output: None,
             input: None,
-            is_pipe_closed: false,
+            last_error: None,
         }
+    }
+}
+
+impl<R: Files> System<'_, R> {
+    // Notes the error of a call, unless an earlier one is noted, after which the call cleans up.
+    fn noted<T>(&mut self, answer: io::Result<T>) -> io::Result<T>
+        ensures { result ≡ answer }
+    {
+        if self.last_error.is_none() {
+            if let Err(error) = &answer {
+                self.last_error = Some(error.kind());
+            }
+        }
+        answer
     }
 }
 
@@ -86,30 +100,28 @@ impl<'a, R: Files + AllocGlobal> Device for System<'a, R> {
     }
 
     fn check_writable(&mut self, path: &str) -> io::Result<()> {
-        self.is_pipe_closed = false;
-        let _file = OpenOptions::new().write(true).open(self.rt, path)?;
+        self.last_error = None;
+        let opened = OpenOptions::new().write(true).open(self.rt, path);
+        let _file = self.noted(opened)?;
         Ok(())
     }
 
     fn create_new(&mut self, path: &str, is_private: bool) -> io::Result<()> {
-        self.is_pipe_closed = false;
+        self.last_error = None;
         let mode = if is_private { PRIVATE } else { SHARED };
-        let file = OpenOptions::new()
+        let opened = OpenOptions::new()
             .write(true)
             .create_new(true)
             .mode(mode)
-            .open(self.rt, path)?;
-        self.output = Some(file);
+            .open(self.rt, path);
+        self.output = Some(self.noted(opened)?);
         Ok(())
     }
 
     fn open_in_place(&mut self, path: &str) -> io::Result<()> {
-        self.is_pipe_closed = false;
-        let file = match resolve(self.rt, path)? {
-            Resolved::Descriptor(number) => Descriptor::new(self.rt, number)?.open(self.rt, path)?,
-            _ => open_existing(self.rt, path)?,
-        };
-        self.output = Some(file);
+        self.last_error = None;
+        let opened = open_in_place(self.rt, path);
+        self.output = Some(self.noted(opened)?);
         Ok(())
     }
 
@@ -118,8 +130,7 @@ impl<'a, R: Files + AllocGlobal> Device for System<'a, R> {
             return Err(io::Error::from(ErrorKind::NotFound));
         };
         let answer = file.write(bytes);
-        self.is_pipe_closed = is_broken_pipe(&answer);
-        answer
+        self.noted(answer)
     }
 
     fn sync(&mut self) -> io::Result<()> {
@@ -128,7 +139,7 @@ impl<'a, R: Files + AllocGlobal> Device for System<'a, R> {
         };
         match file.sync_all() {
             // A pipe or a device has nothing to sync.
-            Err(error) if error.kind() != ErrorKind::InvalidInput => Err(error),
+            Err(error) if error.kind() != ErrorKind::InvalidInput => self.noted(Err(error)),
             _ => Ok(()),
         }
     }
@@ -148,23 +159,31 @@ impl<'a, R: Files + AllocGlobal> Device for System<'a, R> {
 
     fn rename(&mut self, from: &str, to: &str) -> io::Result<()> {
         self.output = None;
-        fs::rename(self.rt, from, to)
+        let answer = fs::rename(self.rt, from, to);
+        self.noted(answer)
     }
 
     fn rename_new(&mut self, from: &str, to: &str) -> io::Result<()> {
         match fs::symlink_metadata(self.rt, to) {
             Err(error) if error.kind() == ErrorKind::NotFound => self.rename(from, to),
-            Err(error) => Err(error),
-            Ok(_) => Err(io::Error::from(ErrorKind::AlreadyExists)),
+            Err(error) => self.noted(Err(error)),
+            Ok(_) => self.noted(Err(io::Error::from(ErrorKind::AlreadyExists))),
         }
     }
 
     fn link(&mut self, from: &str, to: &str) -> io::Result<()> {
-        fs::hard_link(self.rt, from, to)
+        self.last_error = None;
+        let answer = fs::hard_link(self.rt, from, to);
+        self.noted(answer)
     }
 
     fn remove(&mut self, path: &str) -> io::Result<()> {
-        fs::remove_file(self.rt, path)
+        let answer = fs::remove_file(self.rt, path);
+        // A file that is still open is removed because it couldn't be written whole.
+        if self.output.is_some() {
+            return answer;
+        }
+        self.noted(answer)
     }
 
     fn sync_folder(&mut self, path: &str) {
@@ -215,16 +234,16 @@ impl<'a, R: Files + AllocGlobal> Device for System<'a, R> {
         SystemStream::new(self.rt, path)
     }
 
-    fn is_pipe_closed(&self) -> bool {
-        self.is_pipe_closed
+    fn last_error(&self) -> Option<ErrorKind> {
+        self.last_error
     }
 }
 
-/// Whether a write failed because nothing reads the other end of a pipe.
-fn is_broken_pipe(answer: &io::Result<usize>) -> bool {
-    match answer {
-        Ok(_) => false,
-        Err(error) => error.kind() == ErrorKind::BrokenPipe,
+/// Opens a descriptor of the program, a device or a pipe.
+fn open_in_place<R: Files + AllocGlobal>(rt: &R, path: &str) -> io::Result<R::File> {
+    match resolve(rt, path)? {
+        Resolved::Descriptor(number) => Descriptor::new(rt, number)?.open(rt, path),
+        _ => open_existing(rt, path),
     }
 }
 

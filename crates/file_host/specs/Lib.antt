@@ -1,4 +1,5 @@
 pub mod InputFaults
+pub mod OutputReasons
 pub mod World
 pub mod Saving
 pub mod Journal

@@ -6,7 +6,7 @@ use base_outputs::WriteFault;
 use base_texts::Text;
 use sf_base::Failure;
 use std::alloc::{AllocError, Global};
-use std::io::Write;
+use std::io::{ErrorKind, Write};
 
 /// The world of files, each known by its path.
 pub trait Host {
@@ -74,6 +74,7 @@ pub trait Host {
         ensures opened { OnOk result (world self.new ≡ option_map (with_stream path.now) (world self.old)) }
         ensures stays { OnErr result (world self.new ≡ world self.old) };
 
-    /// Whether the last save failed because nothing reads the other end of a pipe.
-    fn is_pipe_closed(&self) -> bool;
+    /// The kind of the error by which the last save failed by a write fault, if the system reported one. `BrokenPipe`
+    /// where nothing reads the other end of a pipe.
+    fn last_error(&self) -> Option<ErrorKind>;
 }

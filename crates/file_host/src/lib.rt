@@ -6,6 +6,7 @@ mod faults;
 mod host;
 mod input_fault;
 mod memory;
+mod output_reason;
 mod saved;
 
 pub use checks::{begins_as_bank, check_apart, check_no_bank};
@@ -13,3 +14,4 @@ pub use faults::{PairFault, Which};
 pub use host::Host;
 pub use input_fault::InputFault;
 pub use memory::{MemoryHost, MemoryStream};
+pub use output_reason::reason_of_output;

@@ -15,7 +15,7 @@ use sf_base::Failure;
 use sf_base::limits::FILE_LENGTH;
 use std::alloc::{AllocError, Global};
 use std::io;
-use std::io::Write;
+use std::io::{ErrorKind, Write};
 
 /// A host whose files are in memory, each path a file of its own.
 #[derive(Drop)]
@@ -173,8 +173,8 @@ impl Host for MemoryHost {
         Err(AllocError)
     }
 
-    fn is_pipe_closed(&self) -> bool {
-        false
+    fn last_error(&self) -> Option<ErrorKind> {
+        None
     }
 }
 
