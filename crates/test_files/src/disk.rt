@@ -6,6 +6,7 @@ use file_disk::Disk;
 use file_host::{Host, InputFault, PairFault};
 use sf_base::Failure;
 use std::alloc::Global;
+use std::io::ErrorKind;
 
 /// More calls than any run below makes.
 const MOST_CALLS: u64 = 200;
@@ -123,6 +124,65 @@ fn a_failing_pair_leaves_old_files(rt: HostRuntime) {
         for (has_bank, has_undo) in [(false, false), (false, true), (true, false), (true, true)] {
             let failed = failed_pairs(alloc, is_broken, has_links, has_bank, has_undo);
             assert!(rt; failed.is_some_and(|failed| failed > 12));
+        }
+    }
+}
+
+/// After a pair is saved, no error is noted; after a write fault, that of the first call that failed.
+fn is_right_error(disk: &Disk<MemoryDevice>, answer: Result<(), PairFault>) -> bool {
+    match answer {
+        Ok(()) => disk.last_error().is_none(),
+        Err(PairFault::Write(..)) => disk.last_error() == Some(ErrorKind::StorageFull),
+        Err(PairFault::OutOfMemory) => true,
+    }
+}
+
+/// Saves a pair, and once more where later calls don't fail. Returns whether the error is right each time, and one of
+/// two runs is done.
+fn has_right_errors(
+    alloc: Global,
+    behaviour: Behaviour,
+    has_bank: bool,
+    has_undo: bool,
+) -> Option<bool> {
+    let device = device_with(alloc, behaviour, has_bank, has_undo)?;
+    let mut disk = Disk::new(alloc, device);
+    let first = disk.save_pair("undo", &Bytes(NEW_UNDO), "bank", &Bytes(NEW));
+    if !is_right_error(&disk, first) || behaviour.is_broken {
+        return Some(is_right_error(&disk, first));
+    }
+    let second = disk.save_pair("undo", &Bytes(NEW_UNDO), "bank", &Bytes(NEW));
+    Some(is_right_error(&disk, second) && (first.is_ok() || second.is_ok()))
+}
+
+/// Whether the errors are right with each call failing in turn.
+fn have_right_errors(
+    alloc: Global,
+    is_broken: bool,
+    has_links: bool,
+    has_bank: bool,
+    has_undo: bool,
+) -> bool {
+    for calls in 0..MOST_CALLS {
+        let behaviour = Behaviour {
+            calls,
+            is_broken,
+            has_links,
+        };
+        if has_right_errors(alloc, behaviour, has_bank, has_undo) != Some(true) {
+            return false;
+        }
+    }
+    true
+}
+
+#[test]
+fn a_failing_pair_has_its_own_error(rt: HostRuntime) {
+    let alloc = rt.alloc();
+    assert!(rt; have_right_errors(alloc, true, false, false, false));
+    for has_links in [false, true] {
+        for (has_bank, has_undo) in [(false, false), (false, true), (true, false), (true, true)] {
+            assert!(rt; have_right_errors(alloc, false, has_links, has_bank, has_undo));
         }
     }
 }

@@ -1,5 +1,6 @@
 //! A device in memory, for tests, which fails at a call that the test picks.
-ghost use Rattle.std.specs.Prelude.{None, false};
+ghost use Rattle.std.specs.Prelude.{◌≡◌, None, false};
+ghost use Rattle.std.specs.Io.{WritesAtMost};
 ghost use Rattle.file_disk.specs.Crashes.{none_left};
 
 use file_disk::{Device, StoredFile, Target};
@@ -33,6 +34,10 @@ pub(crate) struct MemoryDevice {
     output: String,
     input: String,
     read: usize,
+    // The kind of the next call's error, if it fails: of the first one that fails `StorageFull`, of later ones another.
+    next_error: ErrorKind,
+    // As of `System`.
+    last_error: Option<ErrorKind>,
 }
 
 /// A file in memory.
@@ -52,6 +57,8 @@ impl MemoryDevice {
             output: String::new(alloc),
             input: String::new(alloc),
             read: 0,
+            next_error: ErrorKind::StorageFull,
+            last_error: None,
         }
     }
 
@@ -107,10 +114,24 @@ impl MemoryDevice {
             if !self.behaviour.is_broken {
                 self.behaviour.calls = u64::MAX;
             }
-            return Err(io::Error::from(ErrorKind::StorageFull));
+            let error = io::Error::from(self.next_error);
+            self.next_error = ErrorKind::PermissionDenied;
+            return Err(error);
         }
         self.behaviour.calls -= 1;
         Ok(())
+    }
+
+    // Notes the error of a call, unless an earlier one is noted, after which the call cleans up.
+    fn noted<T>(&mut self, answer: io::Result<T>) -> io::Result<T>
+        ensures { result ≡ answer }
+    {
+        if self.last_error.is_none() {
+            if let Err(error) = &answer {
+                self.last_error = Some(error.kind());
+            }
+        }
+        answer
     }
 
     fn check_free(&self, path: &str) -> io::Result<()> {
@@ -118,6 +139,69 @@ impl MemoryDevice {
             Some(_) => Err(io::Error::from(ErrorKind::AlreadyExists)),
             None => Ok(()),
         }
+    }
+
+    fn create(&mut self, path: &str) -> io::Result<()> {
+        self.call()?;
+        self.check_free(path)?;
+        self.put(path, b"")?;
+        self.output = String::from_str(self.alloc, path)?;
+        Ok(())
+    }
+
+    fn open(&mut self, path: &str) -> io::Result<()> {
+        self.call()?;
+        if self.find(path).is_none() {
+            self.put(path, b"")?;
+        }
+        self.output = String::from_str(self.alloc, path)?;
+        Ok(())
+    }
+
+    fn append_piece(&mut self, bytes: &[u8]) -> io::Result<usize>
+        ensures { WritesAtMost result bytes.now }
+    {
+        self.call()?;
+        let count = bytes.len().min(PIECE);
+        let Some(at) = self.find(self.output.as_str()) else {
+            return Err(io::Error::from(ErrorKind::NotFound));
+        };
+        match self.files.get_mut(at) {
+            Some(file) => file.bytes.extend_from_slice(&bytes[..count])?,
+            None => return Err(io::Error::from(ErrorKind::NotFound)),
+        }
+        Ok(count)
+    }
+
+    fn replace(&mut self, from: &str, to: &str) -> io::Result<()> {
+        self.call()?;
+        self.move_file(from, to)
+    }
+
+    fn move_new(&mut self, from: &str, to: &str) -> io::Result<()> {
+        self.call()?;
+        self.check_free(to)?;
+        self.move_file(from, to)
+    }
+
+    fn add_link(&mut self, from: &str, to: &str) -> io::Result<()> {
+        self.call()?;
+        if !self.behaviour.has_links {
+            return Err(io::Error::from(ErrorKind::Unsupported));
+        }
+        self.check_free(to)?;
+        let Some(bytes) = self.file(from) else {
+            return Err(io::Error::from(ErrorKind::NotFound));
+        };
+        let bytes = Vec::from_slice(self.alloc, bytes)?;
+        self.put(to, bytes.as_slice())?;
+        Ok(())
+    }
+
+    fn delete(&mut self, path: &str) -> io::Result<()> {
+        self.call()?;
+        let _file = self.take_out(path)?;
+        Ok(())
     }
 }
 
@@ -179,41 +263,31 @@ impl Device for MemoryDevice {
     }
 
     fn check_writable(&mut self, _path: &str) -> io::Result<()> {
-        self.call()
+        self.last_error = None;
+        let answer = self.call();
+        self.noted(answer)
     }
 
     fn create_new(&mut self, path: &str, _is_private: bool) -> io::Result<()> {
-        self.call()?;
-        self.check_free(path)?;
-        self.put(path, b"")?;
-        self.output = String::from_str(self.alloc, path)?;
-        Ok(())
+        self.last_error = None;
+        let answer = self.create(path);
+        self.noted(answer)
     }
 
     fn open_in_place(&mut self, path: &str) -> io::Result<()> {
-        self.call()?;
-        if self.find(path).is_none() {
-            self.put(path, b"")?;
-        }
-        self.output = String::from_str(self.alloc, path)?;
-        Ok(())
+        self.last_error = None;
+        let answer = self.open(path);
+        self.noted(answer)
     }
 
     fn append(&mut self, bytes: &[u8]) -> io::Result<usize> {
-        self.call()?;
-        let count = bytes.len().min(PIECE);
-        let Some(at) = self.find(self.output.as_str()) else {
-            return Err(io::Error::from(ErrorKind::NotFound));
-        };
-        match self.files.get_mut(at) {
-            Some(file) => file.bytes.extend_from_slice(&bytes[..count])?,
-            None => return Err(io::Error::from(ErrorKind::NotFound)),
-        }
-        Ok(count)
+        let answer = self.append_piece(bytes);
+        self.noted(answer)
     }
 
     fn sync(&mut self) -> io::Result<()> {
-        self.call()
+        let answer = self.call();
+        self.noted(answer)
     }
 
     fn keep_access(&mut self, _path: &str, _new_path: &str) -> bool {
@@ -221,34 +295,24 @@ impl Device for MemoryDevice {
     }
 
     fn rename(&mut self, from: &str, to: &str) -> io::Result<()> {
-        self.call()?;
-        self.move_file(from, to)
+        let answer = self.replace(from, to);
+        self.noted(answer)
     }
 
     fn rename_new(&mut self, from: &str, to: &str) -> io::Result<()> {
-        self.call()?;
-        self.check_free(to)?;
-        self.move_file(from, to)
+        let answer = self.move_new(from, to);
+        self.noted(answer)
     }
 
     fn link(&mut self, from: &str, to: &str) -> io::Result<()> {
-        self.call()?;
-        if !self.behaviour.has_links {
-            return Err(io::Error::from(ErrorKind::Unsupported));
-        }
-        self.check_free(to)?;
-        let Some(bytes) = self.file(from) else {
-            return Err(io::Error::from(ErrorKind::NotFound));
-        };
-        let bytes = Vec::from_slice(self.alloc, bytes)?;
-        self.put(to, bytes.as_slice())?;
-        Ok(())
+        self.last_error = None;
+        let answer = self.add_link(from, to);
+        self.noted(answer)
     }
 
     fn remove(&mut self, path: &str) -> io::Result<()> {
-        self.call()?;
-        let _file = self.take_out(path)?;
-        Ok(())
+        let answer = self.delete(path);
+        self.noted(answer)
     }
 
     fn sync_folder(&mut self, _path: &str) {
@@ -321,7 +385,7 @@ impl Device for MemoryDevice {
         }
     }
 
-    fn is_pipe_closed(&self) -> bool {
-        false
+    fn last_error(&self) -> Option<ErrorKind> {
+        self.last_error
     }
 }
