@@ -15,6 +15,7 @@ use bank_core::Bank;
 use base_progress::NoReports;
 use edit_forms::Edit;
 use edit_script::Line;
+use program_hints::Remarks;
 use program_reports::RunFault;
 use sf_base::OutOfMemory;
 use std::alloc::Global;
@@ -114,7 +115,8 @@ fn apply_numbered<'a>(
     ensures { Prepared texts_of_bank (after_script bank.entry (Ok (numbered 1 edits.entry.items))) result }
 {
     let lines = numbered_lines(alloc, edits)?;
-    let undo = apply_all(alloc, &mut bank, lines, &mut NoReports)?;
+    let mut remarks = Remarks::new(false);
+    let undo = apply_all(alloc, &mut bank, lines, &mut remarks, &mut NoReports)?;
     Ok(EditedBank { bank, undo })
 }
 
