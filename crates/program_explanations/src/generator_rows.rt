@@ -76,7 +76,7 @@ pub struct GeneratorRow {
 }
 
 /// The generators that a script can set or that have an edit of their own, in the order of their numbers.
-pub fn generator_rows() -> &'static [GeneratorRow]
+pub fn usable_generators() -> &'static [GeneratorRow]
     ensures { result.now ≡ ROWS }
 {
     &ROWS

@@ -9,6 +9,6 @@ pub mod laws;
 
 pub use explanations::{Explanation, Explanations, FaultCode, explain, explain_name};
 pub use generator_rows::{
-    DefaultAmount, GeneratorRow, NAME_LENGTH, RANGE_LENGTH, Unit, generator_rows,
+    DefaultAmount, GeneratorRow, NAME_LENGTH, RANGE_LENGTH, Unit, usable_generators,
 };
 pub use generator_table::GeneratorTable;

@@ -1,7 +1,7 @@
 //! What is usually meant by a token that isn't accepted.
 
 use crate::remarks::Remarks;
-use program_explanations::{GeneratorRow, generator_rows};
+use program_explanations::{GeneratorRow, usable_generators};
 
 /// The left and right quotes of word processors, and the low one, in UTF-8.
 static PRINTED_QUOTES: [&[u8]; 4] = [
@@ -46,7 +46,7 @@ pub(crate) fn remark_on_word(token: &[u8], remarks: &mut Remarks) -> bool {
 
 // The number of the generator with this name, in letters of any case.
 fn generator_named(name: &[u8]) -> Option<u16> {
-    for row in generator_rows() {
+    for row in usable_generators() {
         if is_named(row, name) {
             return Some(row.number);
         }
