@@ -194,10 +194,7 @@ impl<'a, C: Clock, O: Write> Progress for ProgressMeter<'a, C, O> {
             "line {line}: no effect, since each zone has its own value of this generator\n"
         );
         if more > 0 {
-            let _ = write!(
-                self.output,
-                "{more} more lines have no effect for the same reason\n"
-            );
+            let _ = write!(self.output, "lines without effect after it: {more}\n");
         }
     }
 
