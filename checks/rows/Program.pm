@@ -86,7 +86,8 @@ sub wrong_of_printed {
     my $front = substr $text, 0, 7;
     my $status = run_in_little_room('2>&1 | cat > errors; exit ${PIPESTATUS[0]}', @words);
     my $line = read_bytes('errors');
-    return "status $status with '$line' in little room" if $status != 5 || $line ne "sfbank: write fault - after 7 bytes\n";
+    return "status $status with '$line' in little room"
+        if $status != 5 || $line !~ m{\Asfbank: write fault (-|/dev/stdout) after 7 bytes\n\z};
     return 'prints other bytes in little room' if read_bytes('printed') ne $front;
     $status = run_in_little_room('2> errors', @words);
     return "status $status where the line has little room" if $status != 5 || read_bytes('errors') ne 'sfbank:';
@@ -116,6 +117,12 @@ sub try_terminal {
     report('a terminal', $status == 5 && $line eq $wanted ? undef : "status $status with '$line'");
 }
 
+# Tests that - is the standard input where a file is read.
+sub try_standard_input {
+    my $status = system('bash', '-c', '"$0" canon - out < saw', program_of_runs()) >> 8;
+    report('a bank from the standard input', $status == 0 && (read_bytes('out') // '') eq read_bytes('saw') ? undef : "status $status");
+}
+
 sub try_program {
     my ($here) = @_;
     try_output(@$_) for rows_of("$here/outputs");
@@ -123,6 +130,7 @@ sub try_program {
     try_printed(@$_) for rows_of("$here/printed");
     try_memory();
     try_terminal();
+    try_standard_input();
 }
 
 1;
