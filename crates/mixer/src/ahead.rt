@@ -10,7 +10,9 @@ ghost use Rattle.mixer.specs.Events.{aged, next_side, unsilenced};
 ghost use Rattle.mixer.specs.KeptVoices.{AllSounding, AllYounger, lifetime};
 
 use crate::blocks::{GROUP, add_voices, clip_sums};
+use crate::measuring::report_sums;
 use crate::playing::{PlayingVoice, drop_over, drop_silenced, go_back, have_class};
+use base_progress::Progress;
 use voices::Workspace;
 
 // The most frames that are mixed ahead.
@@ -91,8 +93,13 @@ impl Ahead {
         self.join(voices, work);
     }
 
-    // Writes the next frames, all of which must be summed already.
-    pub(crate) fn write_frames(&mut self, out: &mut [i16])
+    // Writes the next frames, all of which must be summed already, and reports them as those of a number of voices.
+    pub(crate) fn write_frames<P: Progress>(
+        &mut self,
+        out: &mut [i16],
+        voices: usize,
+        progress: &mut P,
+    )
         requires even { length out.old % 2 ≡ 0 }
         requires enough { length out.old ≤ 2 * self.old.left }
         requires room { AreWithin GROUP self.old }
@@ -102,13 +109,20 @@ impl Ahead {
         ensures sums { (ps : List PlayingVoice) → AreSums self.old ps → AreSums self.new (map (aged (length out.old / 2)) ps) }
     {
         let first = MOST_AHEAD - self.left;
-        clip_from(&self.sides, &self.middle, first, out);
+        clip_from(&self.sides, &self.middle, first, out, voices, progress);
         self.left -= out.len() / 2;
     }
 }
 
-// Writes the sums from a frame on, clipped to 16 bits.
-fn clip_from(sides: &[i32], middle: &[i32], first: usize, out: &mut [i16])
+// Writes the sums from a frame on, clipped to 16 bits, and reports them as those of a number of voices.
+fn clip_from<P: Progress>(
+    sides: &[i32],
+    middle: &[i32],
+    first: usize,
+    out: &mut [i16],
+    voices: usize,
+    progress: &mut P,
+)
     requires even { length out.old % 2 ≡ 0 }
     requires sides { 2 * first + length out.old ≤ length sides.now }
     requires middle { first + length out.old / 2 ≤ length middle.now }
@@ -118,11 +132,10 @@ fn clip_from(sides: &[i32], middle: &[i32], first: usize, out: &mut [i16])
         ≡ heard.clipped (slice_index_or sides.now (2 * first + i) (pos 0) +ℤ slice_index_or middle.now (first + i / 2) (pos 0))) }
 {
     let n = out.len();
-    clip_sums(
-        &sides[2 * first..2 * first + n],
-        &middle[first..first + n / 2],
-        out,
-    );
+    let sides = &sides[2 * first..2 * first + n];
+    let middle = &middle[first..first + n / 2];
+    clip_sums(sides, middle, out);
+    report_sums(voices, sides, middle, progress);
 }
 
 // Sums frames of all voices ahead for a short block, unless some remain: as many as asked for, or more. If none remain
@@ -151,9 +164,14 @@ pub(crate) fn sum_ahead<'a>(
 }
 
 // Discards the remaining frames if new voices invalidate them: if a new voice has an exclusive class, and so may
-// silence a voice that is part of them, or if the sums have no space for the new voices. The voices go back by as many
-// frames.
-fn drop_ahead<'a>(voices: &mut Vec<PlayingVoice<'a>>, ahead: &mut Ahead, new: &[PlayingVoice<'a>])
+// silence a voice that is part of them, or if the sums have no space for the new voices. Also discards them if voices
+// are counted, since those that are over within these frames would count. The voices go back by as many frames.
+fn drop_ahead<'a>(
+    voices: &mut Vec<PlayingVoice<'a>>,
+    ahead: &mut Ahead,
+    new: &[PlayingVoice<'a>],
+    are_counted: bool,
+)
     requires { IsAhead ahead.old voices.old.items }
     ensures ahead { IsAhead ahead.new voices.new.items }
     ensures same { playing_now ahead.new voices.new.items ≡ playing_now ahead.old voices.old.items }
@@ -162,7 +180,7 @@ fn drop_ahead<'a>(voices: &mut Vec<PlayingVoice<'a>>, ahead: &mut Ahead, new: &[
     ensures bound { vec_len voices.new ≤ vec_len voices.old }
     ensures capacity { vec_capacity voices.new ≡ vec_capacity voices.old }
 {
-    if ahead.left == 0 || !have_class(new) && voices.len() + new.len() <= GROUP {
+    if ahead.left == 0 || !are_counted && !have_class(new) && voices.len() + new.len() <= GROUP {
         return;
     }
     go_back(voices.as_mut_slice(), ahead.left);
@@ -175,6 +193,7 @@ pub(crate) fn silence_voices<'a>(
     voices: &mut Vec<PlayingVoice<'a>>,
     ahead: &mut Ahead,
     new: &[PlayingVoice<'a>],
+    are_counted: bool,
 )
     requires { IsAhead ahead.old voices.old.items }
     ensures ahead { IsAhead ahead.new voices.new.items }
@@ -183,6 +202,6 @@ pub(crate) fn silence_voices<'a>(
     ensures bound { vec_len voices.new ≤ vec_len voices.old }
     ensures capacity { vec_capacity voices.new ≡ vec_capacity voices.old }
 {
-    drop_ahead(voices, ahead, new);
+    drop_ahead(voices, ahead, new, are_counted);
     drop_silenced(voices, new);
 }

@@ -5,7 +5,9 @@ ghost use Rattle.mixer.specs.StartFrames as heard;
 ghost use Rattle.mixer.specs.Events.{aged, total_at, next_side};
 ghost use Rattle.mixer.specs.KeptVoices.{AllYounger};
 
+use crate::measuring::{report_sums, report_totals};
 use crate::playing::PlayingVoice;
+use base_progress::Progress;
 use voices::Workspace;
 
 // The most frames that are summed in one pass.
@@ -178,12 +180,13 @@ fn add_all(voices: &mut [PlayingVoice], buffers: &mut MixBuffers, totals: &mut [
 
 // Mixes a part of a block of at most one group of voices.
 #[tactic(auto, unfolding(crate::specs::Events::next_side))]
-fn mix_group(
+fn mix_group<P: Progress>(
     voices: &mut [PlayingVoice],
     work: &mut Workspace,
     sides: &mut [i32; PART_SIDES],
     middle: &mut [i32; PART],
     out: &mut [i16],
+    progress: &mut P,
 )
     requires few { length voices.old ≤ GROUP }
     requires young { AllYounger (2 ^ 63 + 2 ^ 34) voices.old }
@@ -197,11 +200,17 @@ fn mix_group(
     let middle = &mut middle[..n / 2];
     sum_group(voices, work, sides, middle);
     clip_sums(sides, middle, out);
+    report_sums(voices.len(), sides, middle, progress);
 }
 
 // Mixes a part of a block of any number of voices.
 #[tactic(auto, unfolding(crate::specs::Events::next_side))]
-fn mix_groups(voices: &mut [PlayingVoice], buffers: &mut MixBuffers, out: &mut [i16])
+fn mix_groups<P: Progress>(
+    voices: &mut [PlayingVoice],
+    buffers: &mut MixBuffers,
+    out: &mut [i16],
+    progress: &mut P,
+)
     requires young { AllYounger (2 ^ 63 + 2 ^ 34) voices.old }
     requires short { length out.old ≤ 2 * PART }
     requires even { length out.old % 2 ≡ 0 }
@@ -212,10 +221,16 @@ fn mix_groups(voices: &mut [PlayingVoice], buffers: &mut MixBuffers, out: &mut [
     let n = out.len();
     add_all(voices, buffers, &mut totals[..n]);
     clip_totals(&totals[..n], out);
+    report_totals(voices.len(), &totals[..n], progress);
 }
 
-// Mixes a part of a block. Each voice advances; those that are over are not dropped.
-pub(crate) fn mix_part(voices: &mut [PlayingVoice], buffers: &mut MixBuffers, out: &mut [i16])
+// Mixes a part of a block, and reports it. Each voice advances; those that are over are not dropped.
+pub(crate) fn mix_part<P: Progress>(
+    voices: &mut [PlayingVoice],
+    buffers: &mut MixBuffers,
+    out: &mut [i16],
+    progress: &mut P,
+)
     requires young { AllYounger (2 ^ 63 + 2 ^ 34) voices.old }
     requires short { length out.old ≤ 2 * PART }
     requires even { length out.old % 2 ≡ 0 }
@@ -229,8 +244,9 @@ pub(crate) fn mix_part(voices: &mut [PlayingVoice], buffers: &mut MixBuffers, ou
             &mut buffers.sides,
             &mut buffers.middle,
             out,
+            progress,
         );
     } else {
-        mix_groups(voices, buffers, out);
+        mix_groups(voices, buffers, out, progress);
     }
 }

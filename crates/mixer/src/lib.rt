@@ -6,6 +6,7 @@
 mod ahead;
 mod blocks;
 mod laws;
+mod measuring;
 mod player;
 mod playing;
 mod rendering;

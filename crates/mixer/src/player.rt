@@ -5,6 +5,7 @@ ghost use Rattle.mixer.specs.Events.{after_start, after_block, block, next_side}
 
 use crate::ahead::{Ahead, MOST_AHEAD, silence_voices, sum_ahead};
 use crate::blocks::{MixBuffers, PART_SIDES, mix_part};
+use crate::measuring::report_start;
 use crate::playing::{PlayingVoice, drop_over, note_voices};
 use bank_core::Bank;
 use base_progress::{NoReports, Progress};
@@ -71,14 +72,39 @@ impl<'a> Player<'a> {
         ensures done { OnOk result (self.new ≡ after_start self.old (heard.note_voices bank.now note.now)) }
         ensures refused { OnErr result (self.new ≡ self.old) }
     {
+        self.start_with_progress(alloc, bank, note, &mut NoReports)
+    }
+
+    /// Like [`Player::start`], and reports the note if it was started and details are reported.
+    ///
+    /// With details it discards the frames that are summed ahead, so that no voice that is over is counted.
+    pub fn start_with_progress<P: Progress>(
+        &mut self,
+        alloc: Global,
+        bank: &Bank<'a>,
+        note: &Note,
+        progress: &mut P,
+    ) -> Result<(), OutOfMemory>
+        ensures done { OnOk result (self.new ≡ after_start self.old (heard.note_voices bank.now note.now)) }
+        ensures refused { OnErr result (self.new ≡ self.old) }
+    {
         let mut new = note_voices(alloc, bank, note)?;
         self.voices.try_reserve(new.len())?;
         // No allocation from here on.
-        silence_voices(&mut self.voices, &mut self.ahead, new.as_slice());
+        let count = new.len();
+        silence_voices(
+            &mut self.voices,
+            &mut self.ahead,
+            new.as_slice(),
+            progress.is_detailed(),
+        );
         drop_over(&mut new);
         self.ahead.join(new.as_mut_slice(), &mut self.buffers.work);
         match self.voices.append(&mut new) {
-            Ok(()) => Ok(()),
+            Ok(()) => {
+                report_start(bank, note, count, progress);
+                Ok(())
+            }
             Err(_) => unreachable!(),
         }
     }
@@ -101,8 +127,9 @@ impl<'a> Player<'a> {
         self.block_with_progress(out, &mut NoReports);
     }
 
-    // Like `block`, and reports the frames as they are done.
-    pub(crate) fn block_with_progress<P: Progress>(&mut self, out: &mut [i16], progress: &mut P)
+    /// Like [`Player::block`], and reports the frames as they are done, and what is measured of them if details are
+    /// reported.
+    pub fn block_with_progress<P: Progress>(&mut self, out: &mut [i16], progress: &mut P)
         requires { length out.old % 2 ≡ 0 }
         ensures heard { out.new ≡ block self.old (length out.old / 2) }
         ensures live { self.new ≡ after_block self.old (length out.old / 2) }
@@ -144,13 +171,19 @@ impl<'a> Player<'a> {
         );
         if self.ahead.left == 0 {
             let n = out.len().min(PART_SIDES);
-            mix_part(self.voices.as_mut_slice(), &mut self.buffers, &mut out[..n]);
+            mix_part(
+                self.voices.as_mut_slice(),
+                &mut self.buffers,
+                &mut out[..n],
+                progress,
+            );
             drop_over(&mut self.voices);
             progress.advance(n as u64 / 2);
             return n;
         }
         let n = out.len().min(2 * self.ahead.left);
-        self.ahead.write_frames(&mut out[..n]);
+        self.ahead
+            .write_frames(&mut out[..n], self.voices.len(), progress);
         progress.advance(n as u64 / 2);
         n
     }

@@ -79,7 +79,7 @@ fn play<'a, P: Progress>(
     for note in notes {
         let next = 2 * note.start() as usize;
         player.block_with_progress(&mut out[now..next], progress);
-        player.start(alloc, bank, note)?;
+        player.start_with_progress(alloc, bank, note, progress)?;
         now = next;
     }
     player.block_with_progress(&mut out[now..], progress);

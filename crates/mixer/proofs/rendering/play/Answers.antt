@@ -27,10 +27,10 @@ loop-note-preserved g c =
     put_len now (next - now) out c.block_with_progress.new.out fits long in
     record {
       played =
-          play_step c.args.bank.now c.loop-note.player c.start-in-loop-note.new.self n (drop (i + 1) ns) now next out
+          play_step c.args.bank.now c.loop-note.player c.start_with_progress.new.self n (drop (i + 1) ns) now next out
           c.block_with_progress.new.out _ _ here (ap (λ (k : ℕ). 2 * k) same)
           (c.block_with_progress.ensures.heard ∙ ap (λ (m : ℕ). block c.loop-note.player (m / 2)) sub) long
-          (c.in_ok-start.ensures.done
+          (c.in_ok-start_with_progress.ensures.done
           ∙ ap (λ (ps : List PlayingVoice). after_start ps (heard.note_voices c.args.bank.now n))
           (c.block_with_progress.ensures.live ∙ ap (λ (m : ℕ). after_block c.loop-note.player (m / 2)) sub))
           (λ _. take now out ++ (c.block_with_progress.new.out ++ drop (next - now) (drop now out))) kept;

@@ -6,18 +6,18 @@ use Rattle.mixer.proofs.AheadLaws.{given_later}
 use Rattle.mixer.proofs.ahead.Ahead.write_frames.Goals as goal
 
 pub clip_from-requires-clause-room : goal.clip_from-requires-clause-room
-clip_from-requires-clause-room c i h =
+clip_from-requires-clause-room g c i h =
     let a = c.args.self.now in
     let place : 512 - 2 * a.left + i ≡ 2 * (256 - a.left) + i = omega (arith, c.requires.room.most) in
     subst (λ k. IsWithin 32767 (get_or a.sides k (pos 0))) place
     (c.requires.room.sides i (omega (arith, h, c.requires.enough)))
 
 pub clip_from-requires-clause-middle_room : goal.clip_from-requires-clause-middle_room
-clip_from-requires-clause-middle_room c k h = c.requires.room.middle k (omega (arith, h, c.requires.enough))
+clip_from-requires-clause-middle_room g c k h = c.requires.room.middle k (omega (arith, h, c.requires.enough))
 
 pub returns-clause-heard : goal.returns-clause-heard
 unfolding next_side
-returns-clause-heard c ps h i l =
+returns-clause-heard g c ps h i l =
     let a = c.args.self.now in
     let here : i < length c.args.out.now = omega (arith, l, c.clip_from.auto.out) in
     let place : 2 * (256 - a.left) + i ≡ 512 - 2 * a.left + i = omega (arith, c.requires.room.most) in
@@ -26,7 +26,7 @@ returns-clause-heard c ps h i l =
     ∙ ap clipped (h.sums i (omega (arith, here, c.requires.enough)))
 
 pub returns-clause-sums : goal.returns-clause-sums
-returns-clause-sums c ps h =
+returns-clause-sums g c ps h =
     let enough = c.requires.enough in
     let size = c.clip_from.auto.out in
     given_later c.args.self.now _ ps (length c.args.out.now / 2) refl refl (omega (arith, enough, size)) h

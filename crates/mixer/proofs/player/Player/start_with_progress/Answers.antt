@@ -5,13 +5,13 @@ use Rattle.mixer.specs.StartFrames as heard
 use Rattle.mixer.specs.Events.{after_start, unsilenced, is_sounding, aged}
 use Rattle.mixer.specs.Ahead.{AreSums, IsAhead, playing_now}
 use Rattle.mixer.proofs.AheadLaws.{room_of, started_ahead, started_playing}
-use Rattle.mixer.proofs.player.Player.start.Goals as goal
+use Rattle.mixer.proofs.player.Player.start_with_progress.Goals as goal
 
 pub join-requires-clause-room : goal.join-requires-clause-room
-join-requires-clause-room c = room_of c.silence_voices.new.ahead c.silence_voices.new.voices.items c.silence_voices.ensures.ahead
+join-requires-clause-room g c = room_of c.silence_voices.new.ahead c.silence_voices.new.voices.items c.silence_voices.ensures.ahead
 
 pub invariant_of-self-2 : goal.invariant_of-self-2
-invariant_of-self-2 c =
+invariant_of-self-2 g c =
     let a = c.silence_voices.new.ahead in
     let vs = c.silence_voices.new.voices.items in
     let new = c.drop_over.new.voices.items in
@@ -26,7 +26,7 @@ invariant_of-self-2 c =
 
 pub returns-clause-done : goal.returns-clause-done
 unfolding after_start
-returns-clause-done c =
+returns-clause-done g c =
     let a = c.silence_voices.new.ahead in
     let vs = c.silence_voices.new.voices.items in
     let new = c.drop_over.new.voices.items in
