@@ -7,6 +7,7 @@ mod faulty_token;
 mod forms;
 mod live_hints;
 mod note_hints;
+mod numbers;
 mod overridden;
 mod remarks;
 mod script_hints;

@@ -187,7 +187,9 @@ fn frames_of(token: &[u8]) -> Option<u64> {
         return None;
     }
     let seconds = digits_value(whole).saturating_mul(44_100);
-    let parts = digits_value(fraction).saturating_mul(44_100) / power_of_ten(fraction.len());
+    let parts = digits_value(fraction)
+        .saturating_mul(44_100)
+        .checked_div(power_of_ten(fraction.len()))?;
     Some(seconds.saturating_add(parts))
 }
 
@@ -206,5 +208,5 @@ fn power_of_ten(exponent: usize) -> u64 {
     for _digit in 0..exponent {
         power = power.saturating_mul(10);
     }
-    power.max(1)
+    power
 }

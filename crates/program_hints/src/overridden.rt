@@ -1,5 +1,6 @@
 //! Settings of global zones that have no effect.
 
+use crate::numbers::numbered;
 use bank_changes::{Owner, Place};
 use bank_core::Bank;
 use base_progress::OverriddenSetting;
@@ -97,7 +98,7 @@ fn read_setting(cursor: &mut Cursor<'_, '_>) -> Result<Option<GlobalSetting>, Li
 
 // Whether each zone has a value of its own, and there is a zone.
 fn is_overridden(bank: &Bank<'_>, setting: GlobalSetting) -> bool {
-    let count = bank.zone_count(setting.owner).unwrap_or(0) as u32;
+    let count = numbered(bank.zone_count(setting.owner).unwrap_or(0));
     for zone in 0..count {
         if bank
             .gen_of(setting.owner, Place::Zone(zone), setting.operator)

@@ -1,5 +1,6 @@
 //! What uses an instrument or a sample.
 
+use crate::numbers::numbered;
 use crate::remarks::Remarks;
 use crate::source_line::put_printable;
 use bank_changes::Owner;
@@ -31,7 +32,7 @@ pub fn remark_on_users(bank: &Bank<'_>, edit: &Edit<'_>, remarks: &mut Remarks) 
 
 fn users_of_instrument(bank: &Bank<'_>, instrument: u32) -> Users {
     let mut users = no_users();
-    for preset in 0..bank.presets().len() as u32 {
+    for preset in 0..numbered(bank.presets().len()) {
         users = with_users_in(bank, Owner::Preset(preset), instrument, users);
     }
     users
@@ -39,7 +40,7 @@ fn users_of_instrument(bank: &Bank<'_>, instrument: u32) -> Users {
 
 fn users_of_sample(bank: &Bank<'_>, sample: u32) -> Users {
     let mut users = no_users();
-    for instrument in 0..bank.instruments().len() as u32 {
+    for instrument in 0..numbered(bank.instruments().len()) {
         users = with_users_in(bank, Owner::Inst(instrument), sample, users);
     }
     users
@@ -54,7 +55,7 @@ fn no_users() -> Users {
 
 // Adds the zones of an owner that target this member.
 fn with_users_in(bank: &Bank<'_>, owner: Owner, member: u32, mut users: Users) -> Users {
-    let count = bank.zone_count(owner).unwrap_or(0) as u32;
+    let count = numbered(bank.zone_count(owner).unwrap_or(0));
     for zone in 0..count {
         if bank.target(owner, zone).map(u32::from) == Some(member) {
             users = with_user(users, owner, zone);
@@ -118,7 +119,7 @@ fn remark_on_link(bank: &Bank<'_>, sample: u32, remarks: &mut Remarks) {
     for (index, other) in bank.samples().iter().enumerate() {
         if index != sample as usize && link_of(other.kind) == Some(sample) {
             remarks.put(b"  Linked to by ");
-            put_member(b"sample ", index as u32, Some(other.name), remarks);
+            put_member(b"sample ", numbered(index), Some(other.name), remarks);
             remarks.put(b": set its kind to mono by set-kind first.\n");
             return;
         }
