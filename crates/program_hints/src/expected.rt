@@ -72,7 +72,7 @@ pub(crate) fn remark_on_expected(place: TokenPlace<'_>, remarks: &mut Remarks) {
     } else if place.accepts_text() {
         remarks.line(&[b"Expected: a text in quotes, or x and hex digits."]);
     } else if place.accepts_range() {
-        remarks.line(&[b"Expected: a range, such as 0..59."]);
+        remarks.line(&[b"Expected: a range, such as 0..59, or 60..60 for one key"]);
     } else if let Some(highest) = place.highest() {
         remark_on_number(place, highest, remarks);
     } else {

@@ -9,6 +9,7 @@ mod live_hints;
 mod note_hints;
 mod numbers;
 mod overridden;
+mod refusals;
 mod remarks;
 mod script_hints;
 mod source_line;
@@ -19,6 +20,6 @@ mod word_hints;
 
 pub use live_hints::remark_on_live_line;
 pub use overridden::first_overridden;
+pub use refusals::remark_on_refusal;
 pub use remarks::Remarks;
 pub use source_line::{remark_on_notes, remark_on_script};
-pub use users::remark_on_users;

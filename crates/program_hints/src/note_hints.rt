@@ -81,7 +81,7 @@ pub(crate) fn remark_on_fields(
     let mut index = skipped;
     for field in fields {
         if cursor.is_empty() {
-            return remark_on_missing(line, *field, remarks);
+            return remark_on_missing(line, fields, remarks);
         }
         if cursor.number(field.highest).is_err() {
             return remark_on_field(line, index, *field, remarks);
@@ -94,9 +94,15 @@ pub(crate) fn remark_on_fields(
     }
 }
 
-fn remark_on_missing(line: &[u8], field: Field, remarks: &mut Remarks) {
+fn remark_on_missing(line: &[u8], fields: &[Field], remarks: &mut Remarks) {
     put_missing(line, end_of_tokens(line), remarks);
-    put_expected(field, remarks);
+    let mut before: &[u8] = b"  Expected: ";
+    for field in fields {
+        remarks.put(before);
+        remarks.put(field.name);
+        before = b"; ";
+    }
+    remarks.put(b".\n");
 }
 
 // Says what is wrong with the number of a field.
@@ -131,7 +137,7 @@ fn put_key(token: &[u8], key: u32, remarks: &mut Remarks) {
     remarks.put(token);
     remarks.put(b" is ");
     remarks.put_number(key);
-    remarks.put(b" where c4 is the middle C.\n");
+    remarks.put(b" if c4 is the middle C.\n");
 }
 
 fn put_frames(token: &[u8], frames: u64, remarks: &mut Remarks) {

@@ -45,9 +45,9 @@ fn remark_on_token(alloc: Global, line: &[u8], span: Span, remarks: &mut Remarks
     if is_form_word(line, span) {
         remark_on_first(token, remarks);
     } else if has_printed_quote(token) {
-        remarks.line(&[b"Names are in straight quotes: \"..\"."]);
+        remarks.line(&[b"Names are in straight quotes, as in: \"Church\""]);
     } else if has_joined_brace(token) {
-        remarks.line(&[b"Braces have blanks around them: { 0 g 48 100 }."]);
+        remarks.line(&[b"Braces have blanks around them, as in: { 0 g 48 100 }"]);
     } else if is_long_name(token) {
         remarks.line(&[b"A name has 20 characters at most."]);
     } else if !remark_on_word(token, remarks) {
@@ -80,14 +80,14 @@ fn remark_on_first(word: &[u8], remarks: &mut Remarks) {
         remarks.line(&[b"This looks like a note: sfbank play reads note lists."]);
     } else if let Some(form) = nearest_form(word) {
         remarks.line(&[
-            b"No form of this name. Perhaps: ",
+            b"No edit has this name. Perhaps: ",
             form.word,
             b" ",
             form.operands,
         ]);
     } else {
         remarks.line(&[
-            b"A line begins with the name of a form, such as set-gen: SCRIPT.md lists them.",
+            b"A line begins with the name of an edit, such as set-gen: SCRIPT.md lists them.",
         ]);
     }
 }
@@ -109,13 +109,13 @@ fn remark_on_literal(token: &[u8], remarks: &mut Remarks) {
 
 // Gives a text in quotes that isn't ASCII in hex digits.
 fn put_hex(token: &[u8], remarks: &mut Remarks) {
-    remarks.put(b"  Texts of other than ASCII characters are written in hex: x");
+    remarks.put(b"  Letters such as these are written in hex: x");
     for byte in token {
         if *byte != b'"' {
             remarks.put(&[hex_digit(*byte >> 4), hex_digit(*byte & 15)]);
         }
     }
-    remarks.put(b".\n");
+    remarks.put(b"\n");
 }
 
 fn hex_digit(value: u8) -> u8 {

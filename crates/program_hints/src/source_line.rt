@@ -58,9 +58,11 @@ fn remark_on_file(line: &[u8], expected: &[u8], remarks: &mut Remarks) -> bool {
             b"The text begins with a byte order mark: save it as plain text, or as UTF-8 without BOM.",
         ]);
     } else if line.starts_with(b"RIFF") {
-        remarks.line(&[b"This is a bank or a WAVE file, and no ", expected, b"."]);
+        remarks.line(&[b"This is a bank or a WAVE file, not a ", expected, b"."]);
     } else if line.starts_with(b"MThd") {
-        remarks.line(&[b"This is a MIDI file: sfbank-notes-of-midi makes a note list of it."]);
+        remarks.line(&[
+            b"This is a MIDI file. First run: sfbank-notes-of-midi FILE.mid > notes.txt",
+        ]);
     } else {
         return false;
     }

@@ -40,24 +40,25 @@ pub(crate) fn try_line(alloc: Global, line: &[u8]) -> Option<Trial> {
     let mut cursor = Cursor::of(line, pool.as_slice());
     match edit(alloc, &mut cursor) {
         Ok(_edit) => Some(Trial::Accepted),
-        Err(Failure::Fault(_)) => Some(Trial::Stopped(remaining(cursor))),
+        Err(Failure::Fault(_)) => Some(Trial::Stopped(remaining(cursor, line.len()))),
         Err(Failure::OutOfMemory) => None,
     }
 }
 
 /// How many tokens a line has.
 pub(crate) fn token_count(line: &[u8]) -> usize {
-    remaining(Cursor::of(line, &[]))
+    remaining(Cursor::of(line, &[]), line.len())
 }
 
-// How many tokens a cursor has not read.
-fn remaining(mut cursor: Cursor<'_, '_>) -> usize {
-    let mut count = 0usize;
-    while !cursor.is_empty() {
+// How many tokens a cursor has not read, at most as many as its line has bytes.
+fn remaining(mut cursor: Cursor<'_, '_>, most: usize) -> usize {
+    for count in 0..most {
+        if cursor.is_empty() {
+            return count;
+        }
         let _ = cursor.word();
-        count = count.saturating_add(1);
     }
-    count
+    most
 }
 
 /// Whether the parser reads a line's first tokens, up to a position, and another token after them. It is asked with a

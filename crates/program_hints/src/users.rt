@@ -6,7 +6,7 @@ use crate::source_line::put_printable;
 use bank_changes::Owner;
 use bank_core::Bank;
 use bank_parts::Kind;
-use edit_forms::{Edit, InstrumentStep, SampleStep, Step};
+use edit_forms::{InstrumentStep, SampleStep, Step};
 use sf_base::Name20;
 
 /// The zones of a level that target a member: the first, and how many more there are.
@@ -17,12 +17,12 @@ struct Users {
 }
 
 /// Says what uses the instrument or the sample that an edit removes.
-pub fn remark_on_users(bank: &Bank<'_>, edit: &Edit<'_>, remarks: &mut Remarks) {
-    match edit {
-        Edit::One(Step::Instrument(InstrumentStep::RemoveInstrument { instrument })) => {
+pub(crate) fn remark_on_users(bank: &Bank<'_>, step: &Step<'_>, remarks: &mut Remarks) {
+    match step {
+        Step::Instrument(InstrumentStep::RemoveInstrument { instrument }) => {
             remark_on(bank, users_of_instrument(bank, *instrument), remarks);
         }
-        Edit::One(Step::Sample(SampleStep::RemoveSample { sample })) => {
+        Step::Sample(SampleStep::RemoveSample { sample }) => {
             remark_on(bank, users_of_sample(bank, *sample), remarks);
             remark_on_link(bank, *sample, remarks);
         }
@@ -86,11 +86,12 @@ fn remark_on(bank: &Bank<'_>, users: Users, remarks: &mut Remarks) {
     remarks.put(b", zone ");
     remarks.put_number(zone);
     if users.more > 0 {
-        remarks.put(b", and ");
+        remarks.put(b", and by other zones: ");
         remarks.put_number(users.more);
-        remarks.put(b" more");
     }
-    remarks.put(b".\n");
+    remarks.put(
+        b".\n  Change its target by set-target, or remove the zone by remove-zone, before this edit.\n",
+    );
 }
 
 // Puts an owner by its number and its name.
@@ -120,7 +121,7 @@ fn remark_on_link(bank: &Bank<'_>, sample: u32, remarks: &mut Remarks) {
         if index != sample as usize && link_of(other.kind) == Some(sample) {
             remarks.put(b"  Linked to by ");
             put_member(b"sample ", numbered(index), Some(other.name), remarks);
-            remarks.put(b": set its kind to mono by set-kind first.\n");
+            remarks.put(b": first write set-kind N mono, with its number as N.\n");
             return;
         }
     }

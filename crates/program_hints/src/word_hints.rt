@@ -28,7 +28,7 @@ pub(crate) fn remark_on_word(token: &[u8], remarks: &mut Remarks) -> bool {
         remarks.put(token);
         remarks.put(b" is ");
         remarks.put_number(number);
-        remarks.put(b".\n");
+        remarks.put(b"\n");
         return true;
     }
     if let Some((low, high)) = ends_of_hyphen(token) {
@@ -37,7 +37,6 @@ pub(crate) fn remark_on_word(token: &[u8], remarks: &mut Remarks) -> bool {
             low,
             b"..",
             high,
-            b".",
         ]);
         return true;
     }
@@ -66,19 +65,22 @@ fn is_named(row: &GeneratorRow, name: &[u8]) -> bool {
 // Says what is wrong with a number that has another sign in it.
 fn remark_on_sign(token: &[u8], remarks: &mut Remarks) -> bool {
     match token.split_last() {
-        Some((b',' | b';', number)) if is_number(number) => {
+        Some((b';', number)) if is_number(number) => {
             remarks.line(&[
-                b"Numbers have blanks between them, and edits lines of their own: ",
+                b"Each edit has its own line, and nothing after it: ",
                 number,
-                b".",
             ]);
+            true
+        }
+        Some((b',', number)) if is_number(number) => {
+            remarks.line(&[b"Numbers have blanks between them, and no commas: ", number]);
             true
         }
         Some((b'%', number)) if is_number(number) => {
             remarks.line(&[
-                b"Numbers have no unit: ",
+                b"A number has no sign after it. In tenths of a percent, as for pan, it is ",
                 number,
-                b". `sfbank explain generators` lists the units.",
+                b"0",
             ]);
             true
         }

@@ -107,7 +107,7 @@ impl SoundReport {
             let attenuation = tenths.saturating_add(1);
             write!(
                 output,
-                "To clip none, add {attenuation} to generator 48 of each preset.\n"
+                "To prevent clipping, add {attenuation} to the attenuation, generator 48, of each preset.\n"
             )?;
         }
         Ok(())
@@ -123,7 +123,7 @@ fn write_silent<O: Write>(notes: SilentNotes, output: &mut O) -> io::Result<()> 
         count,
     } = notes;
     let reason = if has_preset {
-        "no zone of which plays them"
+        "which has no zone for their keys and velocities"
     } else {
         "which the bank doesn't have"
     };

@@ -191,7 +191,7 @@ impl<'a, C: Clock, O: Write> Progress for ProgressMeter<'a, C, O> {
         let OverriddenSetting { line, more } = setting;
         let _ = write!(
             self.output,
-            "line {line}: no effect, since each zone has its own value of this generator\n"
+            "line {line}: no effect, since each zone sets this generator itself: clear it there first\n"
         );
         if more > 0 {
             let _ = write!(self.output, "lines without effect after it: {more}\n");

@@ -17,11 +17,11 @@ use bank_core::Bank;
 use bank_edits::apply;
 use base_progress::{Progress, Work};
 use edit_forms::Edit;
-use edit_refusals::{Cause, Refusal};
+use edit_refusals::Refusal;
 use edit_script::{Line, parse, pool_of};
 use plan_edits::PlanFault;
 use program_commands::Forms;
-use program_hints::{Remarks, remark_on_users};
+use program_hints::{Remarks, remark_on_refusal};
 use program_reports::RunFault;
 use sf_base::OutOfMemory;
 use sound_neutral_edits::is_neutral;
@@ -59,7 +59,7 @@ pub(crate) fn read_script<'a>(
 }
 
 /// Runs a script whose edits must be of these forms on a bank. `pool` holds the script's literals. Reports to
-/// `base_progress`, adds what uses a member that can't be removed to `remarks`, and writes nothing.
+/// `base_progress`, adds remarks on a refused edit to `remarks`, and writes nothing.
 pub(crate) fn apply_script<'a, P: Progress>(
     alloc: Global,
     mut bank: Bank<'a>,
@@ -152,16 +152,11 @@ fn apply_line<'a>(
         Ok(back) => Ok(back),
         Err((Refusal::OutOfMemory, _edit)) => Err(RunFault::Memory),
         Err((why, edit)) => {
-            remark_on_refusal(bank, why, &edit, remarks);
+            if remarks.is_wanted() {
+                remark_on_refusal(bank, why, &edit, remarks);
+            }
             Err(RunFault::Refused(number, why))
         }
-    }
-}
-
-// Says what uses the member that an edit can't remove.
-fn remark_on_refusal(bank: &Bank<'_>, why: Refusal, edit: &Edit<'_>, remarks: &mut Remarks) {
-    if remarks.is_wanted() && why == Refusal::Of(Cause::InUse) {
-        remark_on_users(bank, edit, remarks);
     }
 }
 
