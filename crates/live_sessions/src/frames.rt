@@ -7,6 +7,7 @@ ghost use Rattle.mixer.specs.Events.{after_block, block};
 ghost use Rattle.wave_file.specs.Wave.{sample_bytes};
 
 use base_outputs::{Output, WriteFault};
+use base_progress::Progress;
 use byteorder::{ByteOrder, LittleEndian};
 use mixer::Player;
 use std::io::Write;
@@ -19,21 +20,27 @@ const BLOCK: usize = 2048;
 
 /// Writes the next frames, each sample little-endian, and flushes. A fault has the number of bytes written. Allocates
 /// nothing.
-pub(crate) fn write_frames<P: Write>(
+pub(crate) fn write_frames<P: Write, Q: Progress>(
     player: &mut Player<'_>,
     count: u32,
     pcm: &mut P,
+    progress: &mut Q,
 ) -> Result<u64, WriteFault>
     ensures is_written { writing.Delivers (P.contents pcm.old) (P.contents pcm.new) (flat_map sample_bytes (block player.old count)) result }
     ensures played { player.new ≡ after_block player.old count }
 {
     let mut output = Output::to(pcm);
-    put_frames(player, count, &mut output);
+    put_frames(player, count, &mut output, progress);
     output.deliver()
 }
 
 // Puts the next frames in blocks.
-fn put_frames<P: Write>(player: &mut Player<'_>, count: u32, output: &mut Output<'_, P>)
+fn put_frames<P: Write, Q: Progress>(
+    player: &mut Player<'_>,
+    count: u32,
+    output: &mut Output<'_, P>,
+    progress: &mut Q,
+)
     ensures put { Puts P.contents output.old output.new (flat_map sample_bytes (block player.old count)) }
     ensures played { player.new ≡ after_block player.old count }
 {
@@ -41,7 +48,7 @@ fn put_frames<P: Write>(player: &mut Player<'_>, count: u32, output: &mut Output
     let mut left = count as usize;
     while left > 0 {
         let size = left.min(MOST_AT_ONCE);
-        put_block(player, &mut samples[..2 * size], output);
+        put_block(player, &mut samples[..2 * size], output, progress);
         left -= size;
     }
     // Only for its contract: a player without frames is unchanged.
@@ -49,13 +56,18 @@ fn put_frames<P: Write>(player: &mut Player<'_>, count: u32, output: &mut Output
 }
 
 // Puts a block of at most 1,024 frames.
-fn put_block<P: Write>(player: &mut Player<'_>, samples: &mut [i16], output: &mut Output<'_, P>)
+fn put_block<P: Write, Q: Progress>(
+    player: &mut Player<'_>,
+    samples: &mut [i16],
+    output: &mut Output<'_, P>,
+    progress: &mut Q,
+)
     requires whole { length samples.old % 2 ≡ 0 }
     requires short { length samples.old ≤ BLOCK }
     ensures put { Puts P.contents output.old output.new (flat_map sample_bytes (block player.old (length samples.old / 2))) }
     ensures played { player.new ≡ after_block player.old (length samples.old / 2) }
 {
-    player.block(samples);
+    player.block_with_progress(samples, progress);
     put_samples(samples, output);
 }
 

@@ -4,6 +4,7 @@ ghost use Rattle.mixer.specs.StartFrames.{note_voices};
 ghost use Rattle.live_sessions.specs.Steps.{EditIs, NeutralIs, UndoIs, RedoIs, NoteIs, started_with};
 
 use bank_core::Bank;
+use base_progress::Progress;
 use edit_forms::Edit;
 use inverse_edits::Session;
 use live_lines::Answer;
@@ -86,11 +87,17 @@ impl<'a> LiveState<'a> {
     }
 
     /// Starts a note at the next frame on the current bank. The answer has the number of its voices.
-    pub(crate) fn note(&mut self, alloc: Global, note: &Note) -> Answer<'static>
+    pub(crate) fn note<Q: Progress>(
+        &mut self,
+        alloc: Global,
+        note: &Note,
+        progress: &mut Q,
+    ) -> Answer<'static>
         ensures { NoteIs self.old note.now result self.new }
     {
         let bank = self.session.bank();
-        if self.player.start(alloc, bank, note).is_err() {
+        let started = self.player.start_with_progress(alloc, bank, note, progress);
+        if started.is_err() {
             return Answer::OutOfMemory;
         }
         Answer::Started(voice_count(bank, note))

@@ -10,6 +10,7 @@ use crate::fault::LiveFault;
 use crate::frames::write_frames;
 use crate::live::LiveState;
 use crate::saving::{SessionFiles, save};
+use base_progress::Progress;
 use file_host::Host;
 use live_lines::{Answer, MOST_FRAMES, Request};
 use std::alloc::Global;
@@ -57,13 +58,14 @@ pub(crate) fn next_of(kind: RequestKind) -> Next
 }
 
 /// Does a request, and returns its answer. After a fault of the writer of frames the session's state is unspecified.
-pub(crate) fn do_request<'t, 'a, P: Write, H: Host>(
+pub(crate) fn do_request<'t, 'a, P: Write, H: Host, Q: Progress>(
     alloc: Global,
     live: &mut LiveState<'a>,
     files: SessionFiles<'_>,
     request: Request<'t, 'a>,
     pcm: &mut P,
     host: &mut H,
+    progress: &mut Q,
 ) -> Result<Answer<'t>, LiveFault>
     ensures done { IfOk result (λ a. Does files.entry live.old live.new request.entry a
         (record { input = None; answers = None; pcm = P.contents pcm.old; files = H.world host.old; written = H.written host.old })
@@ -77,8 +79,8 @@ pub(crate) fn do_request<'t, 'a, P: Write, H: Host>(
         Request::Neutral(edit) => Ok(live.neutral(alloc, edit)),
         Request::Undo => Ok(live.undo(alloc)),
         Request::Redo => Ok(live.redo(alloc)),
-        Request::Note(note) => Ok(live.note(alloc, &note)),
-        Request::Frames(count) => give_frames(live, count, pcm),
+        Request::Note(note) => Ok(live.note(alloc, &note, progress)),
+        Request::Frames(count) => give_frames(live, count, pcm, progress),
         Request::Save(paths) => Ok(save(live, files, paths, host)),
         Request::Show => Ok(Answer::Done),
         Request::Help => Ok(Answer::Done),
@@ -87,10 +89,11 @@ pub(crate) fn do_request<'t, 'a, P: Write, H: Host>(
 }
 
 // Writes this many frames, within the limit of a session.
-fn give_frames<P: Write>(
+fn give_frames<P: Write, Q: Progress>(
     live: &mut LiveState<'_>,
     count: u32,
     pcm: &mut P,
+    progress: &mut Q,
 ) -> Result<Answer<'static>, LiveFault>
     ensures done { IfOk result (λ a. FramesAre live.old count a live.new) }
     ensures is_written { IfOk result (λ a. Appends (P.contents pcm.old) (P.contents pcm.new) (flat_map sample_bytes (block_if live.old count a))) }
@@ -100,7 +103,7 @@ fn give_frames<P: Write>(
     if given > u64::from(MOST_FRAMES) {
         return Ok(Answer::TooManyFrames);
     }
-    match write_frames(&mut live.player, count, pcm) {
+    match write_frames(&mut live.player, count, pcm, progress) {
         Ok(_) => {
             live.given = given as u32;
             Ok(Answer::Done)

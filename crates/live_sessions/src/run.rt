@@ -13,6 +13,7 @@ use crate::request_reading::read_request;
 use crate::requests::{Next, RequestKind, do_request, kind_of};
 use crate::saving::SessionFiles;
 use bank_format::Counts;
+use base_progress::Progress;
 use file_host::Host;
 use live_lines::{Answer, RequestFault};
 use script_tokens::Lines;
@@ -32,7 +33,10 @@ use std::io::{ErrorKind, Write};
 /// If the file has a fault, nothing is read of `input` and nothing is written. A failed allocation in a line is its
 /// answer, and the session continues; if the line itself can't be held, the session ends. It also ends by a fault of a
 /// writer, by a failed read, and after 2^64 - 1 lines by [`LiveFault::Input`].
-pub fn live_run<R: LineReader, A: Write, P: Write, H: Host>(
+///
+/// If details are reported, `progress` receives each note, the measured frames, and each line with a fault once it is
+/// answered.
+pub fn live_run<R: LineReader, A: Write, P: Write, H: Host, Q: Progress>(
     alloc: Global,
     file: &[u8],
     files: SessionFiles<'_>,
@@ -40,6 +44,7 @@ pub fn live_run<R: LineReader, A: Write, P: Write, H: Host>(
     answers: &mut A,
     pcm: &mut P,
     host: &mut H,
+    progress: &mut Q,
 ) -> Result<(), LiveFault>
     ensures { Runs files.entry file.now
         (record { input = R.remaining input.old; answers = A.contents answers.old; pcm = P.contents pcm.old; files = H.world host.old; written = H.written host.old })
@@ -51,11 +56,13 @@ pub fn live_run<R: LineReader, A: Write, P: Write, H: Host>(
         Err(Failure::OutOfMemory) => return Err(LiveFault::Memory),
     };
     let mut live = LiveState::new(alloc, bank);
-    play(alloc, &mut live, &counts, files, input, answers, pcm, host)
+    play(
+        alloc, &mut live, &counts, files, input, answers, pcm, host, progress,
+    )
 }
 
 // Answers lines up to the end.
-fn play<R: LineReader, A: Write, P: Write, H: Host>(
+fn play<R: LineReader, A: Write, P: Write, H: Host, Q: Progress>(
     alloc: Global,
     live: &mut LiveState<'_>,
     counts: &Counts,
@@ -64,6 +71,7 @@ fn play<R: LineReader, A: Write, P: Write, H: Host>(
     answers: &mut A,
     pcm: &mut P,
     host: &mut H,
+    progress: &mut Q,
 ) -> Result<(), LiveFault>
     ensures { Plays files.entry counts.now live.old
         (record { input = R.remaining input.old; answers = A.contents answers.old; pcm = P.contents pcm.old; files = H.world host.old; written = H.written host.old })
@@ -72,7 +80,7 @@ fn play<R: LineReader, A: Write, P: Write, H: Host>(
     let mut line = Vec::new(alloc);
     for _turn in 0..u64::MAX {
         match take_line(
-            alloc, live, counts, files, &mut line, input, answers, pcm, host,
+            alloc, live, counts, files, &mut line, input, answers, pcm, host, progress,
         )? {
             Next::Line => {}
             Next::End => return Ok(()),
@@ -82,7 +90,7 @@ fn play<R: LineReader, A: Write, P: Write, H: Host>(
 }
 
 // Reads and answers the next line, if there is one. All lines share one buffer.
-fn take_line<R: LineReader, A: Write, P: Write, H: Host>(
+fn take_line<R: LineReader, A: Write, P: Write, H: Host, Q: Progress>(
     alloc: Global,
     live: &mut LiveState<'_>,
     counts: &Counts,
@@ -92,6 +100,7 @@ fn take_line<R: LineReader, A: Write, P: Write, H: Host>(
     answers: &mut A,
     pcm: &mut P,
     host: &mut H,
+    progress: &mut Q,
 ) -> Result<Next, LiveFault>
     ensures { IsNextLineResult files.entry counts.now live.old live.new
         (record { input = R.remaining input.old; answers = A.contents answers.old; pcm = P.contents pcm.old; files = H.world host.old; written = H.written host.old })
@@ -101,7 +110,9 @@ fn take_line<R: LineReader, A: Write, P: Write, H: Host>(
         Ok(is_line) => {
             if is_line {
                 let line = first_line(line.as_slice());
-                answer_line(alloc, live, counts, files, line, answers, pcm, host)
+                answer_line(
+                    alloc, live, counts, files, line, answers, pcm, host, progress,
+                )
             } else {
                 Ok(Next::End)
             }
@@ -133,7 +144,7 @@ fn first_line(text: &[u8]) -> &[u8]
 }
 
 // Answers a line.
-fn answer_line<'a, A: Write, P: Write, H: Host>(
+fn answer_line<'a, A: Write, P: Write, H: Host, Q: Progress>(
     alloc: Global,
     live: &mut LiveState<'a>,
     counts: &Counts,
@@ -142,6 +153,7 @@ fn answer_line<'a, A: Write, P: Write, H: Host>(
     answers: &mut A,
     pcm: &mut P,
     host: &mut H,
+    progress: &mut Q,
 ) -> Result<Next, LiveFault>
     requires { HasNoFeed line.now }
     ensures { IsLineResult files.entry counts.now line.now live.old live.new
@@ -151,19 +163,30 @@ fn answer_line<'a, A: Write, P: Write, H: Host>(
     match read_request(alloc, line) {
         Ok(Some(request)) => {
             let kind = kind_of(&request);
-            match do_request(alloc, live, files, request, pcm, host) {
+            match do_request(alloc, live, files, request, pcm, host, progress) {
                 Ok(answer) => write_answer(live, counts, kind, &answer, answers),
                 Err(fault) => Err(fault),
             }
         }
         Ok(None) => Ok(Next::Line),
-        Err(failure) => write_answer(
-            live,
-            counts,
-            RequestKind::Plain,
-            &reported(failure),
-            answers,
-        ),
+        Err(failure) => {
+            let answer = reported(failure);
+            let written = write_answer(live, counts, RequestKind::Plain, &answer, answers);
+            report_fault(line, &answer, written.is_ok(), progress);
+            written
+        }
+    }
+}
+
+// Reports a line whose fault is answered.
+fn report_fault<Q: Progress>(
+    line: &[u8],
+    answer: &Answer<'_>,
+    is_answered: bool,
+    progress: &mut Q,
+) {
+    if is_answered && matches!(answer, Answer::Fault(_)) && progress.is_detailed() {
+        progress.found_fault(line);
     }
 }
 

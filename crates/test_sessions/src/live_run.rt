@@ -1,5 +1,6 @@
 //! Tests of whole live sessions that read from and write to memory.
 
+use base_progress::{MixedFrames, NoReports, OverriddenSetting, Progress, StartedNote, Work};
 use file_host::MemoryHost;
 use live_sessions::{InputLines, SessionFiles, live_run};
 
@@ -96,6 +97,7 @@ fn a_session_is_answered(rt: HostRuntime) {
         &mut answers,
         &mut pcm,
         &mut host,
+        &mut NoReports,
     );
     assert!(rt; run.is_ok());
     assert!(rt; answers.as_slice() == ANSWERS);
@@ -145,6 +147,7 @@ fn saves_are_rejected_and_fail(rt: HostRuntime) {
         &mut answers,
         &mut pcm,
         &mut host,
+        &mut NoReports,
     );
     assert!(rt; run.is_ok());
     assert!(rt; answers.as_slice() == SAVED);
@@ -152,4 +155,92 @@ fn saves_are_rejected_and_fail(rt: HostRuntime) {
     assert!(rt; host.file("undo.txt") == Some(b"".as_slice()));
     assert!(rt; host.file("other.sf2").is_none());
     assert!(rt; host.file("in.sf2").is_none());
+}
+
+/// Counts what is reported in detail.
+#[derive(Clone, Copy, Default, PartialEq, Eq)]
+struct Counter {
+    notes: u32,
+    voices: usize,
+    clipped: u32,
+    faults: u32,
+    fault_bytes: usize,
+}
+
+impl Progress for Counter {
+    fn begin(&mut self, _work: Work, _count: u64) {}
+
+    fn advance(&mut self, _count: u64) {}
+
+    fn end(&mut self) {}
+
+    fn set_detailed(&mut self, _is_detailed: bool) {}
+
+    fn is_detailed(&self) -> bool {
+        true
+    }
+
+    fn started(&mut self, note: StartedNote) {
+        self.notes = self.notes.saturating_add(1);
+        self.voices = self.voices.saturating_add(note.voices);
+    }
+
+    fn mixed(&mut self, frames: MixedFrames) {
+        self.clipped = self.clipped.saturating_add(frames.clipped);
+    }
+
+    fn found_fault(&mut self, line: &[u8]) {
+        self.faults = self.faults.saturating_add(1);
+        self.fault_bytes = self.fault_bytes.saturating_add(line.len());
+    }
+
+    fn found_overridden(&mut self, _setting: OverriddenSetting) {}
+
+    fn report_sound(&mut self) {}
+}
+
+// The instrument plays the highest point twice on the right. A comment, an edit that is refused and too many frames are
+// no faults of a line.
+static REPORTED_LINES: &[u8] = b"\
+    add-sample 0 \"c\" 44100 60 0 mono loop 0 1 xff7f\n\
+    add-inst 0 \"i\" { 0 g 17 500 g 54 1 } { 0 g 17 500 g 54 1 }\n\
+    # comment\n\
+    add-preset 0 \"p\" 0 0 0 0 0 { 0 }\n\
+    note 3000 0 0 60 127\n\
+    note 3000 0 9 60 127\n\
+    frames 2000\n\
+    unknown\n\
+    frames 100\n\
+    rename-sample 1 \"u\"\n\
+    frames 100000000\n\
+    frames 2000\n\
+    note 1 2";
+
+#[test]
+fn details_of_a_session_are_reported(rt: HostRuntime) {
+    let alloc = rt.alloc();
+    let mut input = InputLines::new(REPORTED_LINES);
+    let mut answers = Vec::new(alloc);
+    let mut pcm = Vec::new(alloc);
+    let mut host = MemoryHost::new(alloc, ROOM);
+    let mut counter = Counter::default();
+    let run = live_run(
+        alloc,
+        EMPTY,
+        FILES,
+        &mut input,
+        &mut answers,
+        &mut pcm,
+        &mut host,
+        &mut counter,
+    );
+    let expected = Counter {
+        notes: 2,
+        voices: 2,
+        clipped: 3000,
+        faults: 2,
+        fault_bytes: 15,
+    };
+    assert!(rt; run.is_ok());
+    assert!(rt; counter == expected);
 }

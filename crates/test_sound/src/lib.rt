@@ -1,7 +1,7 @@
 //! Tests of sound and of neutral edits that no run of the program can make: values of the tables and of linear
-//! modulators, zone selection, frames of voices, blocks of players, WAVE files after other output and in writers that
-//! fail; which forms of edit are neutral, their inverses, and neutral edits while notes play. Runs of the program are
-//! tested by `checks/rows`.
+//! modulators, zone selection, frames of voices, blocks of players and what they report, WAVE files after other output
+//! and in writers that fail; which forms of edit are neutral, their inverses, and neutral edits while notes play. Runs
+//! of the program are tested by `checks/rows`.
 #![tactic(auto)]
 
 #[cfg(test)]
@@ -20,6 +20,8 @@ mod notes;
 mod players;
 #[cfg(test)]
 mod rendered;
+#[cfg(test)]
+mod reports;
 #[cfg(test)]
 mod selection;
 #[cfg(test)]
