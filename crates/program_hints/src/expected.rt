@@ -12,6 +12,9 @@ static WORDS: [&[u8]; 26] = [
     b"IPRD", b"ICOP", b"ICMT", b"ISFT", b"group",
 ];
 
+/// The highest bit of a number.
+const HIGHEST_BIT: u32 = 1 << 31;
+
 /// The place of a token in a line: the bytes before it, and the parser's allocator.
 #[derive(Clone, Copy)]
 pub(crate) struct TokenPlace<'t> {
@@ -53,11 +56,12 @@ impl TokenPlace<'_> {
             return None;
         }
         let mut highest = 0u32;
-        for power in (0..32).rev() {
-            let tried = highest | 1 << power;
-            if self.accepts_number(tried) {
-                highest = tried;
+        let mut bit = HIGHEST_BIT;
+        for _bit in 0..u32::BITS {
+            if self.accepts_number(highest | bit) {
+                highest |= bit;
             }
+            bit /= 2;
         }
         Some(highest)
     }
