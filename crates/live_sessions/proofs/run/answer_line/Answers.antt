@@ -23,6 +23,7 @@ returns-in-Ok-None g c =
 pub returns-in-Err : goal.returns-in-Err
 returns-in-Err g c =
     failure_answered c.args.files c.args.counts.now c.args.line.now c.args.live.now _ _ _ _ _ c.in-Err.failure
-    c.reported.result
-    c.write_answer-in-Err.result
-    c.in-Err.ensures c.reported.ensures c.write_answer-in-Err.ensures.is_written c.write_answer-in-Err.ensures.next
+    c.reported-answer.result
+    c.write_answer-written.result
+    c.in-Err.ensures c.reported-answer.ensures c.write_answer-written.ensures.is_written
+    c.write_answer-written.ensures.next

@@ -14,8 +14,8 @@ returns-in-Ok-apply_script g c =
     let file = c.args.file.now in
     let script = c.args.script.now in
     let same = at_bank p.forms file script c.in-Ok.bank c.in-Ok.ensures.0.0 c.in-Ok.ensures.0.1 in
-    text_put p.out.now _ (without_undo (outcome_of p.forms file script)) _ _ _ c.put.result
-    (ap without_undo (same ∙ c.in-Ok-apply_script.ensures.prepared)) (c.put.ensures (Text _) refl)
+    text_put p.out.now _ (without_undo (outcome_of p.forms file script)) _ _ _ c.put-ended.result
+    (ap without_undo (same ∙ c.in-Ok-apply_script.ensures.prepared)) (c.put-ended.ensures (Text _) refl)
 
 pub returns-in-Ok : goal.returns-in-Ok
 returns-in-Ok g c =

@@ -15,7 +15,7 @@ returns-in-Ok-apply_script g c printed =
     let script = c.args.script.now in
     let same = at_bank p.forms file script c.in-Ok.bank c.in-Ok.ensures.0.0 c.in-Ok.ensures.0.1 in
     both_saved _ _ p.out.now p.undo.now (texts_of_bank c.in-Ok-apply_script.edited_bank) (outcome_of p.forms file script)
-    printed _ c.save_both.result (same ∙ c.in-Ok-apply_script.ensures.prepared) c.save_both.ensures
+    printed _ c.save_both-saved.result (same ∙ c.in-Ok-apply_script.ensures.prepared) c.save_both-saved.ensures
 
 pub returns-in-Ok : goal.returns-in-Ok
 returns-in-Ok g c printed =

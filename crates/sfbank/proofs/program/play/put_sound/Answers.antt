@@ -10,8 +10,8 @@ new-requires g c = rw c.as_slice.ensures.value (fits_wave c.in-Ok.frames.items c
 
 pub returns-in-Ok : goal.returns-in-Ok
 returns-in-Ok g c =
-    text_put c.args.path.now _ (play_outcome c.args.file.now c.args.notes.now) _ _ _ c.put.result
-    c.in-Ok.ensures.outcome (rw (c.new.ensures, c.as_slice.ensures.value) at (c.put.ensures (Text _) refl))
+    text_put c.args.path.now _ (play_outcome c.args.file.now c.args.notes.now) _ _ _ c.put-ended.result
+    c.in-Ok.ensures.outcome (rw (c.new.ensures, c.as_slice.ensures.value) at (c.put-ended.ensures (Text _) refl))
 
 pub returns-in-Err : goal.returns-in-Err
 returns-in-Err g c =
