@@ -2,4 +2,4 @@ use Rattle.std.proofs.Common.{refl}
 use Rattle.program_reports.proofs.details.details_of.Goals as goal
 
 pub returns : goal.returns
-returns c = (c.args.source, _, c.advice_on-advice.ensures, refl)
+returns c = (_, _, c.advice_on-advice.ensures, refl)
