@@ -24,7 +24,7 @@ const NUMBERS: u32 = u16::MAX as u32;
 /// The numbers of a note in a list.
 pub(crate) static LIST_FIELDS: [Field; 6] = [
     Field {
-        name: b"the start, in frames",
+        name: b"start in frames",
         highest: FRAMES,
     },
     LENGTH,
@@ -38,27 +38,27 @@ pub(crate) static LIST_FIELDS: [Field; 6] = [
 pub(crate) static LIVE_FIELDS: [Field; 5] = [LENGTH, BANK, PRESET, KEY, VELOCITY];
 
 const LENGTH: Field = Field {
-    name: b"the length, in frames",
+    name: b"length in frames",
     highest: FRAMES,
 };
 
 const BANK: Field = Field {
-    name: b"the bank of the preset",
+    name: b"bank",
     highest: NUMBERS,
 };
 
 const PRESET: Field = Field {
-    name: b"the number of the preset",
+    name: b"preset",
     highest: NUMBERS,
 };
 
 const KEY: Field = Field {
-    name: b"the key",
+    name: b"key",
     highest: HIGHEST_KEY as u32,
 };
 
 const VELOCITY: Field = Field {
-    name: b"the velocity",
+    name: b"velocity",
     highest: HIGHEST_VELOCITY as u32,
 };
 

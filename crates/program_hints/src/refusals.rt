@@ -58,6 +58,7 @@ fn remark_on_step(bank: &Bank<'_>, cause: Cause, step: &Step<'_>, remarks: &mut 
 // Says which numbers the members of a list have.
 fn put_numbers(members: &[u8], count: usize, remarks: &mut Remarks) {
     match numbered(count).checked_sub(1) {
+        Some(0) => remarks.line(&[b"The only number of ", members, b" here is 0."]),
         Some(last) => {
             remarks.put(b"  The numbers of ");
             remarks.put(members);
