@@ -117,10 +117,10 @@ sub try_terminal {
     report('a terminal', $status == 5 && $line eq $wanted ? undef : "status $status with '$line'");
 }
 
-# Tests that - is the standard input where a file is read.
+# Tests that - is the standard input where a file is read, and the standard output where one is written.
 sub try_standard_input {
-    my $status = system('bash', '-c', '"$0" canon - out < saw', program_of_runs()) >> 8;
-    report('a bank from the standard input', $status == 0 && (read_bytes('out') // '') eq read_bytes('saw') ? undef : "status $status");
+    my $status = system('bash', '-c', '"$0" canon - - < saw > out', program_of_runs()) >> 8;
+    report('a bank from the standard input to the standard output', $status == 0 && (read_bytes('out') // '') eq read_bytes('saw') ? undef : "status $status");
 }
 
 sub try_program {
