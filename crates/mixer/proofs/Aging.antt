@@ -21,7 +21,7 @@ still f xs ys i d h e = grind (arith, common_steps)
 
 pub aged_is : (n m : ℕ) (p : PlayingVoice) (v : Live) → v ≡ record { value = p.voice.value; age = p.voice.age + m / 2 }
     → m ≡ n
-    → (let q : PlayingVoice = record { voice = v; bank = p.bank; number = p.number } in q) ≡ aged (n / 2) p
+    → (let q : PlayingVoice = record { voice = v; bank = p.bank; number = p.number; handle = p.handle } in q) ≡ aged (n / 2) p
 unfolding aged
 aged_is n m p v e h =
     λ j.
@@ -36,6 +36,7 @@ aged_is n m p v e h =
       bank =
           p.bank;
       number = p.number;
+      handle = p.handle;
     }
 
 pub total_more : (xs : List PlayingVoice) (i k : ℕ) (d p : PlayingVoice) → i < length xs → p ≡ get_or xs i d

@@ -16,3 +16,6 @@ pub mod StartOrder
 pub mod Stops
 pub mod Permuted
 pub mod AlikeLaws
+pub mod ReleasedLaws
+pub mod HeldNotes
+pub mod PressedLaws

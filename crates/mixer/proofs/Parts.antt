@@ -21,6 +21,7 @@ aged-zero p =
       bank =
           p.bank;
       number = p.number;
+      handle = p.handle;
     }
 
 pub aged-none : (ps : List PlayingVoice) → ps ≡ map (aged 0) ps
@@ -42,6 +43,7 @@ aged-twice m n p =
       bank =
           p.bank;
       number = p.number;
+      handle = p.handle;
     }
 
 pub aged-more : (m n : ℕ) (ps : List PlayingVoice) → map (aged n) (map (aged m) ps) ≡ map (aged (m + n)) ps

@@ -45,7 +45,7 @@ filter-kept f p q r h (x ∷ xs) =
     at (p (f x)) (r x) refl refl
 
 -- elements that an earlier filter drops would be dropped later
-filter-later : {X Y : Type 0} (f : X → Y) (p : Y → Bool) (r : X → Bool) → ((x : X) → r x ≡ false → p (f x) ≡ false)
+pub filter-later : {X Y : Type 0} (f : X → Y) (p : Y → Bool) (r : X → Bool) → ((x : X) → r x ≡ false → p (f x) ≡ false)
     → (xs : List X)
     → filter p (map f (filter r xs)) ≡ filter p (map f xs)
 filter-later f p r h [] = refl
@@ -65,11 +65,17 @@ filter-later f p r h (x ∷ xs) =
 with_age : (p : PlayingVoice) (a b : ℕ) → a ≡ b
     →
     (let q : PlayingVoice =
-    record { voice = record { value = p.voice.value; age = a }; bank = p.bank; number = p.number } in q)
+    record { voice = record { value = p.voice.value; age = a }; bank = p.bank; number = p.number; handle = p.handle } in q)
     ≡
     (let q : PlayingVoice =
-    record { voice = record { value = p.voice.value; age = b }; bank = p.bank; number = p.number } in q)
-with_age p a b e = λ j. record { voice = record { value = p.voice.value; age = e j }; bank = p.bank; number = p.number }
+    record { voice = record { value = p.voice.value; age = b }; bank = p.bank; number = p.number; handle = p.handle } in q)
+with_age p a b e =
+    λ j. record {
+      voice = record { value = p.voice.value; age = e j };
+      bank = p.bank;
+      number = p.number;
+      handle = p.handle;
+    }
 
 pub rewound-none : (ps : List PlayingVoice) → map (rewound 0) ps ≡ ps
 unfolding rewound
@@ -78,9 +84,9 @@ rewound-none (p ∷ ps) = λ j. with_age p (p.voice.age - 0) p.voice.age (omega 
 
 -- one voice
 pub rewound_is : (n : ℕ) (p : PlayingVoice) (v : Live) → v ≡ record { value = p.voice.value; age = p.voice.age - n }
-    → (let q : PlayingVoice = record { voice = v; bank = p.bank; number = p.number } in q) ≡ rewound n p
+    → (let q : PlayingVoice = record { voice = v; bank = p.bank; number = p.number; handle = p.handle } in q) ≡ rewound n p
 unfolding rewound
-rewound_is n p v e = λ j. record { voice = e j; bank = p.bank; number = p.number }
+rewound_is n p v e = λ j. record { voice = e j; bank = p.bank; number = p.number; handle = p.handle }
 
 -- going back undoes advancing
 pub rewound-aged : (n : ℕ) (ps : List PlayingVoice) → map (rewound n) (map (aged n) ps) ≡ ps

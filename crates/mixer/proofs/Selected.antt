@@ -43,11 +43,11 @@ note_voices_last b n qs ps all e h = sym (append-nil ps) ∙ ap (λ rs. ps ++ ma
 
 pub started_is : (n : Numbers) (o : Option Voice) (l : Live) (bank number : ℕ) → option_map starts.at_first_frame o ≡ Some l
     → bank ≡ n.bank → number ≡ n.number
-    → (let p : PlayingVoice = record { voice = l; bank = bank; number = number } in p) ∷ [] ≡ map (playing n) (listed o)
+    → (let p : PlayingVoice = record { voice = l; bank = bank; number = number; handle = None } in p) ∷ [] ≡ map (playing n) (listed o)
 unfolding playing
 started_is n None l bank number e f g = absurd cc
 started_is n (Some v) l bank number e f g =
-    let h : l ≡ starts.at_first_frame v = cc in λ j. record { voice = h j; bank = f j; number = g j } ∷ []
+    let h : l ≡ starts.at_first_frame v = cc in λ j. record { voice = h j; bank = f j; number = g j; handle = None } ∷ []
 
 -- ---- their releases
 

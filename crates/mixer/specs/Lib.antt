@@ -7,3 +7,4 @@ pub mod Stops
 pub mod KeptVoices
 pub mod Ahead
 pub mod Alike
+pub mod Pressed

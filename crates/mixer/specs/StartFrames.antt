@@ -1,6 +1,6 @@
 -- The frames of notes that start one after another.
 use Rattle.std.specs.Prelude.{ℕ, ◌+◌, ◌-◌, ◌*◌, ◌/◌, ◌%◌, ℤ, pos, negsuc, ◌+ℤ◌, Bool, cond, not, nat_eq, nat_le}
-use Rattle.std.specs.Prelude.{◌&&◌, List, [], ◌∷◌, map}
+use Rattle.std.specs.Prelude.{◌&&◌, None, List, [], ◌∷◌, map}
 use Rattle.std.specs.List.{list_any, range_with_len}
 use Rattle.std.specs.Int.{int_max, int_min}
 use Rattle.std.specs.Ordering.{int_eq}
@@ -18,7 +18,7 @@ pub record Start : Type 0 where
 
 -- a voice of a note, at its first frame
 unfoldable pub playing : Numbers → Voice → PlayingVoice
-playing n v = record { voice = record { value = v; age = 0 }; bank = n.bank; number = n.number }
+playing n v = record { voice = record { value = v; age = 0 }; bank = n.bank; number = n.number; handle = None }
 
 -- the voices of a note in a bank
 unfoldable pub note_voices : Parts → Numbers → List PlayingVoice

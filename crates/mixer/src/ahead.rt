@@ -8,10 +8,13 @@ ghost use Rattle.mixer.specs.StartFrames as heard;
 ghost use Rattle.mixer.specs.Ahead.{AreSums, AreWithin, IsAhead, playing_now};
 ghost use Rattle.mixer.specs.Events.{aged, next_side, unsilenced};
 ghost use Rattle.mixer.specs.KeptVoices.{AllSounding, AllYounger, lifetime};
+ghost use Rattle.mixer.specs.Pressed.{after_release};
 
 use crate::blocks::{GROUP, add_voices, clip_sums};
 use crate::measuring::report_sums;
-use crate::playing::{PlayingVoice, drop_over, drop_silenced, go_back, have_class};
+use crate::playing::{
+    PlayingVoice, Release, drop_over, drop_silenced, go_back, have_class, release_voices,
+};
 use base_progress::Progress;
 use voices::Workspace;
 
@@ -163,9 +166,23 @@ pub(crate) fn sum_ahead<'a>(
     }
 }
 
+// Discards the remaining frames; the voices go back by as many frames.
+fn discard<'a>(voices: &mut Vec<PlayingVoice<'a>>, ahead: &mut Ahead)
+    requires { IsAhead ahead.old voices.old.items }
+    ensures ahead { IsAhead ahead.new voices.new.items }
+    ensures none { ahead.new.left ≡ 0 }
+    ensures same { playing_now ahead.new voices.new.items ≡ playing_now ahead.old voices.old.items }
+    ensures bound { vec_len voices.new ≤ vec_len voices.old }
+    ensures capacity { vec_capacity voices.new ≡ vec_capacity voices.old }
+{
+    go_back(voices.as_mut_slice(), ahead.left);
+    ahead.left = 0;
+    ahead.next_count = 0;
+}
+
 // Discards the remaining frames if new voices invalidate them: if a new voice has an exclusive class, and so may
 // silence a voice that is part of them, or if the sums have no space for the new voices. Also discards them if voices
-// are counted, since those that are over within these frames would count. The voices go back by as many frames.
+// are counted, since those that are over within these frames would count.
 fn drop_ahead<'a>(
     voices: &mut Vec<PlayingVoice<'a>>,
     ahead: &mut Ahead,
@@ -183,9 +200,7 @@ fn drop_ahead<'a>(
     if ahead.left == 0 || !are_counted && !have_class(new) && voices.len() + new.len() <= GROUP {
         return;
     }
-    go_back(voices.as_mut_slice(), ahead.left);
-    ahead.left = 0;
-    ahead.next_count = 0;
+    discard(voices, ahead);
 }
 
 // Drops the voices that new ones silence.
@@ -204,4 +219,19 @@ pub(crate) fn silence_voices<'a>(
 {
     drop_ahead(voices, ahead, new, are_counted);
     drop_silenced(voices, new);
+}
+
+// Ends the notes of a release at the next frame. The frames that are summed ahead don't have their releases.
+pub(crate) fn end_notes<'a>(
+    playing: &mut Vec<PlayingVoice<'a>>,
+    ahead: &mut Ahead,
+    release: Release,
+)
+    requires { IsAhead ahead.old playing.old.items }
+    ensures ahead { IsAhead ahead.new playing.new.items }
+    ensures released { playing_now ahead.new playing.new.items ≡ after_release (playing_now ahead.old playing.old.items) release }
+{
+    discard(playing, ahead);
+    drop_over(playing);
+    release_voices(playing.as_mut_slice(), release);
 }

@@ -2,6 +2,7 @@
 ghost use Rattle.mixer.specs.Alike.{AlikeBlocks, AlikeFrames, AlikeNotesRender, AlikeRender};
 ghost use Rattle.mixer.specs.Events.{BlocksAreHeard, SplitsAreFree};
 ghost use Rattle.mixer.specs.Order.{OrderIsFree};
+ghost use Rattle.mixer.specs.Pressed.{PressesAreHeard};
 ghost use Rattle.mixer.specs.Stops.{StopsAreLeast};
 
 /// The law that a player's blocks are the frames of its note starts, each with the bank at that time: after any starts,
@@ -43,4 +44,11 @@ pub fn alike_banks_render_the_same()
 pub fn alike_edits_change_no_frame()
     ensures heard { AlikeFrames }
     ensures blocks { AlikeBlocks }
+{}
+
+/// The law that what a player gives are the frames of notes, each of which lasts from its press to its release: after
+/// any presses, releases, changes of the bank and blocks of any length. It does nothing.
+#[tactic(auto, using(crate::proofs::PressedLaws::presses_heard))]
+pub fn presses_are_heard()
+    ensures { PressesAreHeard }
 {}

@@ -2,11 +2,12 @@
 ghost use Rattle.std.specs.Prelude.{◌≡◌, ◌%◌, ◌/◌, ◌<◌, ◌≤◌, ℕ, [], pos, OnOk, OnErr, length, slice_index_or};
 ghost use Rattle.mixer.specs.StartFrames as heard;
 ghost use Rattle.mixer.specs.Events.{after_start, after_block, block, next_side};
+ghost use Rattle.mixer.specs.Pressed.{after_release, pressed_voices};
 
-use crate::ahead::{Ahead, MOST_AHEAD, silence_voices, sum_ahead};
+use crate::ahead::{Ahead, MOST_AHEAD, end_notes, silence_voices, sum_ahead};
 use crate::blocks::{MixBuffers, PART_SIDES, mix_part};
 use crate::measuring::report_start;
-use crate::playing::{PlayingVoice, drop_over, note_voices};
+use crate::playing::{PlayingVoice, Release, drop_over, note_voices, set_handles};
 use bank_core::Bank;
 use base_progress::{NoReports, Progress};
 use script_notes::Note;
@@ -88,23 +89,68 @@ impl<'a> Player<'a> {
         ensures done { OnOk result (self.new ≡ after_start self.old (heard.note_voices bank.now note.now)) }
         ensures refused { OnErr result (self.new ≡ self.old) }
     {
+        let new = note_voices(alloc, bank, note)?;
+        let count = new.len();
+        self.start_voices(new, progress.is_detailed())?;
+        report_start(bank, note, count, progress);
+        Ok(())
+    }
+
+    /// Starts all voices of a note like [`Player::start`], and gives the note a handle, by which it is released. If it
+    /// is not released before, it ends after its length.
+    pub fn press(
+        &mut self,
+        alloc: Global,
+        bank: &Bank<'a>,
+        note: &Note,
+        handle: u64,
+    ) -> Result<(), OutOfMemory>
+        ensures done { OnOk result (self.new ≡ after_start self.old (pressed_voices bank.now handle note.now)) }
+        ensures refused { OnErr result (self.new ≡ self.old) }
+    {
         let mut new = note_voices(alloc, bank, note)?;
+        set_handles(new.as_mut_slice(), handle);
+        self.start_voices(new, false)
+    }
+
+    /// Releases pressed notes: they end at the next frame, as notes of that length do. Allocates nothing.
+    ///
+    /// It discards the frames that are summed ahead.
+    pub fn release(&mut self, release: Release)
+        ensures { self.new ≡ after_release self.old release }
+    {
+        end_notes(&mut self.voices, &mut self.ahead, release);
+    }
+
+    /// Ends all voices at once.
+    pub fn stop(&mut self)
+        ensures { self.new ≡ [] }
+    {
+        self.voices.clear();
+        self.ahead.left = 0;
+    }
+
+    // Starts voices at the next frame, after it has silenced those that they end by their exclusive classes.
+    fn start_voices(
+        &mut self,
+        mut new: Vec<PlayingVoice<'a>>,
+        are_counted: bool,
+    ) -> Result<(), OutOfMemory>
+        ensures done { OnOk result (self.new ≡ after_start self.old new.entry.items) }
+        ensures refused { OnErr result (self.new ≡ self.old) }
+    {
         self.voices.try_reserve(new.len())?;
         // No allocation from here on.
-        let count = new.len();
         silence_voices(
             &mut self.voices,
             &mut self.ahead,
             new.as_slice(),
-            progress.is_detailed(),
+            are_counted,
         );
         drop_over(&mut new);
         self.ahead.join(new.as_mut_slice(), &mut self.buffers.work);
         match self.voices.append(&mut new) {
-            Ok(()) => {
-                report_start(bank, note, count, progress);
-                Ok(())
-            }
+            Ok(()) => Ok(()),
             Err(_) => unreachable!(),
         }
     }

@@ -1,12 +1,14 @@
 //! The playing voices, and which of them an exclusive class silences.
-ghost use Rattle.std.specs.Prelude.{◌≡◌, ◌≤◌, ◌<◌, ◌++◌, All, filter, map, IfOk, OnOk, vec_len};
+ghost use Rattle.std.specs.Prelude.{◌≡◌, ◌≤◌, ◌<◌, ◌++◌, All, false, filter, map, IfOk, OnOk, vec_len};
 ghost use Rattle.std.specs.Bool.{OnTrue};
 ghost use Rattle.std.specs.List.{list_any};
+ghost use Rattle.std.specs.Option.{option_map_or};
 ghost use Rattle.std.specs.Vec.{vec_capacity};
 ghost use Rattle.zone_select.specs.Pairs.{voice_by, listed};
 ghost use Rattle.mixer.specs.StartFrames as heard;
 ghost use Rattle.mixer.specs.Events.{is_sounding, unsilenced};
 ghost use Rattle.mixer.specs.Ahead.{rewound};
+ghost use Rattle.mixer.specs.Pressed.{ends, released_by, with_handle};
 ghost use Rattle.mixer.specs.KeptVoices.{AllSounding, AllYounger, lifetime};
 
 use bank_core::Bank;
@@ -16,12 +18,35 @@ use std::alloc::Global;
 use voices::{Voice, VoiceFault};
 use zone_select::matches;
 
-// A voice, with the bank and preset number of its note.
+// A voice, with the bank and preset number of its note, and the handle of a note that was pressed.
 #[derive(Drop)]
 pub(crate) struct PlayingVoice<'a> {
     pub(crate) voice: Voice<'a>,
     pub(crate) bank: u16,
     pub(crate) number: u16,
+    pub(crate) handle: Option<u64>,
+}
+
+/// Which pressed notes a release ends.
+#[derive(Clone, Copy, Debug, PartialEq, Eq)]
+pub enum Release {
+    /// Those with this handle.
+    One(u64),
+    /// All of them.
+    All,
+}
+
+impl Release {
+    // Whether it ends a note with this handle, or without one.
+    fn ends(self, handle: Option<u64>) -> bool
+        ensures { result ≡ option_map_or (ends self) handle false }
+    {
+        match (self, handle) {
+            (Release::One(one), Some(other)) => one == other,
+            (Release::All, Some(_)) => true,
+            (_, None) => false,
+        }
+    }
 }
 
 impl<'a> PlayingVoice<'a> {
@@ -69,6 +94,34 @@ pub(crate) fn go_back(voices: &mut [PlayingVoice], frames: usize)
 {
     for p in voices.iter_mut() {
         p.voice.go_back(frames as u64);
+    }
+}
+
+// Gives each voice a handle.
+pub(crate) fn set_handles(voices: &mut [PlayingVoice], handle: u64)
+    ensures { voices.new ≡ map (with_handle handle) voices.old }
+{
+    for p in voices.iter_mut() {
+        p.handle = Some(handle);
+    }
+}
+
+// Ends the notes of a release.
+#[tactic(auto, using(std::proofs::lemmas::List::Edits::map_over_more))]
+pub(crate) fn release_voices(voices: &mut [PlayingVoice], release: Release)
+    ensures { voices.new ≡ map (released_by release) voices.old }
+{
+    for p in voices.iter_mut() {
+        release_voice(p, release);
+    }
+}
+
+#[tactic(auto, unfolding(crate::specs::Pressed::released_by))]
+fn release_voice(p: &mut PlayingVoice, release: Release)
+    ensures { p.new ≡ released_by release p.old }
+{
+    if release.ends(p.handle) {
+        p.voice.release();
     }
 }
 
@@ -135,6 +188,7 @@ fn add_voice<'a>(
                 voice,
                 bank: note.bank(),
                 number: note.number(),
+                handle: None,
             })?;
             Ok(())
         }

@@ -1,6 +1,6 @@
 -- Presets that give each note the same voices render all notes identically.
 use Rattle.std.proofs.Common.{◌≡◌, ℕ, ◌+◌, ◌-◌, ◌*◌, ◌/◌, ℤ, pos, ◌+ℤ◌, Bool, cond, nat_le, nat_eq, ◌&&◌, ◌||◌}
-use Rattle.std.proofs.Common.{max, List, [], ◌∷◌, map, refl, sym, ap, ◌∙◌, eq-eqb}
+use Rattle.std.proofs.Common.{max, None, List, [], ◌∷◌, map, refl, sym, ap, ◌∙◌, eq-eqb}
 use Rattle.std.specs.Prelude.{not}
 use Rattle.std.specs.Ordering.{int_eq}
 use Rattle.std.specs.List.{range_with_len}
@@ -19,7 +19,7 @@ use Rattle.plan_take.specs.Taking.{on_preset}
 
 -- a voice of a note on the preset with these numbers, at its first frame
 abbrev made : PresetNumbers → Voice → PlayingVoice
-made k v = record { voice = record { value = v; age = 0 }; bank = k.bank; number = k.number }
+made k v = record { voice = record { value = v; age = 0 }; bank = k.bank; number = k.number; handle = None }
 
 -- voices of one preset may exclude each other, whatever its numbers
 excludes_same : (k l : PresetNumbers) (v w : Voice) → excludes (made k v) (made k w) ≡ excludes (made l v) (made l w)

@@ -5,3 +5,4 @@ pub mod OverLaws
 pub mod RunLaws
 pub mod SliceLaws
 pub mod StartLaws
+pub mod ReleaseLaws

@@ -3,6 +3,7 @@ pub mod Panning
 pub mod Position
 pub mod Points
 pub mod Sound
+pub mod Release
 pub mod Within
 pub mod Runs
 pub mod VoiceState

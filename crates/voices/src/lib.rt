@@ -2,6 +2,7 @@
 #![tactic(auto)]
 
 ghost use Rattle.voices.specs.Sound.{OverStaysOver};
+ghost use Rattle.voices.specs.Release.{EndsAreFree, OverWhenReleased};
 
 mod adding;
 mod frames;
@@ -23,4 +24,15 @@ pub use workspace::Workspace;
 #[tactic(auto, using(crate::proofs::OverLaws::over_stays))]
 pub fn over_law()
     ensures { OverStaysOver }
+{}
+
+/// The law that a frame before the end of a note doesn't depend on when it ends. It does nothing.
+pub fn end_law()
+    ensures { EndsAreFree }
+{}
+
+/// The law that a release doesn't bring back a voice that is over. It does nothing.
+#[tactic(auto, using(crate::proofs::ReleaseLaws::over_when_released))]
+pub fn release_law()
+    ensures { OverWhenReleased }
 {}

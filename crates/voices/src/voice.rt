@@ -5,6 +5,7 @@ ghost use Rattle.voices.specs.Classes.{exclusive_class};
 ghost use Rattle.voices.specs.Position.{is_over};
 ghost use Rattle.zone_select.specs.Playable.{IsPlayable};
 ghost use Rattle.voices.specs.Sound.{snd, after_frame};
+ghost use Rattle.voices.specs.Release.{released};
 ghost use Rattle.voices.specs.Within.{AllWithin};
 
 use crate::adding::{add_run, add_run_apart};
@@ -155,5 +156,16 @@ impl<'a> Voice<'a> {
     {
         self.age -= frames;
         self.state.move_to(&self.parameters, self.age);
+    }
+
+    /// Ends the note at the next frame, unless it has ended before: the release begins, and a loop that lasts until the
+    /// release is left.
+    pub fn release(&mut self)
+        ensures { self.new ≡ released self.old }
+    {
+        if self.age < u64::from(self.parameters.length) {
+            self.parameters.length = self.age as u32;
+            self.state.end_note(&self.parameters, self.age);
+        }
     }
 }

@@ -83,4 +83,15 @@ impl<'a> VoiceState<'a> {
         let slice = self.slice;
         self.advance_to(v, t, x, EnvelopeGain::ended(), slice);
     }
+
+    // Moves to the end of the note, frame `t`, which may differ from the end before.
+    pub(crate) fn end_note(&mut self, v: &VoiceParameters, t: u64)
+        requires loop_is { v.now.looped ≡ true → v.now.loop_start < v.now.loop_end }
+        requires steps { v.now.phase_increment ≤ MOST_PHASE_INCREMENT }
+        requires loudness { (self.old.loudness ≡ gain_of v.now.attenuation) × (self.old.loudness ≤ UNITY_GAIN) }
+        ensures { (points : List ℕ) → IsCurrentSlice points self.old.slice → IsVoiceState points v.now t self.new }
+    {
+        self.at_end = held_at(v, u64::from(v.length));
+        self.move_to(v, t);
+    }
 }

@@ -1,17 +1,16 @@
 use Rattle.std.proofs.Common.{◌≡◌, ◌++◌, ◌+◌, ◌<◌, ◌≤◌, List, map, filter, length, sym, ap, subst, ◌∙◌, arith}
 use Rattle.std.proofs.lemmas.Grind.{common_steps}
 use Rattle.mixer.specs.declared.playing.PlayingVoice.{PlayingVoice}
-use Rattle.mixer.specs.StartFrames as heard
 use Rattle.mixer.specs.Events.{after_start, unsilenced, is_sounding, aged}
 use Rattle.mixer.specs.Ahead.{AreSums, IsAhead, playing_now}
 use Rattle.mixer.proofs.AheadLaws.{room_of, started_ahead, started_playing}
-use Rattle.mixer.proofs.player.Player.start_with_progress.Goals as goal
+use Rattle.mixer.proofs.player.Player.start_voices.Goals as goal
 
 pub join-requires-clause-room : goal.join-requires-clause-room
-join-requires-clause-room g c = room_of c.silence_voices.new.ahead c.silence_voices.new.voices.items c.silence_voices.ensures.ahead
+join-requires-clause-room c = room_of c.silence_voices.new.ahead c.silence_voices.new.voices.items c.silence_voices.ensures.ahead
 
 pub invariant_of-self-2 : goal.invariant_of-self-2
-invariant_of-self-2 g c =
+invariant_of-self-2 c =
     let a = c.silence_voices.new.ahead in
     let vs = c.silence_voices.new.voices.items in
     let new = c.drop_over.new.voices.items in
@@ -26,12 +25,12 @@ invariant_of-self-2 g c =
 
 pub returns-clause-done : goal.returns-clause-done
 unfolding after_start
-returns-clause-done g c =
+returns-clause-done c =
     let a = c.silence_voices.new.ahead in
     let vs = c.silence_voices.new.voices.items in
     let new = c.drop_over.new.voices.items in
-    let all : c.as_slice.result.now ≡ heard.note_voices c.args.bank.now c.args.note.now = cc (c.in_ok-new.ensures) in
-    let kept : new ≡ filter is_sounding (heard.note_voices c.args.bank.now c.args.note.now) = cc (c.in_ok-new.ensures) in
+    let all : c.as_slice.result.now ≡ c.args.new.items = cc in
+    let kept : new ≡ filter is_sounding c.args.new.items = cc in
     let was : playing_now c.self.inside.ahead c.try_reserve.new.self.items ≡ c.args.self.now =
     ap (playing_now c.self.inside.ahead) c.try_reserve.ensures.items ∙ c.self.view_is in
     let e : c.append.new.self.items ≡ vs ++ map (aged a.left) new =

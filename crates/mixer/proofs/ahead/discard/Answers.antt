@@ -2,8 +2,8 @@ use Rattle.std.proofs.Common.{◌≡◌, ◌++◌, map, take, drop, length, refl
 use Rattle.std.proofs.lemmas.Grind.{common_steps}
 use Rattle.mixer.specs.Ahead.{rewound, IsAhead, playing_now}
 use Rattle.mixer.proofs.AheadLaws.{rewound_ahead, rewound_playing}
-use Rattle.mixer.proofs.ahead.drop_ahead.Goals as goal
-use Rattle.mixer.proofs.ahead.drop_ahead.Goals.{After-go_back}
+use Rattle.mixer.proofs.ahead.discard.Goals as goal
+use Rattle.mixer.proofs.ahead.discard.Goals.{After-go_back}
 
 all_back : (c : After-go_back)
     → take c.args.voices.now.len (c.go_back.new.voices ++ drop (length c.go_back.new.voices) c.args.voices.now.items)

@@ -1,0 +1,80 @@
+-- Notes that are pressed, and end when they are released.
+use Rattle.std.specs.Prelude.{◌≡◌, ℕ, ◌+◌, ℤ, Bool, true, false, cond, nat_eq, Option, Some, None, List, [], ◌∷◌, ◌++◌}
+use Rattle.std.specs.Prelude.{map, filter}
+use Rattle.std.specs.Option.{option_map, option_map_or}
+use Rattle.bank_parts.specs.declared.parts.Parts.{Parts}
+use Rattle.script_notes.specs.Notes.{Numbers}
+use Rattle.voices.specs.Release.{released}
+use Rattle.mixer.specs.declared.playing.PlayingVoice.{PlayingVoice}
+use Rattle.mixer.specs.declared.playing.Release.{Release}
+use Rattle.mixer.specs.declared.playing.Release.TheVariants.{One, All}
+use Rattle.mixer.specs.StartFrames.{note_voices}
+use Rattle.mixer.specs.Events as events
+use Rattle.mixer.specs.Events.{Event, heard, is_sounding, after_start, after_block, block}
+use Rattle.mixer.specs.Stops.{least}
+
+-- ---- what a player's calls do
+
+abbrev pub with_handle : ℕ → PlayingVoice → PlayingVoice
+with_handle h p = record p { handle = Some h }
+
+-- the voices of a note that is pressed
+unfoldable pub pressed_voices : Parts → ℕ → Numbers → List PlayingVoice
+pressed_voices b h n = map (with_handle h) (note_voices b n)
+
+-- the release ends the notes with this handle
+abbrev pub ends : Release → ℕ → Bool
+ends (One g) h = nat_eq g h
+ends All h = true
+
+-- a voice after a release
+unfoldable pub released_by : Release → PlayingVoice → PlayingVoice
+released_by r p = cond (option_map_or (ends r) p.handle false) (record p { voice = released p.voice }) p
+
+-- the voices after a release
+unfoldable pub after_release : List PlayingVoice → Release → List PlayingVoice
+after_release ps r = filter is_sounding (map (released_by r) ps)
+
+-- ---- what is heard
+
+-- an edit, with the bank after it, which may be any; a note that is pressed, and its handle; a release; a block of a
+-- number of frames
+pub data KeyEvent : Type 0 where
+  Edited : Parts → KeyEvent
+  Pressed : ℕ → Numbers → KeyEvent
+  Released : Release → KeyEvent
+  Given : ℕ → KeyEvent
+
+-- how many frames come before a release of the handle, if it is released
+unfoldable pub frames_until : ℕ → List KeyEvent → Option ℕ
+frames_until h [] = None
+frames_until h (Edited c ∷ es) = frames_until h es
+frames_until h (Pressed g n ∷ es) = frames_until h es
+frames_until h (Released r ∷ es) = cond (ends r h) (Some 0) (frames_until h es)
+frames_until h (Given m ∷ es) = option_map (λ k. m + k) (frames_until h es)
+
+-- a pressed note, which ends when it is released, but not later than its own end
+unfoldable pub held_note : ℕ → Numbers → List KeyEvent → Numbers
+held_note h n es = record n { length = least n.length (frames_until h es) }
+
+-- the same with a note start, of the right length, for each press
+unfoldable pub as_notes : List KeyEvent → List Event
+as_notes [] = []
+as_notes (Edited c ∷ es) = events.Edited c ∷ as_notes es
+as_notes (Pressed h n ∷ es) = events.Started (held_note h n es) ∷ as_notes es
+as_notes (Released r ∷ es) = as_notes es
+as_notes (Given m ∷ es) = events.Given m ∷ as_notes es
+
+-- all blocks of a player of these voices
+unfoldable pub key_blocks : Parts → List PlayingVoice → List KeyEvent → List ℤ
+key_blocks b ps [] = []
+key_blocks b ps (Edited c ∷ es) = key_blocks c ps es
+key_blocks b ps (Pressed h n ∷ es) = key_blocks b (after_start ps (pressed_voices b h n)) es
+key_blocks b ps (Released r ∷ es) = key_blocks b (after_release ps r) es
+key_blocks b ps (Given m ∷ es) = block ps m ++ key_blocks b (after_block ps m) es
+
+-- ---- the law
+
+-- pressed notes are heard as notes that last until their release
+abbrev pub PressesAreHeard : Type 0
+PressesAreHeard = (b : Parts) (es : List KeyEvent) → key_blocks b [] es ≡ heard b (as_notes es)
