@@ -20,7 +20,7 @@ use Rattle.mixer.specs.StartFrames.{playing, note_voices, excludes, silences, is
 use Rattle.mixer.specs.Events.{Event, is_sounding, unsilenced, after_start, aged, after_block, total_at, next_side, block}
 use Rattle.mixer.specs.Events.{blocks, heard}
 use Rattle.mixer.specs.Stops.{least}
-use Rattle.mixer.specs.Pressed.{with_handle, pressed_voices, ends, released_by, after_release, KeyEvent, Edited, Pressed}
+use Rattle.mixer.specs.Pressed.{with_handle, pressed_voices, ends, released_by, after_release, KeyEvent, Edited, Started, Pressed}
 use Rattle.mixer.specs.Pressed.{Released, Given, frames_until, held_note, as_notes, key_blocks}
 use Rattle.mixer.proofs.Sums.{sum_over-map, sum_over-same}
 use Rattle.mixer.proofs.Ranges.{map_range-same}
@@ -113,6 +113,18 @@ started-resolved es ps new =
     sym (filter-kept (resolved es) is_sounding (λ q. not (silences (map (resolved es) new) q)) (λ q. not (silences new q))
     (λ p. ap not (silences-resolved es new p)) ps) j
     ++ filter-later (resolved es) is_sounding is_sounding (over_resolved es) new j)
+
+-- ---- a note that starts
+
+started_each : (n : Numbers) (es : List KeyEvent) (vs : List Voice) → map (resolved es) (map (playing n) vs) ≡ map (playing n) vs
+unfolding resolved ended playing
+started_each n es [] = refl
+started_each n es (v ∷ vs) = ap (λ (ps : List PlayingVoice). playing n v ∷ ps) (started_each n es vs)
+
+-- its end is known already
+start_resolved : (b : Parts) (n : Numbers) (es : List KeyEvent) → map (resolved es) (note_voices b n) ≡ note_voices b n
+unfolding note_voices
+start_resolved b n es = started_each n es (selected b n)
 
 -- ---- a note that is pressed
 
@@ -271,6 +283,11 @@ presses_from : (b : Parts) (es : List KeyEvent) (ps : List PlayingVoice)
 unfolding key_blocks blocks as_notes resolved frames_until
 presses_from b [] ps = refl
 presses_from b (Edited c ∷ es) ps = presses_from c es ps
+presses_from b (Started n ∷ es) ps =
+    presses_from b es (after_start ps (note_voices b n))
+    ∙ ap (λ (qs : List PlayingVoice). blocks b qs (as_notes es))
+    (started-resolved es ps (note_voices b n)
+    ∙ ap (after_start (filter is_sounding (map (resolved es) ps))) (start_resolved b n es))
 presses_from b (Pressed h n ∷ es) ps =
     presses_from b es (after_start ps (pressed_voices b h n))
     ∙ ap (λ (qs : List PlayingVoice). blocks b qs (as_notes es))

@@ -37,10 +37,11 @@ after_release ps r = filter is_sounding (map (released_by r) ps)
 
 -- ---- what is heard
 
--- an edit, with the bank after it, which may be any; a note that is pressed, and its handle; a release; a block of a
--- number of frames
+-- an edit, with the bank after it, which may be any; a note start; a note that is pressed, and its handle; a release; a
+-- block of a number of frames
 pub data KeyEvent : Type 0 where
   Edited : Parts → KeyEvent
+  Started : Numbers → KeyEvent
   Pressed : ℕ → Numbers → KeyEvent
   Released : Release → KeyEvent
   Given : ℕ → KeyEvent
@@ -49,6 +50,7 @@ pub data KeyEvent : Type 0 where
 unfoldable pub frames_until : ℕ → List KeyEvent → Option ℕ
 frames_until h [] = None
 frames_until h (Edited c ∷ es) = frames_until h es
+frames_until h (Started n ∷ es) = frames_until h es
 frames_until h (Pressed g n ∷ es) = frames_until h es
 frames_until h (Released r ∷ es) = cond (ends r h) (Some 0) (frames_until h es)
 frames_until h (Given m ∷ es) = option_map (λ k. m + k) (frames_until h es)
@@ -61,6 +63,7 @@ held_note h n es = record n { length = least n.length (frames_until h es) }
 unfoldable pub as_notes : List KeyEvent → List Event
 as_notes [] = []
 as_notes (Edited c ∷ es) = events.Edited c ∷ as_notes es
+as_notes (Started n ∷ es) = events.Started n ∷ as_notes es
 as_notes (Pressed h n ∷ es) = events.Started (held_note h n es) ∷ as_notes es
 as_notes (Released r ∷ es) = as_notes es
 as_notes (Given m ∷ es) = events.Given m ∷ as_notes es
@@ -69,6 +72,7 @@ as_notes (Given m ∷ es) = events.Given m ∷ as_notes es
 unfoldable pub key_blocks : Parts → List PlayingVoice → List KeyEvent → List ℤ
 key_blocks b ps [] = []
 key_blocks b ps (Edited c ∷ es) = key_blocks c ps es
+key_blocks b ps (Started n ∷ es) = key_blocks b (after_start ps (note_voices b n)) es
 key_blocks b ps (Pressed h n ∷ es) = key_blocks b (after_start ps (pressed_voices b h n)) es
 key_blocks b ps (Released r ∷ es) = key_blocks b (after_release ps r) es
 key_blocks b ps (Given m ∷ es) = block ps m ++ key_blocks b (after_block ps m) es

@@ -7,7 +7,7 @@ ghost use Rattle.mixer.specs.Pressed.{after_release, pressed_voices};
 use crate::ahead::{Ahead, MOST_AHEAD, end_notes, silence_voices, sum_ahead};
 use crate::blocks::{MixBuffers, PART_SIDES, mix_part};
 use crate::measuring::report_start;
-use crate::playing::{PlayingVoice, Release, drop_over, note_voices, set_handles};
+use crate::playing::{PlayingVoice, Release, drop_over, note_voices, pressed_voices};
 use bank_core::Bank;
 use base_progress::{NoReports, Progress};
 use script_notes::Note;
@@ -96,21 +96,24 @@ impl<'a> Player<'a> {
         Ok(())
     }
 
-    /// Starts all voices of a note like [`Player::start`], and gives the note a handle, by which it is released. If it
-    /// is not released before, it ends after its length.
-    pub fn press(
+    /// Starts all voices of a note like [`Player::start_with_progress`], and gives the note a handle, by which it is
+    /// released. If it is not released before, it ends after its length.
+    pub fn press<P: Progress>(
         &mut self,
         alloc: Global,
         bank: &Bank<'a>,
         note: &Note,
         handle: u64,
+        progress: &mut P,
     ) -> Result<(), OutOfMemory>
         ensures done { OnOk result (self.new ≡ after_start self.old (pressed_voices bank.now handle note.now)) }
         ensures refused { OnErr result (self.new ≡ self.old) }
     {
-        let mut new = note_voices(alloc, bank, note)?;
-        set_handles(new.as_mut_slice(), handle);
-        self.start_voices(new, false)
+        let new = pressed_voices(alloc, bank, note, handle)?;
+        let count = new.len();
+        self.start_voices(new, progress.is_detailed())?;
+        report_start(bank, note, count, progress);
+        Ok(())
     }
 
     /// Releases pressed notes: they end at the next frame, as notes of that length do. Allocates nothing.

@@ -8,7 +8,7 @@ ghost use Rattle.zone_select.specs.Pairs.{voice_by, listed};
 ghost use Rattle.mixer.specs.StartFrames as heard;
 ghost use Rattle.mixer.specs.Events.{is_sounding, unsilenced};
 ghost use Rattle.mixer.specs.Ahead.{rewound};
-ghost use Rattle.mixer.specs.Pressed.{ends, released_by, with_handle};
+ghost use Rattle.mixer.specs.Pressed.{ends, pressed_voices, released_by, with_handle};
 ghost use Rattle.mixer.specs.KeptVoices.{AllSounding, AllYounger, lifetime};
 
 use bank_core::Bank;
@@ -98,7 +98,7 @@ pub(crate) fn go_back(voices: &mut [PlayingVoice], frames: usize)
 }
 
 // Gives each voice a handle.
-pub(crate) fn set_handles(voices: &mut [PlayingVoice], handle: u64)
+fn set_handles(voices: &mut [PlayingVoice], handle: u64)
     ensures { voices.new ≡ map (with_handle handle) voices.old }
 {
     for p in voices.iter_mut() {
@@ -168,6 +168,20 @@ pub(crate) fn note_voices<'a>(
     for pair in matches(bank, note) {
         add_voice(alloc, bank, note, pair, &mut voices)?;
     }
+    Ok(voices)
+}
+
+// The voices of a note that is pressed, each at its first frame.
+pub(crate) fn pressed_voices<'a>(
+    alloc: Global,
+    bank: &Bank<'a>,
+    note: &Note,
+    handle: u64,
+) -> Result<Vec<PlayingVoice<'a>>, OutOfMemory>
+    ensures { IfOk result (λ voices. voices.items ≡ pressed_voices bank.now handle note.now) }
+{
+    let mut voices = note_voices(alloc, bank, note)?;
+    set_handles(voices.as_mut_slice(), handle);
     Ok(voices)
 }
 
