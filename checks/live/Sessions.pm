@@ -1,6 +1,7 @@
-# Tests random sessions: edits of all kinds, many of them refused, undo and redo, notes, frames, saves and listings. The
-# expected answer to an edit is the result of `apply` of the same edit to the same bank; saved files are those that
-# `apply` writes, and frames are the sum of what `play` renders of the notes of each bank, each from its start.
+# Tests random sessions: edits of all kinds, many of them refused, undo and redo, notes, presses and releases, frames,
+# saves and listings. The expected answer to an edit is the result of `apply` of the same edit to the same bank; saved
+# files are those that `apply` writes, and frames are the sum of what `play` renders of the notes of each bank, each from
+# its start, and each pressed note up to its release.
 package Sessions;
 use strict;
 use warnings;
@@ -13,10 +14,17 @@ our @EXPORT = qw(try_sessions try_kinds session_of wrong_of_run);
 # The smallest number of lines with each kind of answer in 3,000 sessions.
 my %floors = (
     'edit ok' => 5000, 'edit refused' => 3000, 'neutral ok' => 500, 'neutral refused' => 500, 'undo ok' => 1500, 'undo refused' => 500,
-    'redo ok' => 500, 'redo refused' => 500, 'note ok' => 4000, 'frames ok' => 4000, 'save ok' => 1500, 'show ok' => 300, 'fault' => 500,
+    'redo ok' => 500, 'redo refused' => 500, 'note ok' => 4000, 'press ok' => 3000, 'release ok' => 500,
+    'release of none' => 500, 'silence ok' => 1000, 'frames ok' => 4000, 'save ok' => 1500, 'show ok' => 300, 'fault' => 500,
     'frames of several banks' => 1000,
 );
 my %count;
+
+# The faults of the faulty lines, by their first words.
+my %faults = (
+    undo => 'fault 41 Syntax', note => 'fault 45 BadNote', press => 'fault 45 BadNote', release => 'fault 41 Syntax',
+    frames => 'fault 42 Number', save => 'fault 43 Literal', help => 'fault 41 Syntax',
+);
 
 my $lot;
 sub below {
@@ -76,13 +84,17 @@ sub edit { return below(5) ? step() : join ' ', 'group', map { '{ ' . step() . '
 # Returns a random note, so quiet that twenty of them together are never clipped.
 sub note { return 'note ' . one_of(0, 1, 50 + below(400), 3000) . ' 0 ' . one_of(0, 0, 1, 2) . ' ' . (30 + below(70)) . ' ' . (1 + below(20)); }
 
+# Returns the numbers of a key; there are few, so that presses and releases meet.
+sub key { return '0 ' . one_of(0, 0, 1) . ' ' . one_of(40, 52, 60); }
+
 my $saves;
 sub line {
     my @lines = (
         (\&edit) x 8, sub { 'neutral ' . (below(3) ? neutral_step() : edit()) }, ('undo') x 3, ('redo') x 3, (\&note) x 5,
+        (sub { 'press ' . key() . ' ' . (1 + below(20)) }) x 4, (sub { 'release ' . key() }) x 4, 'silence',
         (sub { 'frames ' . one_of(0, 1, below(300), below(3000), 1024) }) x 5,
         (sub { $saves++; "save saved.$saves " . (below(2) ? "undo.$saves" : "\"undo.$saves\"") }) x 2,
-        'show', sub { one_of('', ' # nothing', 'undo 1', 'rename-sample 0', 'note 1 2', 'frames -1', 'save "a', 'trim 0 x1', 'help me') },
+        'show', sub { one_of('', ' # nothing', 'undo 1', 'rename-sample 0', 'note 1 2', 'press 0 0 60', 'release 0 0', 'frames -1', 'save "a', 'trim 0 x1', 'help me') },
     );
     my $line = $lines[below(scalar @lines)];
     return ref $line ? $line->() : $line;
@@ -185,6 +197,26 @@ sub take_answer {
     return @answers;
 }
 
+# Starts a note of a number of frames, or of those until its release if the number isn't known yet.
+sub start {
+    my ($s, $length, @numbers) = @_;
+    my $note = [$s->{frame}, $length, @numbers];
+    push @{ $s->{notes}{ script_of($s) } }, $note;
+    push @{ $s->{held} }, $note if !defined $length;
+}
+
+# Releases held notes: the first of a key, or all if there is no key. Returns how many.
+sub released {
+    my ($s, $key) = @_;
+    my @notes = grep { !defined $key || "$_->[2] $_->[3] $_->[4]" eq $key } @{ $s->{held} };
+    @notes = @notes[0 .. 0] if defined $key && @notes;
+    for my $note (@notes) {
+        $note->[1] = $s->{frame} - $note->[0];
+        $s->{held} = [grep { $_ != $note } @{ $s->{held} }];
+    }
+    return scalar @notes;
+}
+
 # Returns what is wrong with the answer to a line, or undef, and updates the session.
 sub wrong_of_line {
     my ($s, $line, @answers) = @_;
@@ -195,29 +227,44 @@ sub wrong_of_line {
     return is_shown($s, @answers) if $line eq 'show';
     return is_edited($s, $answer, $1, '--neutral') if $line =~ /^neutral (.*)/;
     if ($line =~ /^note (\d+) (\d+) (\d+) (\d+) (\d+)$/) {
-        push @{ $s->{notes}{ script_of($s) } }, "$s->{frame} $1 $2 $3 $4 $5";
+        start($s, $1, $2, $3, $4, $5);
         $count{'note ok'}++;
         return $answer =~ /^ok \d+$/ ? undef : "answered '$answer'";
+    }
+    if ($line =~ /^press (\d+) (\d+) (\d+) (\d+)$/) {
+        start($s, undef, $1, $2, $3, $4);
+        $count{'press ok'}++;
+        return $answer =~ /^ok \d+$/ ? undef : "answered '$answer'";
+    }
+    if ($line =~ /^release (\d+ \d+ \d+)$/) {
+        my $notes = released($s, $1);
+        $count{ $notes ? 'release ok' : 'release of none' }++;
+        return $answer eq "ok $notes" ? undef : "answered '$answer', not 'ok $notes'";
+    }
+    if ($line eq 'silence') {
+        my $notes = released($s);
+        $count{'silence ok'}++;
+        return $answer eq "ok $notes" ? undef : "answered '$answer', not 'ok $notes'";
     }
     if ($line =~ /^frames (\d+)$/) {
         $s->{frame} += $1;
         return answered('frames', $answer, 'ok');
     }
     return is_saved($s, $answer, $1, $2) if $line =~ /^save (saved\.\d+) "?(undo\.\d+)/;
-    return answered('other', $answer, $line =~ /^note/ ? 'fault 45 BadNote' : $line =~ /^frames/ ? 'fault 42 Number' : $line =~ /^save/ ? 'fault 43 Literal'
-        : $line =~ /^(?:undo|help) / ? 'fault 41 Syntax' : result_of_apply($s, $line)) if $line =~ /^(?:undo |note |frames |save |help )/;
+    return answered('other', $answer, $faults{$1}) if $line =~ /^(\w+) / && $faults{$1};
     return is_edited($s, $answer, $line);
 }
 
 # Returns the frames that a session must write: the sum over its banks of what `play` renders.
 sub frames_of {
     my ($s) = @_;
+    released($s);
     my @sum = (0) x (2 * $s->{frame});
     for my $script (sort keys %{ $s->{notes} }) {
         my $made = made_by($s, $script);
         return (undef, $made->{wrong} // $made->{line}) if $made->{wrong} || $made->{status};
         write_bytes('out', $made->{out});
-        write_bytes('notes', join '', map { "$_\n" } @{ $s->{notes}{$script} });
+        write_bytes('notes', join '', map { "@$_\n" } @{ $s->{notes}{$script} });
         my $run = run_command(['play', 'out', 'notes', 'wave'], 'wave');
         return (undef, $run->{wrong} // $run->{line}) if $run->{status} || $run->{wrong};
         my @samples = unpack 's<*', substr read_bytes('wave'), 44;
@@ -236,7 +283,7 @@ sub wrong_of_run {
     my $stopped = $may_want && $run->{status} == 6 && $run->{line} eq "sfbank: out of memory\n";
     my $wrong = $stopped ? undef : is_done($run);
     return $wrong if $wrong;
-    my $session = { bank => $bank, edits => [], at => 0, frame => 0, notes => {}, made => {} };
+    my $session = { bank => $bank, edits => [], at => 0, frame => 0, notes => {}, held => [], made => {} };
     my @left = answer_lines($run);
     pop @left;
     for my $line (grep { /^[^#]*\w/ && !/^ #/ } @lines) {

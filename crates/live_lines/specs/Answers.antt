@@ -48,7 +48,7 @@ rejected_text path fault =
 -- the line of an answer, with its line feed
 unfoldable pub answer_text : Answer → List ℕ
 answer_text answers.Done = line_text (codes "ok") []
-answer_text (answers.Started voices) = line_text (codes "ok") (Number voices ∷ [])
+answer_text (answers.Counted count) = line_text (codes "ok") (Number count ∷ [])
 answer_text (answers.Refused why) = refused_text why
 answer_text answers.NotNeutral = line_text (codes "refused") (Number 50 ∷ Word (codes "NotNeutral") ∷ [])
 answer_text answers.TooManyFrames = line_text (codes "refused") (Number 52 ∷ Word (codes "TooManyFrames") ∷ [])

@@ -11,12 +11,13 @@ use Rattle.script_tokens.specs.Lines.{is_feed}
 use Rattle.script_tokens.specs.Parsers.{Parsed, Parser, ◌>>=◌, pure, most_word, most_double_word, number, ended}
 use Rattle.script_grammar.specs.Names.{next_named}
 use Rattle.edit_script.specs.Grammar.{edit}
-use Rattle.script_notes.specs.declared.limits.TheConstants.{HIGHEST_KEY, HIGHEST_VELOCITY}
+use Rattle.script_notes.specs.declared.limits.TheConstants.{HIGHEST_KEY, HIGHEST_VELOCITY, LAST_FRAME}
 use Rattle.script_notes.specs.Notes.{Numbers, note_of}
 use Rattle.live_lines.specs.declared.command.Command.{Command}
 use Rattle.live_lines.specs.declared.command.Command.TheVariants as command
 use Rattle.live_lines.specs.declared.fault.RequestFault.{RequestFault}
 use Rattle.live_lines.specs.declared.fault.RequestFault.TheVariants as faults
+use Rattle.live_lines.specs.declared.request.Key.{Key}
 use Rattle.live_lines.specs.declared.request.Request.{Request}
 use Rattle.live_lines.specs.declared.request.Request.TheVariants as asks
 use Rattle.live_lines.specs.declared.request.TheConstants.{MOST_FRAMES}
@@ -31,6 +32,9 @@ command_word command.Neutral = codes "neutral"
 command_word command.Undo = codes "undo"
 command_word command.Redo = codes "redo"
 command_word command.Note = codes "note"
+command_word command.Press = codes "press"
+command_word command.Release = codes "release"
+command_word command.Silence = codes "silence"
 command_word command.Frames = codes "frames"
 command_word command.Save = codes "save"
 command_word command.Show = codes "show"
@@ -39,8 +43,8 @@ command_word command.Quit = codes "quit"
 
 abbrev pub commands : List Command
 commands =
-    command.Neutral ∷ command.Undo ∷ command.Redo ∷ command.Note ∷ command.Frames ∷ command.Save
-    ∷ command.Show ∷ command.Help ∷ command.Quit ∷ []
+    command.Neutral ∷ command.Undo ∷ command.Redo ∷ command.Note ∷ command.Press ∷ command.Release ∷ command.Silence
+    ∷ command.Frames ∷ command.Save ∷ command.Show ∷ command.Help ∷ command.Quit ∷ []
 
 -- ---- what follows the word
 
@@ -70,15 +74,33 @@ note_now = do
   u ← ended (tt {0})
   pure (note_of (record { start = 0; length = l; bank = b; number = n; key = k; velocity = v }))
 
--- the note, unless it is too long
-abbrev pub in_time : Option Numbers → RequestResult
-in_time (Some note) = Ok (asks.Note note)
-in_time None = Err faults.TooLong
+-- the numbers of a note that starts now and may be held as long as any, to the line's end
+unfoldable pub note_held : Parser (Option Numbers)
+note_held = do
+  b ← number most_word
+  n ← number most_word
+  k ← number HIGHEST_KEY
+  v ← number HIGHEST_VELOCITY
+  u ← ended (tt {0})
+  pure (note_of (record { start = 0; length = LAST_FRAME; bank = b; number = n; key = k; velocity = v }))
 
--- the note, or `BadNote` for any fault of its numbers
-abbrev pub noted : Result (Parsed (Option Numbers)) LineFault → RequestResult
-noted (Ok t) = in_time t.value
-noted (Err e) = Err faults.BadNote
+-- the request of the note, unless it is too long
+abbrev pub in_time : (Numbers → Request) → Option Numbers → RequestResult
+in_time f (Some note) = Ok (f note)
+in_time f None = Err faults.TooLong
+
+-- the request of the note, or `BadNote` for any fault of its numbers
+abbrev pub noted : (Numbers → Request) → Result (Parsed (Option Numbers)) LineFault → RequestResult
+noted f (Ok t) = in_time f t.value
+noted f (Err e) = Err faults.BadNote
+
+-- the numbers of a key, to the line's end
+unfoldable pub key : Parser Key
+key = do
+  b ← number most_word
+  n ← number most_word
+  k ← number HIGHEST_KEY
+  ended (record { bank = b; number = n; key = k })
 
 -- a number of frames, to the line's end
 unfoldable pub frames : Parser ℕ
@@ -91,7 +113,10 @@ abbrev pub request_by : Command → List TokenValue → RequestResult
 request_by command.Neutral line = made_request asks.Neutral (edit line)
 request_by command.Undo line = made_request (λ r. r) (ended asks.Undo line)
 request_by command.Redo line = made_request (λ r. r) (ended asks.Redo line)
-request_by command.Note line = noted (note_now line)
+request_by command.Note line = noted asks.Note (note_now line)
+request_by command.Press line = noted asks.Press (note_held line)
+request_by command.Release line = made_request asks.Release (key line)
+request_by command.Silence line = made_request (λ r. r) (ended asks.Silence line)
 request_by command.Frames line = made_request asks.Frames (frames line)
 request_by command.Save line = made_request asks.Save (paths line)
 request_by command.Show line = made_request (λ r. r) (ended asks.Show line)

@@ -19,8 +19,8 @@ use std::io::Write;
 pub enum Answer<'a> {
     /// `ok`
     Done,
-    /// `ok VOICES`: a note started this many voices.
-    Started(usize),
+    /// `ok COUNT`: a note started this many voices, or so many notes were released.
+    Counted(usize),
     /// `refused NUMBER NAME ..`: an edit, an undo or a redo is refused.
     Refused(Refusal),
     /// `refused 50 NotNeutral`: the edit may change the sound.
@@ -50,7 +50,7 @@ pub fn put_answer<W: Write>(answer: &Answer<'_>, output: &mut Output<'_, W>)
 {
     match answer {
         Answer::Done => put_line(b"ok", &[], output),
-        Answer::Started(voices) => put_line(b"ok", &[Piece::Number(*voices as u64)], output),
+        Answer::Counted(count) => put_line(b"ok", &[Piece::Number(*count as u64)], output),
         Answer::Refused(why) => put_refused(*why, output),
         Answer::NotNeutral => put_named(50, "NotNeutral", output),
         Answer::TooManyFrames => put_named(52, "TooManyFrames", output),

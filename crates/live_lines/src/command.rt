@@ -12,6 +12,11 @@ pub enum Command {
     Redo,
     /// `note LENGTH BANK NUMBER KEY VELOCITY`
     Note,
+    /// `press BANK NUMBER KEY VELOCITY`
+    Press,
+    /// `release BANK NUMBER KEY`
+    Release,
+    Silence,
     /// `frames N`
     Frames,
     /// `save OUT UNDO`
@@ -21,11 +26,14 @@ pub enum Command {
     Quit,
 }
 
-static COMMANDS: [Command; 9] = [
+static COMMANDS: [Command; 12] = [
     Command::Neutral,
     Command::Undo,
     Command::Redo,
     Command::Note,
+    Command::Press,
+    Command::Release,
+    Command::Silence,
     Command::Frames,
     Command::Save,
     Command::Show,
@@ -48,6 +56,9 @@ impl HasWord for Command {
             Command::Undo => b"undo",
             Command::Redo => b"redo",
             Command::Note => b"note",
+            Command::Press => b"press",
+            Command::Release => b"release",
+            Command::Silence => b"silence",
             Command::Frames => b"frames",
             Command::Save => b"save",
             Command::Show => b"show",

@@ -8,6 +8,9 @@ neutral rename-sample 0 \"C4\"     # an edit of a form that never changes the so
 undo                             # back by one edit\n\
 redo                             # forth by one edit\n\
 note 44100 0 0 60 100            # starts now: frames, bank, preset, key, velocity\n\
+press 0 0 60 100                 # starts now, and is held until it is released\n\
+release 0 0 60                   # bank, preset, key\n\
+silence                          # releases all\n\
 frames 44100                     # the next frames: 44100 are a second\n\
 save out.sf2 undo.txt            # the bank, and its undo script\n\
 save \"my bank.sf2\" \"my undo.txt\" # paths with blanks, or that begin with x\n\

@@ -6,6 +6,8 @@
 //! - `neutral EDIT`: an edit that is refused if it may change the sound;
 //! - `undo`, `redo`, `show`, `help`, `quit`;
 //! - `note LENGTH BANK NUMBER KEY VELOCITY`: a note that starts now, its length in frames;
+//! - `press BANK NUMBER KEY VELOCITY`: a note that lasts until it is released;
+//! - `release BANK NUMBER KEY`, and `silence`, which releases all;
 //! - `frames N`: the next `N` frames, up to 100,000,000;
 //! - `save OUT UNDO`: two paths, each a word, or a literal if it has blanks.
 //!
@@ -27,4 +29,4 @@ pub use fault::RequestFault;
 pub use help::HELP;
 pub use paths::{FilePath, Paths};
 pub use reading::{pool_of_line, read_line};
-pub use request::{MOST_FRAMES, Request};
+pub use request::{Key, MOST_FRAMES, Request};

@@ -12,16 +12,16 @@ ghost use Rattle.live_lines.specs.declared.request.Request.{Request};
 ghost use Rattle.live_lines.specs.declared.request.Request.TheVariants as asks;
 ghost use Rattle.live_lines.specs.Faults.{of_line};
 ghost use Rattle.live_lines.specs.Paths.{paths};
-ghost use Rattle.live_lines.specs.Requests.{command_word, commands, made_request, note_now, noted, frames, request_by, request, request_of, HasNoFeed, IsNotOutOfMemory};
+ghost use Rattle.live_lines.specs.Requests.{command_word, commands, made_request, note_now, note_held, noted, key, frames, request_by, request, request_of, HasNoFeed, IsNotOutOfMemory};
 
 use crate::command::Command;
 use crate::fault::RequestFault;
 use crate::paths::both_paths;
-use crate::request::{MOST_FRAMES, Request};
+use crate::request::{Key, MOST_FRAMES, Request};
 use edit_forms::Edit;
 use edit_script::edit;
 use script_grammar::next_named;
-use script_notes::{HIGHEST_KEY, HIGHEST_VELOCITY, Note};
+use script_notes::{HIGHEST_KEY, HIGHEST_VELOCITY, LAST_FRAME, Note};
 use script_tokens::{Cursor, LineFault, pool_of};
 use sf_base::Failure;
 use std::alloc::Global;
@@ -120,6 +120,9 @@ fn request_by<'t, 'p: 't>(
         Command::Undo => without_arguments(Request::Undo, rest),
         Command::Redo => without_arguments(Request::Redo, rest),
         Command::Note => note(rest),
+        Command::Press => press(rest),
+        Command::Release => release(rest),
+        Command::Silence => without_arguments(Request::Silence, rest),
         Command::Frames => some_frames(rest),
         Command::Save => save(line, pool),
         Command::Show => without_arguments(Request::Show, rest),
@@ -173,13 +176,36 @@ fn without_arguments<'t, 'p>(
 
 // A note that starts now.
 fn note<'t, 'p>(line: &mut Cursor<'t, 'p>) -> Result<Request<'t, 'p>, Failure<RequestFault>>
-    ensures answer { Answers (λ r. r) result (noted (note_now line.old.token_values)) }
+    ensures answer { Answers (λ r. r) result (noted asks.Note (note_now line.old.token_values)) }
     ensures memory { IsNotOutOfMemory result }
 {
     match note_now(line) {
         Ok(Some(note)) => Ok(Request::Note(note)),
         Ok(None) => Err(Failure::Fault(RequestFault::TooLong)),
         Err(_) => Err(Failure::Fault(RequestFault::BadNote)),
+    }
+}
+
+// A note that starts now and is held.
+fn press<'t, 'p>(line: &mut Cursor<'t, 'p>) -> Result<Request<'t, 'p>, Failure<RequestFault>>
+    ensures answer { Answers (λ r. r) result (noted asks.Press (note_held line.old.token_values)) }
+    ensures memory { IsNotOutOfMemory result }
+{
+    match note_held(line) {
+        Ok(Some(note)) => Ok(Request::Press(note)),
+        Ok(None) => Err(Failure::Fault(RequestFault::TooLong)),
+        Err(_) => Err(Failure::Fault(RequestFault::BadNote)),
+    }
+}
+
+// The release of a key.
+fn release<'t, 'p>(line: &mut Cursor<'t, 'p>) -> Result<Request<'t, 'p>, Failure<RequestFault>>
+    ensures answer { Answers (λ r. r) result (made_request asks.Release (key line.old.token_values)) }
+    ensures memory { IsNotOutOfMemory result }
+{
+    match key(line) {
+        Ok(key) => Ok(Request::Release(key)),
+        Err(fault) => Err(failure_of(fault)),
     }
 }
 
@@ -202,6 +228,42 @@ fn note_now(line: &mut Cursor<'_, '_>) -> Result<Option<Note>, LineFault>
         key as u8,
         velocity as u8,
     ))
+}
+
+// The numbers of a note that starts now and is held as long as a note can be, to the line's end.
+#[tactic(auto, unfolding(crate::specs::Requests::note_held))]
+fn note_held(line: &mut Cursor<'_, '_>) -> Result<Option<Note>, LineFault>
+    ensures { Reads (λ n. n) note_held line.old line.new result }
+{
+    let bank = line.number(u32::from(u16::MAX))?;
+    let number = line.number(u32::from(u16::MAX))?;
+    let key = line.number(u32::from(HIGHEST_KEY))?;
+    let velocity = line.number(u32::from(HIGHEST_VELOCITY))?;
+    line.end()?;
+    Ok(Note::new(
+        0,
+        LAST_FRAME as u32,
+        bank as u16,
+        number as u16,
+        key as u8,
+        velocity as u8,
+    ))
+}
+
+// The numbers of a key, to the line's end.
+#[tactic(auto, unfolding(crate::specs::Requests::key, script_tokens::specs::Parsers::ended))]
+fn key(line: &mut Cursor<'_, '_>) -> Result<Key, LineFault>
+    ensures { Reads (λ k. k) key line.old line.new result }
+{
+    let bank = line.number(u32::from(u16::MAX))?;
+    let number = line.number(u32::from(u16::MAX))?;
+    let key = line.number(u32::from(HIGHEST_KEY))?;
+    line.end()?;
+    Ok(Key {
+        bank: bank as u16,
+        number: number as u16,
+        key: key as u8,
+    })
 }
 
 // A request for frames.

@@ -1,7 +1,7 @@
 -- The session after a request, by its answer, and what the request writes.
 use Rattle.std.specs.Prelude.{◌≡◌, ◌⊎◌, ◌≤◌, ◌<◌, ◌+◌, ◌-◌, ◌*◌, ◌^◌, min, ℕ, ℤ, Bool, true, false, List, [], ◌∷◌}
-use Rattle.std.specs.Prelude.{length, take, Option, Some}
-use Rattle.std.specs.List.{flat_map}
+use Rattle.std.specs.Prelude.{length, take, filter, Option, Some, None, not, ◌==◌, ◌&&◌, ◌++◌}
+use Rattle.std.specs.List.{flat_map, find}
 use Rattle.std.specs.Io.KnownBytes.{Appends}
 use Rattle.std.specs.Option.{option_map_or}
 use Rattle.bank_parts.specs.declared.parts.Parts.{Parts}
@@ -13,14 +13,18 @@ use Rattle.inverse_edits.specs.Histories.{IsRedoFailure}
 use Rattle.sound_neutral_edits.specs.Neutral.{is_neutral}
 use Rattle.script_notes.specs.Notes.{Numbers}
 use Rattle.mixer.specs.StartFrames.{note_voices}
-use Rattle.mixer.specs.Events.{Event, Edited, Started, Given, after_start, after_block, block}
+use Rattle.mixer.specs.declared.playing.Release.TheVariants.{One, All}
+use Rattle.mixer.specs.Events.{after_start, after_block, block}
+use Rattle.mixer.specs.Pressed.{KeyEvent, Edited, Started, Pressed, Released, Given, pressed_voices, after_release}
 use Rattle.live_lines.specs.declared.answer.Answer.{Answer}
 use Rattle.live_lines.specs.declared.answer.Answer.TheVariants as answer
+use Rattle.live_lines.specs.declared.request.Key.{Key}
 use Rattle.live_lines.specs.declared.request.Request.{Request}
 use Rattle.live_lines.specs.declared.request.Request.TheVariants as asks
 use Rattle.live_lines.specs.declared.request.TheConstants.{MOST_FRAMES}
 use Rattle.live_lines.specs.declared.help.TheConstants.{HELP}
 use Rattle.live_lines.specs.declared.paths.Paths.{Paths}
+use Rattle.live_sessions.specs.declared.held.HeldNote.{HeldNote}
 use Rattle.live_sessions.specs.declared.live.LiveState.{LiveState}
 use Rattle.wave_file.specs.Wave.{sample_bytes}
 use Rattle.live_sessions.specs.declared.fault.LiveFault.{LiveFault}
@@ -32,14 +36,16 @@ use Rattle.live_sessions.specs.Streams.{Streams, SavesNothing}
 
 -- a new session with a bank: no edit, no voice and no frame yet
 abbrev pub started_with : Parts → LiveState
-started_with b = record { session = new_history b; player = []; given = 0 }
+started_with b = record { session = new_history b; player = []; given = 0; held = []; next_handle = 0 }
 
 -- ---- the session after a request
 
--- the player and the count of frames are unchanged
+-- only the bank and its history may have changed
 pub record OnlyTheBank (old new : LiveState) : Type 0 where
   pub player : new.player ≡ old.player
   pub given : new.given ≡ old.given
+  pub held : new.held ≡ old.held
+  pub next_handle : new.next_handle ≡ old.next_handle
 
 -- the bank accepts the edit, or refuses it and nothing changes
 abbrev pub EditIs : LiveState → Edit → Answer → LiveState → Type 0
@@ -72,13 +78,62 @@ pub record StartsVoices (old : LiveState) (n : Numbers) (voices : ℕ) (new : Li
   pub plays : new ≡ record old { player = after_start old.player (note_voices bank n) }
 
 abbrev pub NoteIs : LiveState → Numbers → Answer → LiveState → Type 0
-NoteIs old n (answer.Started voices) new = StartsVoices old n voices new
+NoteIs old n (answer.Counted voices) new = StartsVoices old n voices new
 NoteIs old n answer.OutOfMemory new = new ≡ old
 NoteIs old n other new = ⊥
 
+-- the numbers of a pressed note's key
+abbrev pub key_of : Numbers → Key
+key_of n = record { bank = n.bank; number = n.number; key = n.key }
+
+-- A pressed note starts like any, and is held by the next handle. Handles don't end before 2^64 presses.
+pub record Presses (old : LiveState) (n : Numbers) (voices : ℕ) (new : LiveState) : Type 0 where
+  pub bank : Parts
+  pub here : bank_now old.session ≡ Some bank
+  pub counted : voices ≡ min (length (note_voices bank n)) (2 ^ 64 - 1)
+  pub plays : new ≡ record old {
+    player = after_start old.player (pressed_voices bank old.next_handle n);
+    held = old.held ++ record { key = key_of n; handle = old.next_handle } ∷ [];
+    next_handle = min (old.next_handle + 1) (2 ^ 64 - 1);
+  }
+
+abbrev pub PressIs : LiveState → Numbers → Answer → LiveState → Type 0
+PressIs old n (answer.Counted voices) new = Presses old n voices new
+PressIs old n answer.OutOfMemory new = new ≡ old
+PressIs old n other new = ⊥
+
+-- the note was pressed by this key
+abbrev pub is_held_by : Key → HeldNote → Bool
+is_held_by k h = h.key.bank == k.bank && (h.key.number == k.number && h.key.key == k.key)
+
+-- the held note of a key that was pressed first
+abbrev pub first_held : Key → List HeldNote → Option HeldNote
+first_held k hs = find (is_held_by k) hs
+
+-- the notes without that of a handle
+abbrev pub held_without : ℕ → List HeldNote → List HeldNote
+held_without handle hs = filter (λ (h : HeldNote). not (h.handle == handle)) hs
+
+-- the session after a release of this note, if there is one
+abbrev pub after_key : LiveState → Option HeldNote → LiveState
+after_key old None = old
+after_key old (Some h) =
+    record old { player = after_release old.player (One h.handle); held = held_without h.handle old.held }
+
+abbrev pub ReleaseIs : LiveState → Key → Answer → LiveState → Type 0
+ReleaseIs old k (answer.Counted n) new =
+    (n ≡ option_map_or (λ h. 1) (first_held k old.held) 0) × (new ≡ after_key old (first_held k old.held))
+ReleaseIs old k other new = ⊥
+
+-- all pressed notes are released
+abbrev pub SilenceIs : LiveState → Answer → LiveState → Type 0
+SilenceIs old (answer.Counted n) new =
+    (n ≡ length old.held) × (new ≡ record old { player = after_release old.player All; held = [] })
+SilenceIs old other new = ⊥
+
 -- the session after `m` frames
 abbrev pub after_frames : LiveState → ℕ → LiveState
-after_frames old m = record { session = old.session; player = after_block old.player m; given = old.given + m }
+after_frames old m = record old { player = after_block old.player m; given = old.given + m }
 
 abbrev pub FramesAre : LiveState → ℕ → Answer → LiveState → Type 0
 FramesAre old m answer.Done new = (old.given + m ≤ MOST_FRAMES) × (new ≡ after_frames old m)
@@ -105,6 +160,9 @@ RequestIs old (asks.Neutral e) a new = NeutralIs old e a new
 RequestIs old asks.Undo a new = UndoIs old a new
 RequestIs old asks.Redo a new = RedoIs old a new
 RequestIs old (asks.Note n) a new = NoteIs old n a new
+RequestIs old (asks.Press n) a new = PressIs old n a new
+RequestIs old (asks.Release k) a new = ReleaseIs old k a new
+RequestIs old asks.Silence a new = SilenceIs old a new
 RequestIs old (asks.Frames m) a new = FramesAre old m a new
 RequestIs old (asks.Save paths) a new = SaveIs old paths a new
 RequestIs old asks.Show a new = ShowIs old a new
@@ -114,30 +172,45 @@ RequestIs old asks.Quit a new = ShowIs old a new
 -- ---- what a request writes
 
 -- the bank after an edit, an undo or a redo that is done
-abbrev pub if_edited : Answer → LiveState → List Event
+abbrev pub if_edited : Answer → LiveState → List KeyEvent
 if_edited answer.Done new = option_map_or (λ (b : Parts). Edited b ∷ []) (bank_now new.session) []
 if_edited other new = []
 
-abbrev pub if_started : Numbers → Answer → List Event
-if_started n (answer.Started voices) = Started n ∷ []
+abbrev pub if_started : Numbers → Answer → List KeyEvent
+if_started n (answer.Counted voices) = Started n ∷ []
 if_started n other = []
 
-abbrev pub if_given : ℕ → Answer → List Event
+abbrev pub if_pressed : ℕ → Numbers → Answer → List KeyEvent
+if_pressed handle n (answer.Counted voices) = Pressed handle n ∷ []
+if_pressed handle n other = []
+
+abbrev pub if_released : Option HeldNote → Answer → List KeyEvent
+if_released (Some h) (answer.Counted n) = Released (One h.handle) ∷ []
+if_released held other = []
+
+abbrev pub if_silenced : Answer → List KeyEvent
+if_silenced (answer.Counted n) = Released All ∷ []
+if_silenced other = []
+
+abbrev pub if_given : ℕ → Answer → List KeyEvent
 if_given m answer.Done = Given m ∷ []
 if_given m other = []
 
 -- the events of a request for the player
-abbrev pub events_of : Request → Answer → LiveState → List Event
-events_of (asks.Edit e) a new = if_edited a new
-events_of (asks.Neutral e) a new = if_edited a new
-events_of asks.Undo a new = if_edited a new
-events_of asks.Redo a new = if_edited a new
-events_of (asks.Note n) a new = if_started n a
-events_of (asks.Frames m) a new = if_given m a
-events_of (asks.Save paths) a new = []
-events_of asks.Show a new = []
-events_of asks.Help a new = []
-events_of asks.Quit a new = []
+abbrev pub events_of : LiveState → Request → Answer → LiveState → List KeyEvent
+events_of old (asks.Edit e) a new = if_edited a new
+events_of old (asks.Neutral e) a new = if_edited a new
+events_of old asks.Undo a new = if_edited a new
+events_of old asks.Redo a new = if_edited a new
+events_of old (asks.Note n) a new = if_started n a
+events_of old (asks.Press n) a new = if_pressed old.next_handle n a
+events_of old (asks.Release k) a new = if_released (first_held k old.held) a
+events_of old asks.Silence a new = if_silenced a
+events_of old (asks.Frames m) a new = if_given m a
+events_of old (asks.Save paths) a new = []
+events_of old asks.Show a new = []
+events_of old asks.Help a new = []
+events_of old asks.Quit a new = []
 
 abbrev pub block_if : LiveState → ℕ → Answer → List ℤ
 block_if old m answer.Done = block old.player m

@@ -7,7 +7,7 @@ use Rattle.std.specs.Io.KnownBytes.{Appends}
 use Rattle.script_tokens.specs.Lines.{lines_of}
 use Rattle.script_tokens.specs.TokenValue.{values_in}
 use Rattle.bank_format.specs.declared.fault.Counts.{Counts}
-use Rattle.mixer.specs.Events.{Event}
+use Rattle.mixer.specs.Pressed.{KeyEvent}
 use Rattle.wave_file.specs.Wave.{sample_bytes}
 use Rattle.live_lines.specs.declared.answer.Answer.{Answer}
 use Rattle.live_lines.specs.declared.answer.Answer.TheVariants as answer
@@ -57,8 +57,8 @@ abbrev pub answered : {X : Type 0} → RequestResult → Option Answer → (Requ
 answered (Ok (Some r)) (Some a) f = f r a
 answered asks a f = []
 
-abbrev pub events_in : Turn → List Event
-events_in t = answered (request_in t) t.answer (λ r a. events_of r a t.new)
+abbrev pub events_in : Turn → List KeyEvent
+events_in t = answered (request_in t) t.answer (λ r a. events_of t.old r a t.new)
 
 abbrev pub frames_in : Turn → List ℤ
 frames_in t = answered (request_in t) t.answer (frames_of t.old)

@@ -4,6 +4,7 @@
 mod answering;
 mod fault;
 mod frames;
+mod held;
 mod laws;
 mod line_reader;
 mod live;

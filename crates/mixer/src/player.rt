@@ -125,14 +125,6 @@ impl<'a> Player<'a> {
         end_notes(&mut self.voices, &mut self.ahead, release);
     }
 
-    /// Ends all voices at once.
-    pub fn stop(&mut self)
-        ensures { self.new ≡ [] }
-    {
-        self.voices.clear();
-        self.ahead.left = 0;
-    }
-
     // Starts voices at the next frame, after it has silenced those that they end by their exclusive classes.
     fn start_voices(
         &mut self,

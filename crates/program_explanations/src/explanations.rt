@@ -211,7 +211,7 @@ impl FaultCode {
             ),
             FaultCode::OtherVersion => (
                 "The banks have different minor versions, which no edit changes.",
-                "Rebuild one bank by `sfbank new --minor N` and its script.",
+                "Rebuild A: `sfbank script A S`, `sfbank new --minor N C`, `sfbank apply C S D U`; compare D.",
             ),
             FaultCode::TooManyFrames => (
                 "A live session writes at most 100,000,000 frames.",
@@ -340,43 +340,43 @@ fn of_reading(fault: ReadFault) -> (&'static str, &'static str) {
     match fault {
         ReadFault::NotRiff => (
             "The file does not begin with RIFF, as each bank does.",
-            "Check the order of the files; unpack a packed file, such as .sfark.",
+            "Check the order of the files; unpack .sfark; if it is empty or a web page, download it again.",
         ),
         ReadFault::NotSfbk => (
             "It is another RIFF file, such as WAVE or DLS.",
-            "Give a SoundFont 2 bank; `sfbank import` adds WAVE files.",
+            "Give a SoundFont 2 bank first; `sfbank import IN WAVE OUT UNDO` adds WAVE files.",
         ),
         ReadFault::Truncated => (
             "A chunk ends after its container: the file is cut off, or a size is wrong.",
-            "Get the file again.",
+            "Get it again.",
         ),
         ReadFault::MissingList => (
             "One of the lists INFO, sdta and pdta is missing.",
-            "Get or export the file again.",
+            "Get or export it again.",
         ),
         ReadFault::MissingChunk => (
             "The version, or a list of presets, instruments or samples, is missing.",
-            "Get or export the file again.",
+            "Get or export it again.",
         ),
         ReadFault::Version => (
             "The major version of the bank is not 2.",
-            "Convert it to SoundFont 2; .sf3 banks have major version 3.",
+            "Convert it to SoundFont 2, as by Polyphone; .sf3 banks have major version 3.",
         ),
         ReadFault::RecordSize => (
-            "A list of presets, instruments or samples is not a whole number of records long.",
-            "Get or export the file again.",
+            "A list of presets, instruments or samples ends within a record.",
+            "Get or export it again.",
         ),
         ReadFault::NoTerminal => (
             "A list of presets, instruments or samples lacks its terminal record.",
-            "Get or export the file again.",
+            "Get or export it again.",
         ),
         ReadFault::BagOrder => (
             "A preset, an instrument or a zone begins before the previous one.",
-            "Get or export the file again.",
+            "Get or export it again.",
         ),
         ReadFault::IndexOutside => (
             "A preset, an instrument or a zone begins after the end of its list.",
-            "Get or export the file again.",
+            "Get or export it again.",
         ),
         ReadFault::BadInstrument => (
             "A preset zone names an instrument that the bank does not have.",
@@ -388,7 +388,7 @@ fn of_reading(fault: ReadFault) -> (&'static str, &'static str) {
         ),
         ReadFault::SampleRange => (
             "A sample ends before its start or after the data.",
-            "Get the file again; it may be cut off.",
+            "Get it again; it may be cut off.",
         ),
         ReadFault::SampleType => (
             "A sample is compressed, as in .sf3 banks.",
@@ -399,8 +399,8 @@ fn of_reading(fault: ReadFault) -> (&'static str, &'static str) {
             "Remove it in the bank's editor.",
         ),
         ReadFault::OddSamples => (
-            "The sample data has an odd number of bytes; each point has two.",
-            "Get the file again; it may be cut off.",
+            "The sample data has an odd number of bytes.",
+            "Get it again; it may be cut off.",
         ),
         ReadFault::TooMany => (
             "The bank has too many records or points.",
@@ -438,7 +438,7 @@ fn of_notes(fault: NoteFault) -> (&'static str, &'static str) {
         ),
         NoteFault::TooLong(_) => (
             "The note ends after frame 100,000,000, about 37 minutes.",
-            "Split the list, and play each part.",
+            "Split the list; count the times of the second part from 0.",
         ),
     }
 }
@@ -446,12 +446,12 @@ fn of_notes(fault: NoteFault) -> (&'static str, &'static str) {
 fn of_recording(fault: WaveFault) -> (&'static str, &'static str) {
     match fault {
         WaveFault::NotWave => (
-            "The file is not a RIFF file of the form WAVE.",
-            "Convert it: `sox IN -b 16 OUT.wav`.",
+            "The file is no WAVE file.",
+            "Convert it by its true type, as in `sox -t mp3 IN -b 16 OUT.wav`.",
         ),
         WaveFault::Truncated => (
             "A chunk ends after the file, which is cut off, or a size is wrong.",
-            "Get the file again, or convert it: `sox IN -b 16 OUT.wav`.",
+            "Get it again, or convert it: `sox IN -b 16 OUT.wav`.",
         ),
         WaveFault::Compressed => (
             "The samples are compressed, or floating point.",
@@ -471,7 +471,7 @@ fn of_recording(fault: WaveFault) -> (&'static str, &'static str) {
         ),
         WaveFault::NoData => (
             "The file has no data chunk, so no sound.",
-            "Get the file again, or record again.",
+            "Get it again, or record again.",
         ),
         WaveFault::HalfFrame => (
             "The data ends within a frame.",
@@ -479,15 +479,15 @@ fn of_recording(fault: WaveFault) -> (&'static str, &'static str) {
         ),
         WaveFault::ShortSampler => (
             "The sampler chunk is too short for its loops.",
-            "Remove the chunk: `sox IN -b 16 OUT.wav`; set key and loop by edits.",
+            "Remove it: `sox IN -b 16 OUT.wav`; set key and loop by edits.",
         ),
         WaveFault::UnityNote => (
             "The unity note of the sampler chunk is above 127.",
-            "Remove the chunk: `sox IN -b 16 OUT.wav`; set key and loop by edits.",
+            "Remove it: `sox IN -b 16 OUT.wav`; set key and loop by edits.",
         ),
         WaveFault::LoopOutside => (
             "The loop of the sampler chunk is empty, or outside the data.",
-            "Remove the chunk: `sox IN -b 16 OUT.wav`; set key and loop by edits.",
+            "Remove it: `sox IN -b 16 OUT.wav`; set key and loop by edits.",
         ),
     }
 }
@@ -509,7 +509,7 @@ fn of_presets(fault: PresetFault) -> (&'static str, &'static str) {
     match fault {
         PresetFault::Missing(_) => (
             "The bank has no preset with these numbers; `take` looks in FROM.",
-            "See `sfbank show`: after a preset's name it lists NUMBER, then BANK.",
+            "Give BANK:NUMBER; after a preset's name `sfbank show` lists NUMBER, then BANK.",
         ),
         PresetFault::InUse(_) => (
             "Another preset has these numbers, or two copies would get them.",
@@ -543,7 +543,7 @@ fn of_refusal(why: Refusal) -> (&'static str, &'static str) {
         ),
         Refusal::GroupRefused(..) => (
             "An edit of the group is refused, so none is made; its index, from 0, and its cause follow.",
-            "Look up the cause, and correct that edit.",
+            "Correct that edit by its cause.",
         ),
     }
 }
@@ -600,7 +600,7 @@ fn of_cause(cause: Cause) -> (&'static str, &'static str) {
         ),
         Cause::LinkedModulator => (
             "Linked modulators of the zone hold numbers that the edit would change.",
-            "Replace the whole zone by remove-zone and add-zone.",
+            "Replace the zone by remove-zone and add-zone.",
         ),
         Cause::TooShort => (
             "The trim removes more points than the sample has.",
@@ -619,8 +619,8 @@ fn of_cause(cause: Cause) -> (&'static str, &'static str) {
             "Give it a length that SCRIPT.md allows.",
         ),
         Cause::Full(_) => (
-            "The bank would have more members, records or points than a file can count.",
-            "Remove what is not needed, or split the bank.",
+            "A file can't count so many members, records or points.",
+            "Remove what isn't needed, or split the bank.",
         ),
     }
 }

@@ -84,7 +84,7 @@ pub fn usable_generators() -> &'static [GeneratorRow]
 
 impl Unit {
     /// Returns its name, as the table has it.
-    pub(crate) fn name(self) -> &'static str
+    pub fn name(self) -> &'static str
         ensures { result.now ≡ unit_name self }
     {
         match self {

@@ -5,7 +5,9 @@
 mod expected;
 mod faulty_token;
 mod forms;
+mod joins;
 mod live_hints;
+mod misplaced;
 mod note_hints;
 mod numbers;
 mod overridden;
@@ -19,6 +21,7 @@ mod users;
 mod word_hints;
 
 pub use live_hints::remark_on_live_line;
+pub use misplaced::remark_on_path;
 pub use overridden::first_overridden;
 pub use refusals::remark_on_refusal;
 pub use remarks::Remarks;

@@ -37,6 +37,12 @@ pub(crate) static LIST_FIELDS: [Field; 6] = [
 /// The numbers of a note in a live session.
 pub(crate) static LIVE_FIELDS: [Field; 5] = [LENGTH, BANK, PRESET, KEY, VELOCITY];
 
+/// The numbers of a note that is pressed in a live session.
+pub(crate) static PRESSED_FIELDS: [Field; 4] = [BANK, PRESET, KEY, VELOCITY];
+
+/// The numbers of the release of a key.
+pub(crate) static RELEASED_FIELDS: [Field; 3] = [BANK, PRESET, KEY];
+
 const LENGTH: Field = Field {
     name: b"length in frames",
     highest: FRAMES,

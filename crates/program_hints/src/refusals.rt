@@ -1,27 +1,22 @@
 //! What a bank has in the place where an edit is refused.
 
+use crate::joins::{range_of, remark_on_join};
 use crate::numbers::numbered;
 use crate::remarks::Remarks;
 use crate::users::remark_on_users;
 use bank_changes::{Owner, Place};
 use bank_core::Bank;
+use bank_parts::InfoId;
 use bank_zone_ranges::Axis;
 use edit_forms::{
-    Edit, InstrumentStep, PointStep, PresetStep, SampleStep, SettingStep, Step, ZoneStep,
+    Edit, InstrumentStep, PointStep, PresetStep, SampleStep, SettingStep, Step, TextStep, ZoneStep,
 };
 use edit_refusals::{Cause, Refusal};
 
-/// The generators of the key and the velocity range, and the target of a zone of a preset and of an instrument.
-const KEY_RANGE: u16 = 43;
-
-const VELOCITY_RANGE: u16 = 44;
-
+/// The generators of the target of a zone of a preset and of an instrument.
 const INSTRUMENT: u16 = 41;
 
 const SAMPLE: u16 = 53;
-
-/// The range of a zone that sets none: its low end, and 256 times its high end.
-const WHOLE_RANGE: u16 = 127 << 8;
 
 /// Says what the bank has in the place where an edit is refused.
 pub fn remark_on_refusal(bank: &Bank<'_>, why: Refusal, edit: &Edit<'_>, remarks: &mut Remarks) {
@@ -49,7 +44,8 @@ fn remark_on_step(bank: &Bank<'_>, cause: Cause, step: &Step<'_>, remarks: &mut 
             Step::Setting(owner, place, step) => {
                 remark_on_setting(bank, *owner, *place, cause, *step, remarks);
             }
-            Step::Points(sample, _) => remark_on_points(bank, *sample, cause, remarks),
+            Step::Points(sample, step) => remark_on_points(bank, *sample, cause, step, remarks),
+            Step::Text(TextStep::SetInfo { id, .. }) => remark_on_text(*id, cause, remarks),
             _ => {}
         },
     }
@@ -109,23 +105,18 @@ fn remark_on_zone(
         (Cause::SplitOutside, ZoneStep::SplitZone { zone, axis, .. }) => {
             put_range(bank, owner, *zone, *axis, remarks);
         }
+        (Cause::NotJoinable, ZoneStep::JoinZone { zone, axis, .. }) => {
+            remark_on_join(bank, owner, *zone, *axis, remarks);
+        }
         _ => {}
     }
 }
 
 // Says which range a zone has, its own or that of the global zone.
 fn put_range(bank: &Bank<'_>, owner: Owner, zone: u32, axis: Axis, remarks: &mut Remarks) {
-    let operator = match axis {
-        Axis::Key => KEY_RANGE,
-        Axis::Vel => VELOCITY_RANGE,
-    };
-    let own = bank.gen_of(owner, Place::Zone(zone), operator);
-    let common = bank.gen_of(owner, Place::Global, operator);
-    let range = own.or(common).unwrap_or(WHOLE_RANGE);
+    let range = range_of(bank, owner, zone, axis);
     remarks.put(b"  The range of the zone is ");
-    remarks.put_number(range & 0xff);
-    remarks.put(b"..");
-    remarks.put_number(range >> 8);
+    remarks.put_range(range);
     remarks.put(b": a split is above its low end, and not above its high end.\n");
 }
 
@@ -174,20 +165,68 @@ fn remark_on_generator(owner: Owner, operator: u16, remarks: &mut Remarks) {
     }
 }
 
-// Says how many points a sample has, and its loop.
-fn remark_on_points(bank: &Bank<'_>, sample: u32, cause: Cause, remarks: &mut Remarks) {
-    match cause {
-        Cause::TooShort | Cause::LoopCut | Cause::BadLoop => {
-            remarks.put(b"  The sample has ");
-            remarks.put_number(bank.point_count(sample));
-            remarks.put(b" points");
-            if let Some((start, end)) = bank.loop_of(sample) {
-                remarks.put(b", and a loop from ");
-                remarks.put_number(start);
-                remarks.put(b" to ");
-                remarks.put_number(end);
-            }
-            remarks.put(b".\n");
+// Says how many points a sample has, its loop, and which loop a trim leaves room for.
+fn remark_on_points(
+    bank: &Bank<'_>,
+    sample: u32,
+    cause: Cause,
+    step: &PointStep<'_>,
+    remarks: &mut Remarks,
+) {
+    match (cause, step) {
+        (Cause::LoopCut, PointStep::Trim { front, back }) => {
+            put_points(bank, sample, remarks);
+            put_loop_left(bank, sample, *front, *back, remarks);
+        }
+        (Cause::TooShort | Cause::BadLoop, _) => put_points(bank, sample, remarks),
+        _ => {}
+    }
+}
+
+fn put_points(bank: &Bank<'_>, sample: u32, remarks: &mut Remarks) {
+    remarks.put(b"  The sample has ");
+    remarks.put_number(bank.point_count(sample));
+    remarks.put(b" points");
+    if let Some((start, end)) = bank.loop_of(sample) {
+        remarks.put(b", and a loop from ");
+        remarks.put_number(start);
+        remarks.put(b" to ");
+        remarks.put_number(end);
+    }
+    remarks.put(b".\n");
+}
+
+// Gives the edit that leaves the rest of the loop, or none, to a sample before it is trimmed.
+fn put_loop_left(bank: &Bank<'_>, sample: u32, front: u32, back: u32, remarks: &mut Remarks) {
+    let Some((start, end)) = bank.loop_of(sample) else {
+        return;
+    };
+    let last = numbered(bank.point_count(sample)).saturating_sub(back);
+    let (start, end) = (start.max(front), end.min(last));
+    remarks.put(b"  Write before it: set-loop ");
+    remarks.put_number(sample);
+    if start < end {
+        remarks.put(b" loop ");
+        remarks.put_number(start);
+        remarks.put(b" ");
+        remarks.put_number(end);
+    } else {
+        remarks.put(b" noloop");
+    }
+    remarks.put(b"\n");
+}
+
+// Says how long a text may be.
+fn remark_on_text(id: InfoId, cause: Cause, remarks: &mut Remarks) {
+    match (cause, id) {
+        (Cause::BadText, InfoId::Engine) => {
+            remarks.line(&[b"isng has 1 to 255 bytes. In most banks it is \"EMU8000\"."]);
+        }
+        (Cause::BadText, InfoId::Comment) => {
+            remarks.line(&[b"ICMT has at most 65,535 bytes, none of them zero."]);
+        }
+        (Cause::BadText, _) => {
+            remarks.line(&[b"This text has at most 255 bytes, none of them zero."]);
         }
         _ => {}
     }

@@ -57,4 +57,11 @@ impl Remarks {
         let mut digits = Buffer::new();
         self.put(digits.format(number).as_bytes());
     }
+
+    /// Adds a range of keys or velocities, which is its low end, and 256 times its high end.
+    pub(crate) fn put_range(&mut self, range: u16) {
+        self.put_number(range & 0xff);
+        self.put(b"..");
+        self.put_number(range >> 8);
+    }
 }

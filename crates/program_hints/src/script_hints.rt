@@ -6,11 +6,16 @@ use crate::forms::{Form, form_of, nearest_form};
 use crate::remarks::Remarks;
 use crate::source_line::{put_caret, put_missing};
 use crate::spans::{Span, span_at};
-use crate::word_hints::{has_other_letters, has_printed_quote, is_digits, remark_on_word};
+use crate::word_hints::{
+    has_other_letters, has_printed_quote, is_digits, remark_on_generator, remark_on_word,
+};
 use std::alloc::Global;
 
 /// The most bytes of a name.
 const NAME_LENGTH: usize = 20;
+
+/// The index of the amount among the tokens of `set-gen`.
+const AMOUNT: usize = 5;
 
 /// Says what is wrong in a line without an edit, which is shown already.
 pub(crate) fn remark_on_edit(alloc: Global, line: &[u8], remarks: &mut Remarks) {
@@ -50,8 +55,33 @@ fn remark_on_token(alloc: Global, line: &[u8], span: Span, remarks: &mut Remarks
         remarks.line(&[b"Braces have blanks around them, as in: { 0 g 48 100 }"]);
     } else if is_long_name(token) {
         remarks.line(&[b"A name has 20 characters at most."]);
+    } else if token == b"{".as_slice() && place.accepts(b"0") {
+        remark_on_brace(line, remarks);
     } else if !remark_on_word(token, remarks) {
         remark_on_expected(place, remarks);
+        remark_on_amount(line, span, remarks);
+    }
+}
+
+// Says what is missing before the first brace of a line.
+fn remark_on_brace(line: &[u8], remarks: &mut Remarks) {
+    match form_of_line(line) {
+        Some(form) if form.word == b"add-preset".as_slice() => remarks.line(&[
+            b"Numbers are missing before the brace. The last three are mostly zeros: NUMBER BANK 0 0 0",
+        ]),
+        _ => remarks.line(&[b"A number is missing before the brace."]),
+    }
+}
+
+// Says of an amount that `set-gen` can't have which amounts its generator can have.
+fn remark_on_amount(line: &[u8], amount: Span, remarks: &mut Remarks) {
+    match (form_of_line(line), span_at(line, AMOUNT)) {
+        (Some(form), Some(place)) if form.word == b"set-gen".as_slice() && place.start == amount.start => {
+            if let Some(operator) = span_at(line, AMOUNT - 1) {
+                remark_on_generator(operator.of(line), remarks);
+            }
+        }
+        _ => {}
     }
 }
 

@@ -1,6 +1,7 @@
 //! What is usually meant by a token that isn't accepted.
 
 use crate::remarks::Remarks;
+use itoa::Buffer;
 use program_explanations::{GeneratorRow, usable_generators};
 
 /// The left and right quotes of word processors, and the low one, in UTF-8.
@@ -55,10 +56,23 @@ fn generator_named(name: &[u8]) -> Option<u16> {
 
 // Whether a generator has this name. The table has blanks after it.
 fn is_named(row: &GeneratorRow, name: &[u8]) -> bool {
-    let length = row.name.iter().take_while(|byte| **byte != b' ').count();
-    match row.name.get(..length) {
-        Some(letters) => letters.eq_ignore_ascii_case(name),
-        None => false,
+    row.name.trim_ascii_end().eq_ignore_ascii_case(name)
+}
+
+/// Says which amounts the generator of this number can have.
+pub(crate) fn remark_on_generator(number: &[u8], remarks: &mut Remarks) {
+    let mut digits = Buffer::new();
+    for row in usable_generators() {
+        if digits.format(row.number).as_bytes() == number {
+            remarks.line(&[
+                row.name.trim_ascii_end(),
+                b" (",
+                row.unit.name().as_bytes(),
+                b"): ",
+                row.range.trim_ascii_end(),
+            ]);
+            return;
+        }
     }
 }
 

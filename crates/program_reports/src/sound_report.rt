@@ -107,8 +107,9 @@ impl SoundReport {
             let attenuation = tenths.saturating_add(1);
             write!(
                 output,
-                "To prevent clipping, add {attenuation} to the attenuation, generator 48, of each preset.\n"
+                "To prevent clipping, add {attenuation} to generator 48 of each preset, "
             )?;
+            write!(output, "as in: set-gen preset 0 global 48 {attenuation}\n")?;
         }
         Ok(())
     }

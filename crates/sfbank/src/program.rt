@@ -40,6 +40,7 @@ use live::live;
 use map::map;
 use merge::merge;
 use new::new;
+use inputs::remark_on_input;
 use outputs::{print, remark_on_output};
 use play::play;
 use program_commands::{Request, asks_for_explanations, request_of};
@@ -137,6 +138,7 @@ pub fn run<H: Host, S: AsStr, I: Read, O: Write + KnowsError, E: Write, P: Progr
         Ok(request) => {
             let mut remarks = Remarks::new(explains);
             let end = serve(host, alloc, request, input, output, &mut remarks, progress);
+            remark_on_input(&end, &mut remarks);
             remark_on_output(&end, host, output, &mut remarks);
             status_of(&end, explains, remarks.text(), errors)
         }

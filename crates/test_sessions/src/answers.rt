@@ -61,8 +61,8 @@ fn faults_are_reported(rt: HostRuntime) {
 fn answers_are_written(rt: HostRuntime) {
     let alloc = rt.alloc();
     assert!(rt; is_written_as(alloc, &Answer::Done, b"ok\n"));
-    assert!(rt; is_written_as(alloc, &Answer::Started(0), b"ok 0\n"));
-    assert!(rt; is_written_as(alloc, &Answer::Started(12), b"ok 12\n"));
+    assert!(rt; is_written_as(alloc, &Answer::Counted(0), b"ok 0\n"));
+    assert!(rt; is_written_as(alloc, &Answer::Counted(12), b"ok 12\n"));
     assert!(rt; is_written_as(alloc, &Answer::NotNeutral, b"refused 50 NotNeutral\n"));
     assert!(rt; is_written_as(alloc, &Answer::TooManyFrames, b"refused 52 TooManyFrames\n"));
     assert!(rt; is_written_as(alloc, &Answer::OutOfMemory, b"out of memory\n"));

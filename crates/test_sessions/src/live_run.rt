@@ -43,6 +43,11 @@ static LINES: &[u8] = b"\
     undo\n\
     frames 1\n\
     note 100 0 0 60 127\n\
+    press 0 0 60 127\n\
+    release 0 0 60\n\
+    release 0 0 60\n\
+    press 0 0 60 127\n\
+    silence\n\
     rename-sample 1 \"u\"\n\
     neutral trim 0 0 0\n\
     save out.sf2 undo.txt\n\
@@ -59,6 +64,11 @@ static ANSWERS: &[u8] = b"\
     ok\n\
     ok\n\
     ok 0\n\
+    ok 0\n\
+    ok 1\n\
+    ok 0\n\
+    ok 0\n\
+    ok 1\n\
     refused 22 NoSuchSample\n\
     refused 50 NotNeutral\n\
     ok\n\

@@ -2,6 +2,7 @@
 ghost use Rattle.sfbank.specs.Steps.{ReadsInput, ReadsTwo};
 
 use file_host::Host;
+use program_hints::{Remarks, remark_on_path};
 use program_reports::{Fault, RunFault};
 use sf_base::Failure;
 use std::alloc::Global;
@@ -36,5 +37,13 @@ pub(super) fn read_two<'a, H: Host>(
             Err(fault) => Err(fault),
         },
         Err(fault) => Err(fault),
+    }
+}
+
+/// Adds what helps where an input can't be read.
+pub(super) fn remark_on_input(end: &Result<(), Fault<'_>>, remarks: &mut Remarks) {
+    match end {
+        Err(Fault::File(path, _)) => remark_on_path(path.as_bytes(), remarks),
+        _ => {}
     }
 }

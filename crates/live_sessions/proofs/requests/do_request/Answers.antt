@@ -22,6 +22,18 @@ pub returns-in-Note-clause-done : goal.returns-in-Note-clause-done
 returns-in-Note-clause-done g c =
     does_equal _ _ _ _ _ _ _ c.in-Note.is (does_without_output _ _ _ _ _ _ c.note.ensures refl (refl, refl))
 
+pub returns-in-Press-clause-done : goal.returns-in-Press-clause-done
+returns-in-Press-clause-done g c =
+    does_equal _ _ _ _ _ _ _ c.in-Press.is (does_without_output _ _ _ _ _ _ c.press.ensures refl (refl, refl))
+
+pub returns-in-Release-clause-done : goal.returns-in-Release-clause-done
+returns-in-Release-clause-done g c =
+    does_equal _ _ _ _ _ _ _ c.in-Release.is (does_without_output _ _ _ _ _ _ c.release.ensures refl (refl, refl))
+
+pub returns-in-Silence-clause-done : goal.returns-in-Silence-clause-done
+returns-in-Silence-clause-done g c =
+    does_equal _ _ _ _ _ _ _ c.in-Silence.is (does_without_output _ _ _ _ _ _ c.silence.ensures refl (refl, refl))
+
 pub returns-in-Show-clause-done : goal.returns-in-Show-clause-done
 returns-in-Show-clause-done g c =
     does_equal _ _ _ _ _ _ _ c.in-Show.is (does_without_output _ _ _ _ _ _ refl refl (refl, refl))

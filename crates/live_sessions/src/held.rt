@@ -1,0 +1,96 @@
+//! The notes that are pressed and not yet released.
+ghost use Rattle.std.specs.Prelude.{◌≡◌, [], ◌++◌, ◌∷◌, IfOk, OnOk, OnErr, length, take};
+ghost use Rattle.live_sessions.specs.Steps.{first_held, held_without, is_held_by};
+
+use live_lines::Key;
+use sf_base::OutOfMemory;
+use std::alloc::Global;
+use std::marker::Model;
+
+/// A note that is pressed and not yet released, and the handle by which the player releases it.
+#[derive(Debug, Clone, Copy)]
+pub(crate) struct HeldNote {
+    pub(crate) key: Key,
+    pub(crate) handle: u64,
+}
+
+/// The notes that are pressed and not yet released, in the order of their presses.
+pub(crate) struct HeldNotes {
+    notes: Vec<HeldNote>,
+}
+
+// Not derived: a derived drop is inlined, and proved, wherever a value is dropped; this one is a call.
+impl Drop for HeldNotes {
+    fn drop(self) {
+        let HeldNotes { notes: _ } = self;
+    }
+}
+
+impl Model for HeldNotes {
+    ghost use Rattle.std.specs.Prelude.{List};
+    ghost use Rattle.live_sessions.specs.declared.held.HeldNote.{HeldNote};
+
+    ghost Value = { List HeldNote };
+
+    ghost view = { λ held. held.notes.items };
+}
+
+impl HeldNotes {
+    /// No notes. Allocates nothing.
+    pub(crate) fn new(alloc: Global) -> HeldNotes
+        ensures { result ≡ [] }
+    {
+        HeldNotes {
+            notes: Vec::new(alloc),
+        }
+    }
+
+    /// How many notes are held.
+    pub(crate) fn len(&self) -> usize
+        ensures { result ≡ length self.now }
+    {
+        self.notes.len()
+    }
+
+    /// Adds a note. A failed allocation changes nothing.
+    pub(crate) fn push(&mut self, note: HeldNote) -> Result<(), OutOfMemory>
+        ensures ok { OnOk result (self.new ≡ self.old ++ note ∷ []) }
+        ensures err { OnErr result (self.new ≡ self.old) }
+    {
+        match self.notes.push(note) {
+            Ok(()) => Ok(()),
+            Err(_) => Err(OutOfMemory),
+        }
+    }
+
+    /// Removes all notes but the first ones.
+    pub(crate) fn truncate(&mut self, count: usize)
+        ensures { self.new ≡ take count self.old }
+    {
+        self.notes.truncate(count);
+    }
+
+    /// The note of a key that was pressed first.
+    pub(crate) fn first(&self, key: Key) -> Option<HeldNote>
+        ensures { result ≡ first_held key self.now }
+    {
+        self.notes
+            .iter()
+            .copied()
+            .find(|note| is_held_by(key, *note))
+    }
+
+    /// Removes the note with a handle.
+    pub(crate) fn remove(&mut self, handle: u64)
+        ensures { self.new ≡ held_without handle self.old }
+    {
+        self.notes.retain(|note| note.handle != handle);
+    }
+}
+
+// Whether a key holds a note.
+fn is_held_by(key: Key, note: HeldNote) -> bool
+    ensures { result ≡ is_held_by key note }
+{
+    note.key.bank == key.bank && note.key.number == key.number && note.key.key == key.key
+}
