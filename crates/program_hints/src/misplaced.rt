@@ -8,8 +8,6 @@ use crate::spans::span_at;
 pub fn remark_on_path(path: &[u8], remarks: &mut Remarks) {
     let word = span_at(path, 0).map(|span| span.of(path));
     if word.is_some_and(|word| word != path && form_of(word).is_some()) {
-        remarks.line(&[
-            b"This is an edit: save it in a file, and give the path of the file.",
-        ]);
+        remarks.line(&[b"This is an edit: save it in a file, and give the path of the file."]);
     }
 }

@@ -76,7 +76,8 @@ fn remark_on_brace(line: &[u8], remarks: &mut Remarks) {
 // Says of an amount that `set-gen` can't have which amounts its generator can have.
 fn remark_on_amount(line: &[u8], amount: Span, remarks: &mut Remarks) {
     match (form_of_line(line), span_at(line, AMOUNT)) {
-        (Some(form), Some(place)) if form.word == b"set-gen".as_slice() && place.start == amount.start => {
+        (Some(form), Some(place))
+            if form.word == b"set-gen".as_slice() && place.start == amount.start => {
             if let Some(operator) = span_at(line, AMOUNT - 1) {
                 remark_on_generator(operator.of(line), remarks);
             }
