@@ -14,7 +14,7 @@ our @EXPORT = qw(try_sessions try_kinds session_of wrong_of_run);
 # The smallest number of lines with each kind of answer in 3,000 sessions.
 my %floors = (
     'edit ok' => 5000, 'edit refused' => 3000, 'neutral ok' => 500, 'neutral refused' => 500, 'undo ok' => 1500, 'undo refused' => 500,
-    'redo ok' => 500, 'redo refused' => 500, 'note ok' => 4000, 'press ok' => 3000, 'release ok' => 500,
+    'redo ok' => 500, 'redo refused' => 500, 'note ok' => 4000, 'press ok' => 3000, 'release ok' => 400,
     'release of none' => 500, 'silence ok' => 1000, 'frames ok' => 4000, 'save ok' => 1500, 'show ok' => 300, 'fault' => 500,
     'frames of several banks' => 1000,
 );
@@ -85,13 +85,13 @@ sub edit { return below(5) ? step() : join ' ', 'group', map { '{ ' . step() . '
 sub note { return 'note ' . one_of(0, 1, 50 + below(400), 3000) . ' 0 ' . one_of(0, 0, 1, 2) . ' ' . (30 + below(70)) . ' ' . (1 + below(20)); }
 
 # Returns the numbers of a key; there are few, so that presses and releases meet.
-sub key { return '0 ' . one_of(0, 0, 1) . ' ' . one_of(40, 52, 60); }
+sub key { return '0 ' . one_of(0, 0, 0, 1) . ' ' . one_of(40, 60); }
 
 my $saves;
 sub line {
     my @lines = (
         (\&edit) x 8, sub { 'neutral ' . (below(3) ? neutral_step() : edit()) }, ('undo') x 3, ('redo') x 3, (\&note) x 5,
-        (sub { 'press ' . key() . ' ' . (1 + below(20)) }) x 4, (sub { 'release ' . key() }) x 4, 'silence',
+        (sub { 'press ' . key() . ' ' . (1 + below(20)) }) x 3, (sub { 'release ' . key() }) x 2, 'silence',
         (sub { 'frames ' . one_of(0, 1, below(300), below(3000), 1024) }) x 5,
         (sub { $saves++; "save saved.$saves " . (below(2) ? "undo.$saves" : "\"undo.$saves\"") }) x 2,
         'show', sub { one_of('', ' # nothing', 'undo 1', 'rename-sample 0', 'note 1 2', 'press 0 0 60', 'release 0 0', 'frames -1', 'save "a', 'trim 0 x1', 'help me') },
@@ -304,7 +304,7 @@ sub session_of {
     my ($seed) = @_;
     ($lot, $saves) = ($seed, 0);
     below(2) for 1 .. 3;
-    return ($BANKS[$seed % @BANKS], (map { line() } 1 .. 6 + below(20)), below(2) ? ('quit', 'undo') : ());
+    return ($BANKS[$seed % @BANKS], (map { line() } 1 .. 8 + below(24)), below(2) ? ('quit', 'undo') : ());
 }
 
 sub wrong_of_session {
