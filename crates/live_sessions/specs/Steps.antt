@@ -86,7 +86,7 @@ NoteIs old n other new = ⊥
 abbrev pub key_of : Numbers → Key
 key_of n = record { bank = n.bank; number = n.number; key = n.key }
 
--- A pressed note starts like any, and is held by the next handle. Handles don't end before 2^64 presses.
+-- A pressed note starts like any, and gets the next handle. Handles count up to 2^64 - 1, and stay there.
 pub record Presses (old : LiveState) (n : Numbers) (voices : ℕ) (new : LiveState) : Type 0 where
   pub bank : Parts
   pub here : bank_now old.session ≡ Some bank

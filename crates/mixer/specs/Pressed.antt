@@ -35,7 +35,7 @@ released_by r p = cond (option_map_or (ends r) p.handle false) (record p { voice
 unfoldable pub after_release : List PlayingVoice → Release → List PlayingVoice
 after_release ps r = filter is_sounding (map (released_by r) ps)
 
--- ---- what is heard
+-- ---- the frames
 
 -- an edit, with the bank after it, which may be any; a note start; a note that is pressed, and its handle; a release; a
 -- block of a number of frames
@@ -79,6 +79,6 @@ key_blocks b ps (Given m ∷ es) = block ps m ++ key_blocks b (after_block ps m)
 
 -- ---- the law
 
--- pressed notes are heard as notes that last until their release
+-- pressed notes give the frames of notes that last until their release
 abbrev pub PressesAreHeard : Type 0
 PressesAreHeard = (b : Parts) (es : List KeyEvent) → key_blocks b [] es ≡ heard b (as_notes es)
