@@ -96,7 +96,7 @@ pub(crate) fn remark_on_fields(
     }
     if let Some(span) = span_at(line, index) {
         put_caret(line, span, remarks);
-        remarks.line(&[b"The note is complete before this."]);
+        remarks.line(&[b"The line is complete before this."]);
     }
 }
 
