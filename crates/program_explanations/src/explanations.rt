@@ -211,7 +211,8 @@ impl FaultCode {
             ),
             FaultCode::OtherVersion => (
                 "The banks have different minor versions, which no edit changes.",
-                "Rebuild A: `sfbank script A S`, `sfbank new --minor N C`, `sfbank apply C S D U`; compare D.",
+                "Give A the minor version N: `sfbank script A T`, `sfbank new --minor N NEW`, \
+                `sfbank apply NEW T A2 U`; compare A2.",
             ),
             FaultCode::TooManyFrames => (
                 "A live session writes at most 100,000,000 frames.",
@@ -340,7 +341,7 @@ fn of_reading(fault: ReadFault) -> (&'static str, &'static str) {
     match fault {
         ReadFault::NotRiff => (
             "The file does not begin with RIFF, as each bank does.",
-            "Check the order of the files; unpack .sfark; if it is empty or a web page, download it again.",
+            "Check the order of the files; unpack .zip, .gz or .sfark; if it is empty or a web page, download it again.",
         ),
         ReadFault::NotSfbk => (
             "It is another RIFF file, such as WAVE or DLS.",
@@ -371,7 +372,7 @@ fn of_reading(fault: ReadFault) -> (&'static str, &'static str) {
             "Get or export it again.",
         ),
         ReadFault::BagOrder => (
-            "A preset, an instrument or a zone begins before the previous one.",
+            "A preset, an instrument or a zone begins before its predecessor.",
             "Get or export it again.",
         ),
         ReadFault::IndexOutside => (
@@ -412,11 +413,11 @@ fn of_reading(fault: ReadFault) -> (&'static str, &'static str) {
 fn of_script(fault: ScriptFault) -> (&'static str, &'static str) {
     match fault {
         ScriptFault::Syntax(_) => (
-            "A word of the line is wrong, missing or left over.",
+            "A word is wrong, missing or left over.",
             "One edit a line; blanks around braces; names in quotes: see SCRIPT.md.",
         ),
         ScriptFault::Number(_) => (
-            "A number of the line is malformed, or out of range.",
+            "A number is malformed, or out of range.",
             "Whole numbers; ranges as 0..59; generators: `sfbank explain generators`.",
         ),
         ScriptFault::Literal(_) => (
