@@ -5,7 +5,7 @@ ghost use Rattle.script_tokens.specs.Lines.{is_feed};
 
 use base_outputs::Output;
 use edit_script::put_edit;
-use live_lines::{HELP, Paths, Request, RequestFault, pool_of_line, read_line};
+use live_lines::{HELP, Key, Paths, Request, RequestFault, pool_of_line, read_line};
 use script_notes::Note;
 use script_tokens::{Lines, Piece, put_line};
 use sf_base::{BorrowedBytes, Failure};
@@ -13,7 +13,7 @@ use std::alloc::Global;
 use std::io::Write;
 
 /// Lines and their requests, written as canonical lines.
-const LINES: [(&[u8], &[u8]); 24] = [
+const LINES: [(&[u8], &[u8]); 27] = [
     (b"", b"nothing\n"),
     (b" \t# undo\r", b"nothing\n"),
     (b"rename-sample 0 \"u\"", b"edit rename-sample 0 \"u\"\n"),
@@ -36,6 +36,9 @@ const LINES: [(&[u8], &[u8]); 24] = [
         b"note 0 100000000 65535 65535 127 127\n",
     ),
     (b"note 0 0 0 0 0", b"note 0 0 0 0 0 0\n"),
+    (b"press 0 1 60 100", b"held note 0 100000000 0 1 60 100\n"),
+    (b"release 0 1 60", b"release 0 1 60\n"),
+    (b"silence", b"silence\n"),
     (b"frames 0", b"frames 0\n"),
     (b"frames 100000000", b"frames 100000000\n"),
     (b"save out.sf2 undo.txt", b"save \"out.sf2\" \"undo.txt\"\n"),
@@ -59,7 +62,7 @@ const LINES: [(&[u8], &[u8]); 24] = [
 ];
 
 /// Lines with a fault, and its number and name.
-const FAULTS: [(&[u8], &[u8]); 36] = [
+const FAULTS: [(&[u8], &[u8]); 41] = [
     (b"play", b"fault 41 Syntax\n"),
     (b"Undo", b"fault 41 Syntax\n"),
     (b"undo 1", b"fault 41 Syntax\n"),
@@ -90,6 +93,11 @@ const FAULTS: [(&[u8], &[u8]); 36] = [
     (b"note 1 0 0 60 \"\"", b"fault 45 BadNote\n"),
     (b"note 1 0 0 60 x1", b"fault 43 Literal\n"),
     (b"note 100000001 0 0 60 100", b"fault 47 TooLong\n"),
+    (b"press 0 0 60", b"fault 45 BadNote\n"),
+    (b"press 0 0 60 128", b"fault 45 BadNote\n"),
+    (b"release 0 0", b"fault 41 Syntax\n"),
+    (b"release 0 0 128", b"fault 42 Number\n"),
+    (b"silence now", b"fault 41 Syntax\n"),
     (b"frames", b"fault 41 Syntax\n"),
     (b"frames 100000001", b"fault 42 Number\n"),
     (b"frames x00", b"fault 42 Number\n"),
@@ -115,6 +123,12 @@ fn put_request<W: Write>(request: &Request<'_, '_>, output: &mut Output<'_, W>) 
         Request::Undo => output.put(b"undo\n"),
         Request::Redo => output.put(b"redo\n"),
         Request::Note(note) => put_note(note, output),
+        Request::Press(note) => {
+            output.put(b"held ");
+            put_note(note, output);
+        }
+        Request::Release(key) => put_key(*key, output),
+        Request::Silence => output.put(b"silence\n"),
         Request::Frames(count) => {
             put_line(b"frames", &[Piece::Number(u64::from(*count))], output);
         }
@@ -135,6 +149,18 @@ fn put_note<W: Write>(note: &Note, output: &mut Output<'_, W>) {
             Piece::Number(u64::from(note.number())),
             Piece::Number(u64::from(note.key())),
             Piece::Number(u64::from(note.velocity())),
+        ],
+        output,
+    );
+}
+
+fn put_key<W: Write>(key: Key, output: &mut Output<'_, W>) {
+    put_line(
+        b"release",
+        &[
+            Piece::Number(u64::from(key.bank)),
+            Piece::Number(u64::from(key.number)),
+            Piece::Number(u64::from(key.key)),
         ],
         output,
     );
