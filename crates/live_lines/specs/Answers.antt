@@ -49,9 +49,9 @@ rejected_text path fault =
 unfoldable pub answer_text : Answer → List ℕ
 answer_text answers.Done = line_text (codes "ok") []
 answer_text (answers.Counted count) = line_text (codes "ok") (Number count ∷ [])
+answer_text (answers.Measured one other) = line_text (codes "ok") (Number one ∷ Number other ∷ [])
 answer_text (answers.Refused why) = refused_text why
 answer_text answers.NotNeutral = line_text (codes "refused") (Number 50 ∷ Word (codes "NotNeutral") ∷ [])
-answer_text answers.TooManyFrames = line_text (codes "refused") (Number 52 ∷ Word (codes "TooManyFrames") ∷ [])
 answer_text (answers.Fault fault) = fault_text fault
 answer_text answers.OutOfMemory = no_memory
 answer_text (answers.WriteFault path written) = write_text path written

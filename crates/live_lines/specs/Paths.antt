@@ -22,6 +22,12 @@ path (Word w ∷ line) = or_fault faults.Syntax (path_of w) line
 path (Literal bytes ∷ line) = or_fault faults.Literal (path_of bytes) line
 path (Malformed ∷ line) = Err faults.Syntax
 
+-- one path, to the line's end
+unfoldable pub one_path : Parser (List ℕ)
+one_path = do
+  p ← path
+  ended p
+
 -- the paths of the bank and of the undo script, to the line's end
 unfoldable pub paths : Parser Paths
 paths = do

@@ -17,12 +17,16 @@ use Rattle.live_lines.specs.declared.command.Command.{Command}
 use Rattle.live_lines.specs.declared.command.Command.TheVariants as command
 use Rattle.live_lines.specs.declared.fault.RequestFault.{RequestFault}
 use Rattle.live_lines.specs.declared.fault.RequestFault.TheVariants as faults
+use Rattle.live_lines.specs.declared.pedal.Pedal.{Pedal}
+use Rattle.live_lines.specs.declared.pedal.PedalMove.{PedalMove}
+use Rattle.live_lines.specs.declared.pedal.PedalPosition.{PedalPosition}
+use Rattle.live_lines.specs.declared.pedal.PedalPosition.TheVariants as position
 use Rattle.live_lines.specs.declared.request.Key.{Key}
 use Rattle.live_lines.specs.declared.request.Request.{Request}
 use Rattle.live_lines.specs.declared.request.Request.TheVariants as asks
 use Rattle.live_lines.specs.declared.request.TheConstants.{MOST_FRAMES}
 use Rattle.live_lines.specs.Faults.{of_line}
-use Rattle.live_lines.specs.Paths.{paths}
+use Rattle.live_lines.specs.Paths.{one_path, paths}
 
 -- ---- the commands
 
@@ -34,17 +38,31 @@ command_word command.Redo = codes "redo"
 command_word command.Note = codes "note"
 command_word command.Press = codes "press"
 command_word command.Release = codes "release"
+command_word command.Pedal = codes "pedal"
 command_word command.Silence = codes "silence"
+command_word command.Stop = codes "stop"
 command_word command.Frames = codes "frames"
+command_word command.Record = codes "record"
 command_word command.Save = codes "save"
+command_word command.Voices = codes "voices"
+command_word command.Meter = codes "meter"
 command_word command.Show = codes "show"
 command_word command.Help = codes "help"
 command_word command.Quit = codes "quit"
 
 abbrev pub commands : List Command
 commands =
-    command.Neutral ∷ command.Undo ∷ command.Redo ∷ command.Note ∷ command.Press ∷ command.Release ∷ command.Silence
-    ∷ command.Frames ∷ command.Save ∷ command.Show ∷ command.Help ∷ command.Quit ∷ []
+    command.Neutral ∷ command.Undo ∷ command.Redo ∷ command.Note ∷ command.Press ∷ command.Release ∷ command.Pedal
+    ∷ command.Silence ∷ command.Stop ∷ command.Frames ∷ command.Record ∷ command.Save ∷ command.Voices ∷ command.Meter
+    ∷ command.Show ∷ command.Help ∷ command.Quit ∷ []
+
+-- where a pedal is moved to
+abbrev pub position_word : PedalPosition → List ℕ
+position_word position.On = codes "on"
+position_word position.Off = codes "off"
+
+abbrev pub positions : List PedalPosition
+positions = position.On ∷ position.Off ∷ []
 
 -- ---- what follows the word
 
@@ -102,6 +120,14 @@ key = do
   k ← number HIGHEST_KEY
   ended (record { bank = b; number = n; key = k })
 
+-- `on` or `off`, and the preset of a pedal, to the line's end
+unfoldable pub pedal : Parser PedalMove
+pedal = do
+  p ← next_named position_word positions
+  b ← number most_word
+  n ← number most_word
+  ended (record { position = p; pedal = record { bank = b; number = n } })
+
 -- a number of frames, to the line's end
 unfoldable pub frames : Parser ℕ
 frames = do
@@ -116,9 +142,14 @@ request_by command.Redo line = made_request (λ r. r) (ended asks.Redo line)
 request_by command.Note line = noted asks.Note (note_now line)
 request_by command.Press line = noted asks.Press (note_held line)
 request_by command.Release line = made_request asks.Release (key line)
+request_by command.Pedal line = made_request asks.Pedal (pedal line)
 request_by command.Silence line = made_request (λ r. r) (ended asks.Silence line)
+request_by command.Stop line = made_request (λ r. r) (ended asks.Stop line)
 request_by command.Frames line = made_request asks.Frames (frames line)
+request_by command.Record line = made_request asks.Record (one_path line)
 request_by command.Save line = made_request asks.Save (paths line)
+request_by command.Voices line = made_request (λ r. r) (ended asks.Voices line)
+request_by command.Meter line = made_request (λ r. r) (ended asks.Meter line)
 request_by command.Show line = made_request (λ r. r) (ended asks.Show line)
 request_by command.Help line = made_request (λ r. r) (ended asks.Help line)
 request_by command.Quit line = made_request (λ r. r) (ended asks.Quit line)

@@ -19,14 +19,14 @@ use std::io::Write;
 pub enum Answer<'a> {
     /// `ok`
     Done,
-    /// `ok COUNT`: a note started this many voices, or so many notes were released.
+    /// `ok COUNT`: a note started this many voices, or so many notes were released or recorded.
     Counted(usize),
+    /// `ok N M`: the voices that sound and the notes that are held, or the peak and the clipped frames.
+    Measured(u64, u64),
     /// `refused NUMBER NAME ..`: an edit, an undo or a redo is refused.
     Refused(Refusal),
     /// `refused 50 NotNeutral`: the edit may change the sound.
     NotNeutral,
-    /// `refused 52 TooManyFrames`: a session has at most 100,000,000 frames.
-    TooManyFrames,
     /// `fault NUMBER NAME`: the line has a fault.
     Fault(RequestFault),
     /// `out of memory`
@@ -51,9 +51,11 @@ pub fn put_answer<W: Write>(answer: &Answer<'_>, output: &mut Output<'_, W>)
     match answer {
         Answer::Done => put_line(b"ok", &[], output),
         Answer::Counted(count) => put_line(b"ok", &[Piece::Number(*count as u64)], output),
+        Answer::Measured(one, other) => {
+            put_line(b"ok", &[Piece::Number(*one), Piece::Number(*other)], output)
+        }
         Answer::Refused(why) => put_refused(*why, output),
         Answer::NotNeutral => put_named(50, "NotNeutral", output),
-        Answer::TooManyFrames => put_named(52, "TooManyFrames", output),
         Answer::Fault(fault) => put_fault(*fault, output),
         Answer::OutOfMemory => output.put(b"out of memory\n"),
         Answer::WriteFault { path, written } => put_write_fault(path.text(), *written, output),

@@ -16,26 +16,38 @@ pub enum Command {
     Press,
     /// `release BANK NUMBER KEY`
     Release,
+    /// `pedal on BANK NUMBER`, or `off`
+    Pedal,
     Silence,
+    Stop,
     /// `frames N`
     Frames,
+    /// `record NOTES`
+    Record,
     /// `save OUT UNDO`
     Save,
+    Voices,
+    Meter,
     Show,
     Help,
     Quit,
 }
 
-static COMMANDS: [Command; 12] = [
+static COMMANDS: [Command; 17] = [
     Command::Neutral,
     Command::Undo,
     Command::Redo,
     Command::Note,
     Command::Press,
     Command::Release,
+    Command::Pedal,
     Command::Silence,
+    Command::Stop,
     Command::Frames,
+    Command::Record,
     Command::Save,
+    Command::Voices,
+    Command::Meter,
     Command::Show,
     Command::Help,
     Command::Quit,
@@ -58,9 +70,14 @@ impl HasWord for Command {
             Command::Note => b"note",
             Command::Press => b"press",
             Command::Release => b"release",
+            Command::Pedal => b"pedal",
             Command::Silence => b"silence",
+            Command::Stop => b"stop",
             Command::Frames => b"frames",
+            Command::Record => b"record",
             Command::Save => b"save",
+            Command::Voices => b"voices",
+            Command::Meter => b"meter",
             Command::Show => b"show",
             Command::Help => b"help",
             Command::Quit => b"quit",

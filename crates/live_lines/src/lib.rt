@@ -7,8 +7,11 @@
 //! - `undo`, `redo`, `show`, `help`, `quit`;
 //! - `note LENGTH BANK NUMBER KEY VELOCITY`: a note that starts now, its length in frames;
 //! - `press BANK NUMBER KEY VELOCITY`: a note that lasts until it is released;
-//! - `release BANK NUMBER KEY`, and `silence`, which releases all;
+//! - `release BANK NUMBER KEY`, and `pedal on BANK NUMBER` or `pedal off BANK NUMBER`, which holds releases back;
+//! - `silence`, which releases all, and `stop`, which ends all voices at once;
 //! - `frames N`: the next `N` frames, up to 100,000,000;
+//! - `record NOTES`: the path of a note list;
+//! - `voices`, `meter`: what sounds;
 //! - `save OUT UNDO`: two paths, each a word, or a literal if it has blanks.
 //!
 //! [`read_line`] reads a line with a pool of the bytes of its literals, which [`pool_of_line`] makes, and
@@ -20,6 +23,7 @@ mod command;
 mod fault;
 mod help;
 mod paths;
+mod pedal;
 mod reading;
 mod request;
 
@@ -28,5 +32,6 @@ pub use command::Command;
 pub use fault::RequestFault;
 pub use help::HELP;
 pub use paths::{FilePath, Paths};
+pub use pedal::{Pedal, PedalMove, PedalPosition};
 pub use reading::{pool_of_line, read_line};
 pub use request::{Key, MOST_FRAMES, Request};

@@ -4,7 +4,7 @@ ghost use Rattle.std.specs.List.{list_all};
 ghost use Rattle.script_tokens.specs.Tokens.{tokens_of};
 ghost use Rattle.script_tokens.specs.TokenValue.{values_over};
 ghost use Rattle.script_tokens.specs.Parsers.{Reads, word};
-ghost use Rattle.live_lines.specs.Paths.{path_of, path, paths};
+ghost use Rattle.live_lines.specs.Paths.{path_of, path, one_path, paths};
 
 use script_tokens::{Cursor, LineFault};
 use std::marker::Model;
@@ -66,6 +66,20 @@ fn has_no_controls(bytes: &[u8]) -> bool
     ensures { result ≡ list_all (λ b. nat_le 32 b) bytes.now }
 {
     bytes.iter().all(|byte| *byte >= 0x20)
+}
+
+// The path after the first word of a line, to its end.
+#[tactic(auto, unfolding(crate::specs::Paths::one_path, script_tokens::specs::Parsers::ended))]
+pub(crate) fn one_path<'t, 'p: 't>(
+    line: &'t [u8],
+    pool: &'p [u8],
+) -> Result<FilePath<'t>, LineFault>
+    requires { IsOk (word (values_over pool.now (tokens_of line.now))) }
+    ensures { MatchResult result (λ p. one_path (drop 1 (values_over pool.now (tokens_of line.now))) ≡ Ok (record { value = p; rest = [] })) (λ e. one_path (drop 1 (values_over pool.now (tokens_of line.now))) ≡ Err e) }
+{
+    let (path, mut rest) = first_path(line, pool)?;
+    rest.end()?;
+    Ok(path)
 }
 
 // The paths after the first word of a line, to its end.

@@ -11,12 +11,13 @@ ghost use Rattle.edit_script.specs.Grammar.{edit};
 ghost use Rattle.live_lines.specs.declared.request.Request.{Request};
 ghost use Rattle.live_lines.specs.declared.request.Request.TheVariants as asks;
 ghost use Rattle.live_lines.specs.Faults.{of_line};
-ghost use Rattle.live_lines.specs.Paths.{paths};
-ghost use Rattle.live_lines.specs.Requests.{command_word, commands, made_request, note_now, note_held, noted, key, frames, request_by, request, request_of, HasNoFeed, IsNotOutOfMemory};
+ghost use Rattle.live_lines.specs.Paths.{one_path, paths};
+ghost use Rattle.live_lines.specs.Requests.{command_word, commands, made_request, note_now, note_held, noted, key, pedal, frames, request_by, request, request_of, HasNoFeed, IsNotOutOfMemory};
 
 use crate::command::Command;
 use crate::fault::RequestFault;
-use crate::paths::both_paths;
+use crate::paths::{both_paths, one_path};
+use crate::pedal::{Pedal, PedalMove, PedalPosition};
 use crate::request::{Key, MOST_FRAMES, Request};
 use edit_forms::Edit;
 use edit_script::edit;
@@ -122,9 +123,14 @@ fn request_by<'t, 'p: 't>(
         Command::Note => note(rest),
         Command::Press => press(rest),
         Command::Release => release(rest),
+        Command::Pedal => move_pedal(rest),
         Command::Silence => without_arguments(Request::Silence, rest),
+        Command::Stop => without_arguments(Request::Stop, rest),
         Command::Frames => some_frames(rest),
+        Command::Record => record(line, pool),
         Command::Save => save(line, pool),
+        Command::Voices => without_arguments(Request::Voices, rest),
+        Command::Meter => without_arguments(Request::Meter, rest),
         Command::Show => without_arguments(Request::Show, rest),
         Command::Help => without_arguments(Request::Help, rest),
         Command::Quit => without_arguments(Request::Quit, rest),
@@ -209,6 +215,19 @@ fn release<'t, 'p>(line: &mut Cursor<'t, 'p>) -> Result<Request<'t, 'p>, Failure
     }
 }
 
+// A pedal that is pressed or released.
+fn move_pedal<'t, 'p>(
+    line: &mut Cursor<'t, 'p>,
+) -> Result<Request<'t, 'p>, Failure<RequestFault>>
+    ensures answer { Answers (λ r. r) result (made_request asks.Pedal (pedal line.old.token_values)) }
+    ensures memory { IsNotOutOfMemory result }
+{
+    match pedal(line) {
+        Ok(moved) => Ok(Request::Pedal(moved)),
+        Err(fault) => Err(failure_of(fault)),
+    }
+}
+
 // The numbers of a note that starts now, to the line's end; `None` if it is too long.
 #[tactic(auto, unfolding(crate::specs::Requests::note_now))]
 fn note_now(line: &mut Cursor<'_, '_>) -> Result<Option<Note>, LineFault>
@@ -266,6 +285,24 @@ fn key(line: &mut Cursor<'_, '_>) -> Result<Key, LineFault>
     })
 }
 
+// `on` or `off`, and the preset of a pedal, to the line's end.
+#[tactic(auto, unfolding(crate::specs::Requests::pedal, script_tokens::specs::Parsers::ended))]
+fn pedal(line: &mut Cursor<'_, '_>) -> Result<PedalMove, LineFault>
+    ensures { Reads (λ p. p) pedal line.old line.new result }
+{
+    let position: PedalPosition = next_named(line)?;
+    let bank = line.number(u32::from(u16::MAX))?;
+    let number = line.number(u32::from(u16::MAX))?;
+    line.end()?;
+    Ok(PedalMove {
+        position,
+        pedal: Pedal {
+            bank: bank as u16,
+            number: number as u16,
+        },
+    })
+}
+
 // A request for frames.
 fn some_frames<'t, 'p>(line: &mut Cursor<'t, 'p>) -> Result<Request<'t, 'p>, Failure<RequestFault>>
     ensures answer { Answers (λ r. r) result (made_request asks.Frames (frames line.old.token_values)) }
@@ -285,6 +322,21 @@ fn frames(line: &mut Cursor<'_, '_>) -> Result<u32, LineFault>
     let count = line.number(MOST_FRAMES)?;
     line.end()?;
     Ok(count)
+}
+
+// The path of a recording, by the whole line.
+fn record<'t, 'p: 't>(
+    line: &'t [u8],
+    pool: &'p [u8],
+) -> Result<Request<'t, 'p>, Failure<RequestFault>>
+    requires { IsOk (word (values_over pool.now (tokens_of line.now))) }
+    ensures answer { Answers (λ r. r) result (made_request asks.Record (one_path (drop 1 (values_over pool.now (tokens_of line.now))))) }
+    ensures memory { IsNotOutOfMemory result }
+{
+    match one_path(line, pool) {
+        Ok(path) => Ok(Request::Record(path)),
+        Err(fault) => Err(failure_of(fault)),
+    }
 }
 
 // The paths of a save, by the whole line.

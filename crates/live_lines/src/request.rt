@@ -1,9 +1,10 @@
 //! The request of a line.
-use crate::paths::Paths;
+use crate::paths::{FilePath, Paths};
+use crate::pedal::PedalMove;
 use edit_forms::Edit;
 use script_notes::Note;
 
-/// The most frames of one request, and of all requests of a session together.
+/// The most frames of one request.
 pub const MOST_FRAMES: u32 = 100_000_000;
 
 /// A key of a preset, by which a pressed note is released.
@@ -33,12 +34,22 @@ pub enum Request<'t, 'p> {
     Press(Note),
     /// Releases the note of this key that was pressed first.
     Release(Key),
-    /// Releases all pressed notes.
+    /// Presses or releases the pedal of a preset.
+    Pedal(PedalMove),
+    /// Releases all notes and pedals.
     Silence,
+    /// Ends all voices at once.
+    Stop,
     /// The next frames, up to 100,000,000.
     Frames(u32),
+    /// Writes the notes so far to a note list.
+    Record(FilePath<'t>),
     /// Saves the bank and its undo script to two files.
     Save(Paths<'t>),
+    /// How many voices sound, and how many notes are held.
+    Voices,
+    /// The peak and the clipped frames since the last time.
+    Meter,
     /// The listing of the bank.
     Show,
     Help,

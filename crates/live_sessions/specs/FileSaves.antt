@@ -1,12 +1,12 @@
--- The files after a save.
+-- The files after a save and after a recording.
 use Rattle.std.specs.Prelude.{◌≡◌, ◌⊎◌, ℕ, List, [], ◌∷◌, Option, Result, Ok, Err}
 use Rattle.std.specs.Option.{option_map, option_map_or}
 use Rattle.bank_parts.specs.declared.parts.Parts.{Parts}
 use Rattle.base_outputs.specs.declared.output_fault.OutputFault.{OutputFault}
 use Rattle.sf_base.specs.declared.memory.Failure.{Failure}
 use Rattle.sf_base.specs.declared.memory.Failure.TheVariants.{Fault, OutOfMemory}
-use Rattle.file_host.specs.World.{World, with_pair}
-use Rattle.file_host.specs.Saving.{SpoilsPair}
+use Rattle.file_host.specs.World.{World, with_text, with_pair}
+use Rattle.file_host.specs.Saving.{Spoils, SpoilsPair}
 use Rattle.file_host.specs.Checks.{IsApart, IsNoBank}
 use Rattle.file_host.specs.declared.faults.Which.{Which}
 use Rattle.file_host.specs.declared.faults.Which.TheVariants.{Out, Undo}
@@ -16,8 +16,11 @@ use Rattle.inverse_edits.specs.Histories.{bank_now, undo_edits}
 use Rattle.live_lines.specs.declared.answer.Answer.{Answer}
 use Rattle.live_lines.specs.declared.answer.Answer.TheVariants as answer
 use Rattle.live_lines.specs.declared.paths.Paths.{Paths}
+use Rattle.script_of_notes.specs.NoteTexts.{notes_text}
 use Rattle.live_sessions.specs.declared.live.LiveState.{LiveState}
+use Rattle.live_sessions.specs.declared.performance.Performance.{Performance}
 use Rattle.live_sessions.specs.declared.saving.SessionFiles.{SessionFiles}
+use Rattle.live_sessions.specs.Performances.{recorded_now}
 use Rattle.live_sessions.specs.Saved.{Saved, saved_of}
 
 -- ---- the checks of a save
@@ -84,6 +87,29 @@ FilesAfterSave own s paths (answer.WriteFault path count) old new written =
     Accepts own paths old × SpoilsSaved paths (saved_now s) old new × (count ≡ written)
 FilesAfterSave own s paths (answer.Rejected path why) old new written = Rejects own paths old path why × (new ≡ old)
 FilesAfterSave own s paths other old new written = new ≡ old
+
+-- ---- a recording
+
+-- the text of the notes so far
+abbrev pub recording_text : Performance → List ℕ
+recording_text s = notes_text (recorded_now s)
+
+-- the note list replaces neither the session's bank nor the frames, and no other bank, except with `force`
+abbrev pub NotesAreApart : SessionFiles → List ℕ → Option World → Checked → Type 0
+NotesAreApart own path world checked =
+    InOrder (IsApart world path (own.bank.now ∷ own.pcm.now ∷ [])) (IsNoBank world path own.force) checked
+
+-- The files after a recording with this answer. A write fault counts the bytes that the host wrote.
+abbrev pub FilesAfterRecord : SessionFiles → LiveState → List ℕ → Answer → Option World → Option World → ℕ → Type 0
+FilesAfterRecord own s path (answer.Counted n) old new written =
+    NotesAreApart own path old (Ok tt) × (new ≡ option_map (with_text path (recording_text s.performance)) old)
+FilesAfterRecord own s path (answer.WriteFault p count) old new written =
+    NotesAreApart own path old (Ok tt) × Spoils old new path (recording_text s.performance) × (count ≡ written)
+FilesAfterRecord own s path (answer.Rejected p why) old new written =
+    NotesAreApart own path old (Err (Fault why)) × (new ≡ old)
+FilesAfterRecord own s path other old new written = new ≡ old
+
+-- ---- the answers to a save
 
 -- the answer to a save of which a path is rejected
 abbrev pub rejection : Paths → Which → Failure OutputFault → Answer

@@ -6,8 +6,11 @@ pub use Rattle.inverse_edits.specs.Histories
 pub use Rattle.live_lines.specs.Requests
 pub use Rattle.live_lines.specs.Answers
 pub use Rattle.mixer.specs.Events
+pub use Rattle.script_of_notes.specs.NoteTexts
 pub mod Saved
 pub mod Streams
+pub mod Meters
+pub mod Performances
 pub mod FileSaves
 pub mod AnswerTexts
 pub mod Steps

@@ -5,7 +5,9 @@ ghost use Rattle.base_outputs.specs.Output.{Puts};
 ghost use Rattle.base_outputs.specs.Writing as writing;
 ghost use Rattle.mixer.specs.Events.{after_block, block};
 ghost use Rattle.wave_file.specs.Wave.{sample_bytes};
+ghost use Rattle.live_sessions.specs.Meters.{metered};
 
+use crate::meter::Meter;
 use base_outputs::{Output, WriteFault};
 use base_progress::Progress;
 use byteorder::{ByteOrder, LittleEndian};
@@ -18,37 +20,42 @@ const MOST_AT_ONCE: usize = 1024;
 /// The samples of these frames, left and right in turn.
 const BLOCK: usize = 2048;
 
-/// Writes the next frames, each sample little-endian, and flushes. A fault has the number of bytes written. Allocates
-/// nothing.
+/// Writes the next frames, each sample little-endian, flushes, and measures the frames. A fault has the number of bytes
+/// written. Allocates nothing.
 pub(crate) fn write_frames<P: Write, Q: Progress>(
     player: &mut Player<'_>,
+    meter: &mut Meter,
     count: u32,
     pcm: &mut P,
     progress: &mut Q,
 ) -> Result<u64, WriteFault>
     ensures is_written { writing.Delivers (P.contents pcm.old) (P.contents pcm.new) (flat_map sample_bytes (block player.old count)) result }
     ensures played { player.new ≡ after_block player.old count }
+    ensures measured { meter.new ≡ metered meter.old (block player.old count) }
 {
     let mut output = Output::to(pcm);
-    put_frames(player, count, &mut output, progress);
+    put_frames(player, meter, count, &mut output, progress);
     output.deliver()
 }
 
 // Puts the next frames in blocks.
 fn put_frames<P: Write, Q: Progress>(
     player: &mut Player<'_>,
+    meter: &mut Meter,
     count: u32,
     output: &mut Output<'_, P>,
     progress: &mut Q,
 )
     ensures put { Puts P.contents output.old output.new (flat_map sample_bytes (block player.old count)) }
     ensures played { player.new ≡ after_block player.old count }
+    ensures measured { meter.new ≡ metered meter.old (block player.old count) }
 {
     let mut samples = [0; BLOCK];
     let mut left = count as usize;
     while left > 0 {
         let size = left.min(MOST_AT_ONCE);
-        put_block(player, &mut samples[..2 * size], output, progress);
+        let samples = &mut samples[..2 * size];
+        put_block(player, meter, samples, output, progress);
         left -= size;
     }
     // Only for its contract: a player without frames is unchanged.
@@ -58,6 +65,7 @@ fn put_frames<P: Write, Q: Progress>(
 // Puts a block of at most 1,024 frames.
 fn put_block<P: Write, Q: Progress>(
     player: &mut Player<'_>,
+    meter: &mut Meter,
     samples: &mut [i16],
     output: &mut Output<'_, P>,
     progress: &mut Q,
@@ -66,8 +74,10 @@ fn put_block<P: Write, Q: Progress>(
     requires short { length samples.old ≤ BLOCK }
     ensures put { Puts P.contents output.old output.new (flat_map sample_bytes (block player.old (length samples.old / 2))) }
     ensures played { player.new ≡ after_block player.old (length samples.old / 2) }
+    ensures measured { meter.new ≡ metered meter.old (block player.old (length samples.old / 2)) }
 {
     player.block_with_progress(samples, progress);
+    meter.add(samples);
     put_samples(samples, output);
 }
 

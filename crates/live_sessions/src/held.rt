@@ -1,8 +1,9 @@
 //! The notes that are pressed and not yet released.
-ghost use Rattle.std.specs.Prelude.{◌≡◌, [], ◌++◌, ◌∷◌, IfOk, OnOk, OnErr, length, take};
-ghost use Rattle.live_sessions.specs.Steps.{first_held, held_without, is_held_by};
+ghost use Rattle.std.specs.Prelude.{◌≡◌, [], ◌++◌, ◌∷◌, OnOk, OnErr, length, map, take};
+ghost use Rattle.live_sessions.specs.Performances.{is_sustained_by};
+ghost use Rattle.live_sessions.specs.Steps.{first_held, held_without, held_but_by, is_held_by, sustained_as};
 
-use live_lines::Key;
+use live_lines::{Key, Pedal};
 use sf_base::OutOfMemory;
 use std::alloc::Global;
 use std::marker::Model;
@@ -12,6 +13,8 @@ use std::marker::Model;
 pub(crate) struct HeldNote {
     pub(crate) key: Key,
     pub(crate) handle: u64,
+    // Its key is released, and the pedal of its preset holds it.
+    pub(crate) is_sustained: bool,
 }
 
 /// The notes that are pressed and not yet released, in the order of their presses.
@@ -45,6 +48,12 @@ impl HeldNotes {
         }
     }
 
+    pub(crate) fn as_slice(&self) -> &[HeldNote]
+        ensures { result.now ≡ self.now }
+    {
+        self.notes.as_slice()
+    }
+
     /// How many notes are held.
     pub(crate) fn len(&self) -> usize
         ensures { result ≡ length self.now }
@@ -70,7 +79,7 @@ impl HeldNotes {
         self.notes.truncate(count);
     }
 
-    /// The note of a key that was pressed first.
+    /// The note that was pressed first of those that a key holds.
     pub(crate) fn first(&self, key: Key) -> Option<HeldNote>
         ensures { result ≡ first_held key self.now }
     {
@@ -86,11 +95,47 @@ impl HeldNotes {
     {
         self.notes.retain(|note| note.handle != handle);
     }
+
+    /// Leaves the note with a handle to its pedal.
+    #[tactic(auto, using(std::proofs::lemmas::List::Edits::map_over_more))]
+    pub(crate) fn sustain(&mut self, handle: u64)
+        ensures { self.new ≡ map (sustained_as handle) self.old }
+    {
+        for note in self.notes.iter_mut() {
+            sustain(note, handle);
+        }
+    }
+
+    /// Removes the notes that only a pedal holds.
+    pub(crate) fn remove_sustained(&mut self, pedal: Pedal)
+        ensures { self.new ≡ held_but_by pedal self.old }
+    {
+        self.notes.retain(|note| !is_sustained_by(pedal, *note));
+    }
 }
 
 // Whether a key holds a note.
 fn is_held_by(key: Key, note: HeldNote) -> bool
     ensures { result ≡ is_held_by key note }
 {
-    note.key.bank == key.bank && note.key.number == key.number && note.key.key == key.key
+    !note.is_sustained
+        && note.key.bank == key.bank
+        && note.key.number == key.number
+        && note.key.key == key.key
+}
+
+/// Whether only a pedal holds a note.
+pub(crate) fn is_sustained_by(pedal: Pedal, note: HeldNote) -> bool
+    ensures { result ≡ is_sustained_by pedal note }
+{
+    note.is_sustained && note.key.bank == pedal.bank && note.key.number == pedal.number
+}
+
+// Leaves the note to its pedal, if it has the handle.
+fn sustain(note: &mut HeldNote, handle: u64)
+    ensures { note.new ≡ sustained_as handle note.old }
+{
+    if note.handle == handle {
+        note.is_sustained = true;
+    }
 }

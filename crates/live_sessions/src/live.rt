@@ -1,16 +1,20 @@
-//! The state of a session: its bank, its player, and the number of frames written.
+//! The state of a session: its bank, its notes, and what is measured of its frames.
 ghost use Rattle.std.specs.Prelude.{◌≡◌, ◌+◌, length, min};
 ghost use Rattle.mixer.specs.StartFrames.{note_voices};
-ghost use Rattle.live_sessions.specs.Steps.{EditIs, NeutralIs, UndoIs, RedoIs, NoteIs, PressIs, ReleaseIs, SilenceIs};
-ghost use Rattle.live_sessions.specs.Steps.{key_of, started_with};
+ghost use Rattle.live_sessions.specs.Steps.{EditIs, NeutralIs, UndoIs, RedoIs, NoteIs, PressIs, ReleaseIs, PedalOnIs};
+ghost use Rattle.live_sessions.specs.Steps.{PedalOffIs, PedalIs, SilenceIs, StopIs, VoicesAre, MeterIs};
+ghost use Rattle.live_sessions.specs.Steps.{after_release_of, key_of, pedal_of, started_with};
 
 use crate::held::{HeldNote, HeldNotes};
+use crate::meter::Meter;
+use crate::pedals::Pedals;
+use crate::performance::Performance;
 use bank_core::Bank;
 use base_progress::Progress;
 use edit_forms::Edit;
 use inverse_edits::Session;
-use live_lines::{Answer, Key};
-use mixer::{Player, Release};
+use live_lines::{Answer, Key, Pedal, PedalMove, PedalPosition};
+use mixer::Release;
 use script_notes::Note;
 use sound_neutral_edits::is_neutral;
 use std::alloc::Global;
@@ -19,24 +23,22 @@ use zone_select::matches;
 /// The state of a session.
 pub(crate) struct LiveState<'a> {
     // First, because of its lists.
-    pub(crate) player: Player<'a>,
+    pub(crate) performance: Performance<'a>,
     pub(crate) session: Session<'a>,
-    // The number of frames written so far.
-    pub(crate) given: u32,
-    // The notes that are pressed, and the handle of the next one.
     pub(crate) held: HeldNotes,
-    pub(crate) next_handle: u64,
+    pub(crate) pedals: Pedals,
+    pub(crate) meter: Meter,
 }
 
 // Not derived: a derived drop is inlined, and proved, wherever a value is dropped; this one is a call.
 impl Drop for LiveState<'_> {
     fn drop(self) {
         let LiveState {
-            player: _,
+            performance: _,
             session: _,
-            given: _,
             held: _,
-            next_handle: _,
+            pedals: _,
+            meter: _,
         } = self;
     }
 }
@@ -47,11 +49,11 @@ impl<'a> LiveState<'a> {
         ensures { result ≡ started_with bank.entry }
     {
         LiveState {
-            player: Player::new(alloc),
+            performance: Performance::new(alloc),
             session: Session::new(alloc, bank),
-            given: 0,
             held: HeldNotes::new(alloc),
-            next_handle: 0,
+            pedals: Pedals::new(alloc),
+            meter: Meter::silent(),
         }
     }
 
@@ -105,7 +107,7 @@ impl<'a> LiveState<'a> {
         ensures { NoteIs self.old note.now result self.new }
     {
         let bank = self.session.bank();
-        let started = self.player.start_with_progress(alloc, bank, note, progress);
+        let started = self.performance.start(alloc, bank, note, progress);
         if started.is_err() {
             return Answer::OutOfMemory;
         }
@@ -121,45 +123,128 @@ impl<'a> LiveState<'a> {
     ) -> Answer<'static>
         ensures { PressIs self.old note.now result self.new }
     {
-        let handle = self.next_handle;
         let count = self.held.len();
-        let key = key_of(note);
-        if self.held.push(HeldNote { key, handle }).is_err() {
+        let held = HeldNote {
+            key: key_of(note),
+            handle: self.performance.next_handle,
+            is_sustained: false,
+        };
+        if self.held.push(held).is_err() {
             return Answer::OutOfMemory;
         }
         let bank = self.session.bank();
-        let pressed = self.player.press(alloc, bank, note, handle, progress);
-        if pressed.is_err() {
+        let started = self.performance.start(alloc, bank, note, progress);
+        if started.is_err() {
             self.held.truncate(count);
             return Answer::OutOfMemory;
         }
-        self.next_handle = handle.saturating_add(1);
         Answer::Counted(voice_count(bank, note))
     }
 
-    /// Releases the note of a key that was pressed first. The answer has the number of released notes: one, or none if
-    /// the key holds none.
+    /// Releases a key: the note that was pressed first of those that it holds ends, or is left to its pedal. The answer
+    /// has the number of released notes: one, or none if the key holds none.
     pub(crate) fn release(&mut self, key: Key) -> Answer<'static>
         ensures { ReleaseIs self.old key result self.new }
     {
         match self.held.first(key) {
             Some(note) => {
-                self.player.release(Release::One(note.handle));
-                self.held.remove(note.handle);
+                self.release_note(note);
                 Answer::Counted(1)
             }
             None => Answer::Counted(0),
         }
     }
 
-    /// Releases all pressed notes. The answer has their number.
+    // Ends a held note, or leaves it to its pedal.
+    fn release_note(&mut self, note: HeldNote)
+        ensures { self.new ≡ after_release_of self.old note }
+    {
+        if self.pedals.has(pedal_of(note)) {
+            self.held.sustain(note.handle);
+        } else {
+            self.performance.release(Release::One(note.handle));
+            self.held.remove(note.handle);
+        }
+    }
+
+    /// Presses or releases a pedal.
+    pub(crate) fn move_pedal(&mut self, moved: PedalMove) -> Answer<'static>
+        ensures { PedalIs self.old moved result self.new }
+    {
+        match moved.position {
+            PedalPosition::On => self.press_pedal(moved.pedal),
+            PedalPosition::Off => self.release_pedal(moved.pedal),
+        }
+    }
+
+    // Presses a pedal: from now on it holds the notes of its preset after the releases of their keys.
+    fn press_pedal(&mut self, pedal: Pedal) -> Answer<'static>
+        ensures { PedalOnIs self.old pedal result self.new }
+    {
+        match self.pedals.add(pedal) {
+            Ok(()) => Answer::Done,
+            Err(_) => Answer::OutOfMemory,
+        }
+    }
+
+    // Releases a pedal: the notes that only it holds end. The answer has their number.
+    fn release_pedal(&mut self, pedal: Pedal) -> Answer<'static>
+        ensures { PedalOffIs self.old pedal result self.new }
+    {
+        let count = self.held.len();
+        self.performance
+            .release_sustained(self.held.as_slice(), pedal);
+        self.held.remove_sustained(pedal);
+        self.pedals.remove(pedal);
+        Answer::Counted(count - self.held.len())
+    }
+
+    /// Releases all notes and pedals. The answer has the number of held notes.
     pub(crate) fn silence(&mut self) -> Answer<'static>
         ensures { SilenceIs self.old result self.new }
     {
         let count = self.held.len();
-        self.player.release(Release::All);
+        self.performance.release(Release::All);
         self.held.truncate(0);
+        self.pedals.clear();
         Answer::Counted(count)
+    }
+
+    /// Ends all voices at once, and releases all pedals.
+    pub(crate) fn stop(&mut self) -> Answer<'static>
+        ensures { StopIs self.old result self.new }
+    {
+        self.performance.stop();
+        self.held.truncate(0);
+        self.pedals.clear();
+        Answer::Done
+    }
+
+    /// How many voices sound at the next frame, and how many notes are held.
+    pub(crate) fn voices(&mut self) -> Answer<'static>
+        ensures { VoicesAre self.old result self.new }
+    {
+        let sounding = self.performance.player.count();
+        Answer::Measured(sounding as u64, self.held.len() as u64)
+    }
+
+    /// The peak and the clipped frames since the last time.
+    pub(crate) fn measure(&mut self) -> Answer<'static>
+        ensures { MeterIs self.old result self.new }
+    {
+        let meter = self.meter;
+        self.meter = Meter::silent();
+        Answer::Measured(u64::from(meter.peak), meter.clipped)
+    }
+}
+
+// The pedal of a note's preset.
+fn pedal_of(note: HeldNote) -> Pedal
+    ensures { result ≡ pedal_of note }
+{
+    Pedal {
+        bank: note.key.bank,
+        number: note.key.number,
     }
 }
 

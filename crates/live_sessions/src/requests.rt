@@ -9,10 +9,11 @@ ghost use Rattle.live_sessions.specs.AnswerTexts.{kind_of, next_of};
 use crate::fault::LiveFault;
 use crate::frames::write_frames;
 use crate::live::LiveState;
+use crate::recording::record;
 use crate::saving::{SessionFiles, save};
 use base_progress::Progress;
 use file_host::Host;
-use live_lines::{Answer, MOST_FRAMES, Request};
+use live_lines::{Answer, Request};
 use std::alloc::Global;
 use std::io::Write;
 
@@ -82,16 +83,21 @@ pub(crate) fn do_request<'t, 'a, P: Write, H: Host, Q: Progress>(
         Request::Note(note) => Ok(live.note(alloc, &note, progress)),
         Request::Press(note) => Ok(live.press(alloc, &note, progress)),
         Request::Release(key) => Ok(live.release(key)),
+        Request::Pedal(moved) => Ok(live.move_pedal(moved)),
         Request::Silence => Ok(live.silence()),
+        Request::Stop => Ok(live.stop()),
         Request::Frames(count) => give_frames(live, count, pcm, progress),
+        Request::Record(path) => Ok(record(live, files, path, host)),
         Request::Save(paths) => Ok(save(live, files, paths, host)),
+        Request::Voices => Ok(live.voices()),
+        Request::Meter => Ok(live.measure()),
         Request::Show => Ok(Answer::Done),
         Request::Help => Ok(Answer::Done),
         Request::Quit => Ok(Answer::Done),
     }
 }
 
-// Writes this many frames, within the limit of a session.
+// Writes this many frames.
 fn give_frames<P: Write, Q: Progress>(
     live: &mut LiveState<'_>,
     count: u32,
@@ -102,29 +108,21 @@ fn give_frames<P: Write, Q: Progress>(
     ensures is_written { IfOk result (λ a. Appends (P.contents pcm.old) (P.contents pcm.new) (flat_map sample_bytes (block_if live.old count a))) }
     ensures stopped { IfErr result (λ fault. FramesStop live.old count (P.contents pcm.old) (P.contents pcm.new) fault) }
 {
-    let given = u64::from(live.given) + u64::from(count);
-    if given > u64::from(MOST_FRAMES) {
-        return Ok(Answer::TooManyFrames);
-    }
-    match write_frames(&mut live.player, count, pcm, progress) {
+    let given = live.performance.given;
+    match write_frames(
+        &mut live.performance.player,
+        &mut live.meter,
+        count,
+        pcm,
+        progress,
+    ) {
         Ok(_) => {
-            live.given = given as u32;
+            live.performance.given = given.saturating_add(u64::from(count));
             Ok(Answer::Done)
         }
         Err(fault) => {
-            let before = 4 * u64::from(live.given);
-            Err(LiveFault::Pcm(sum(before, fault.written)))
+            let before = given.saturating_mul(4);
+            Err(LiveFault::Pcm(before.saturating_add(fault.written)))
         }
-    }
-}
-
-// Adds, saturating.
-fn sum(before: u64, part: u64) -> u64
-    ensures { result ≡ min (before + part) u64.MAX }
-{
-    if part > u64::MAX - before {
-        u64::MAX
-    } else {
-        before + part
     }
 }

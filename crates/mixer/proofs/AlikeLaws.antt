@@ -146,7 +146,7 @@ sum_at-alike b c h (Started n ∷ es) g from left t =
     λ j. cond (nat_le from t) (one j) (pos 0) +ℤ sum_at-alike b c h es g from left t j
 sum_at-alike b c h (Given m ∷ es) g from left t = sum_at-alike b c h es g (from + m) left t
 
-given-without_edits : (es : List Event) → given es ≡ given (without_edits es)
+pub given-without_edits : (es : List Event) → given es ≡ given (without_edits es)
 unfolding given without_edits
 given-without_edits [] = refl
 given-without_edits (Edited d ∷ es) = given-without_edits es

@@ -17,5 +17,6 @@ pub mod Stops
 pub mod Permuted
 pub mod AlikeLaws
 pub mod ReleasedLaws
-pub mod HeldNotes
+pub mod RetimedNotes
 pub mod PressedLaws
+pub mod RecordedLaws

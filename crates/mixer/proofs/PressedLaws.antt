@@ -1,6 +1,7 @@
 -- Pressed notes give the frames of notes that last until their release.
 use Rattle.std.proofs.Common.{◌≡◌, ℕ, zero, suc, ◌+◌, ◌*◌, ◌/◌, ◌<◌, ◌≤◌, ℤ, Bool, true, false, cond, not, ◌||◌, min, Option}
 use Rattle.std.proofs.Common.{Some, None, List, [], ◌∷◌, ◌++◌, map, filter, inl, inr, refl, sym, ap, subst, ◌∙◌, arith}
+use Rattle.std.proofs.Common.{append_assoc}
 use Rattle.std.specs.List.{range_with_len}
 use Rattle.std.specs.Option.{option_map, option_map_or}
 use Rattle.std.proofs.lemmas.Bool.{cases_lt, not-false}
@@ -21,12 +22,13 @@ use Rattle.mixer.specs.Events.{Event, is_sounding, unsilenced, after_start, aged
 use Rattle.mixer.specs.Events.{blocks, heard}
 use Rattle.mixer.specs.Stops.{least}
 use Rattle.mixer.specs.Pressed.{with_handle, pressed_voices, ends, released_by, after_release, KeyEvent, Edited, Started, Pressed}
-use Rattle.mixer.specs.Pressed.{Released, Given, frames_until, held_note, as_notes, key_blocks}
+use Rattle.mixer.specs.Pressed.{Released, Stopped, Given, frames_until, held_note, as_notes, heard_later, heard_keys}
+use Rattle.mixer.specs.Pressed.{key_blocks}
 use Rattle.mixer.proofs.Sums.{sum_over-map, sum_over-same}
 use Rattle.mixer.proofs.Ranges.{map_range-same}
 use Rattle.mixer.proofs.Rewinding.{filter-kept, filter-later, sounding_later, next_sounding}
 use Rattle.mixer.proofs.EventLaws.{blocks_heard}
-use Rattle.mixer.proofs.HeldNotes.{note_lasting, selected_lasting}
+use Rattle.mixer.proofs.RetimedNotes.{selected_retimed}
 
 -- ---- a voice whose end is known
 
@@ -151,9 +153,9 @@ pressed_resolved : (b : Parts) (h : ℕ) (n : Numbers) (es : List KeyEvent)
     → map (resolved es) (pressed_voices b h n) ≡ note_voices b (held_note h n es)
 unfolding pressed_voices note_voices held_note
 pressed_resolved b h n es =
-    ap (λ (vs : List Voice). map (resolved es) (map (with_handle h) (map (playing n) vs))) (selected_lasting b n.length n)
+    ap (λ (vs : List Voice). map (resolved es) (map (with_handle h) (map (playing n) vs))) (selected_retimed b n.start n.length n)
     ∙ pressed_each h n es (selected b n)
-    ∙ ap (map (playing (held_note h n es))) (sym (selected_lasting b (least n.length (frames_until h es)) n))
+    ∙ ap (map (playing (held_note h n es))) (sym (selected_retimed b n.start (least n.length (frames_until h es)) n))
 
 -- ---- a release
 
@@ -279,29 +281,34 @@ later_resolved m es ps =
     ∙ sym (sounding_later m (map (resolved (Given m ∷ es)) ps))
 
 presses_from : (b : Parts) (es : List KeyEvent) (ps : List PlayingVoice)
-    → key_blocks b ps es ≡ blocks b (filter is_sounding (map (resolved es) ps)) (as_notes es)
-unfolding key_blocks blocks as_notes resolved frames_until
+    → key_blocks b ps es ≡ blocks b (filter is_sounding (map (resolved es) ps)) (as_notes es) ++ heard_later b es
+unfolding key_blocks blocks as_notes heard_later resolved frames_until
 presses_from b [] ps = refl
 presses_from b (Edited c ∷ es) ps = presses_from c es ps
 presses_from b (Started n ∷ es) ps =
     presses_from b es (after_start ps (note_voices b n))
-    ∙ ap (λ (qs : List PlayingVoice). blocks b qs (as_notes es))
+    ∙ ap (λ (qs : List PlayingVoice). blocks b qs (as_notes es) ++ heard_later b es)
     (started-resolved es ps (note_voices b n)
     ∙ ap (after_start (filter is_sounding (map (resolved es) ps))) (start_resolved b n es))
 presses_from b (Pressed h n ∷ es) ps =
     presses_from b es (after_start ps (pressed_voices b h n))
-    ∙ ap (λ (qs : List PlayingVoice). blocks b qs (as_notes es))
+    ∙ ap (λ (qs : List PlayingVoice). blocks b qs (as_notes es) ++ heard_later b es)
     (started-resolved es ps (pressed_voices b h n)
     ∙ ap (after_start (filter is_sounding (map (resolved es) ps))) (pressed_resolved b h n es))
 presses_from b (Released r ∷ es) ps =
     presses_from b es (after_release ps r)
-    ∙ ap (λ (qs : List PlayingVoice). blocks b qs (as_notes es)) (after_resolved r es ps)
+    ∙ ap (λ (qs : List PlayingVoice). blocks b qs (as_notes es) ++ heard_later b es) (after_resolved r es ps)
+presses_from b (Stopped ∷ es) ps =
+    presses_from b es [] ∙ ap (λ (fs : List ℤ). fs ++ heard_later b es) (blocks_heard b (as_notes es))
 presses_from b (Given m ∷ es) ps =
-    λ j.
+    let qs : List PlayingVoice = filter is_sounding (map (resolved (Given m ∷ es)) ps) in
+    (λ j.
     block_resolved m es ps j
     ++ (presses_from b es (after_block ps m)
-    ∙ ap (λ (qs : List PlayingVoice). blocks b qs (as_notes es)) (later_resolved m es ps))
-    j
+    ∙ ap (λ (rs : List PlayingVoice). blocks b rs (as_notes es) ++ heard_later b es) (later_resolved m es ps))
+    j)
+    ∙ sym (append_assoc (block qs m) (blocks b (after_block qs m) (as_notes es)) (heard_later b es))
 
-pub presses_heard : (b : Parts) (es : List KeyEvent) → key_blocks b [] es ≡ heard b (as_notes es)
-presses_heard b es = presses_from b es [] ∙ blocks_heard b (as_notes es)
+pub presses_heard : (b : Parts) (es : List KeyEvent) → key_blocks b [] es ≡ heard_keys b es
+presses_heard b es =
+    presses_from b es [] ∙ ap (λ (fs : List ℤ). fs ++ heard_later b es) (blocks_heard b (as_notes es))

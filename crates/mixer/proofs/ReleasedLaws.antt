@@ -1,5 +1,5 @@
--- Voices of a player after a release.
-use Rattle.std.proofs.Common.{◌≡◌, ℕ, ◌+◌, ◌<◌, ◌^◌, Bool, true, false, cond, List, map, filter, get_or, refl, sym, ap}
+-- Voices of a player after a release, or when some or all are dropped.
+use Rattle.std.proofs.Common.{◌≡◌, ℕ, ◌+◌, ◌<◌, ◌^◌, Bool, true, false, cond, List, [], map, filter, get_or, refl, sym, ap}
 use Rattle.std.proofs.Common.{subst, ◌∙◌, arith}
 use Rattle.std.specs.Option.{option_map_or}
 use Rattle.std.proofs.lemmas.List.Elements.{All-map}
@@ -35,9 +35,20 @@ pub released_ahead : (a : Ahead) (r : Release) (ps : List PlayingVoice) → a.le
 released_ahead a r ps e young =
     none_ahead a (map (released_by r) ps) e (younger_than (map (released_by r) ps) (released_younger r lifetime ps young))
 
-pub released_playing : (a : Ahead) (r : Release) (ps was : List PlayingVoice) → a.left ≡ 0 → playing_now a ps ≡ was
-    → playing_now a (map (released_by r) (filter is_sounding ps)) ≡ after_release was r
+pub released_playing : (a : Ahead) (r : Release) (ps was : List PlayingVoice) → a.left ≡ 0 → ps ≡ was
+    → playing_now a (map (released_by r) ps) ≡ after_release was r
 unfolding after_release
 released_playing a r ps was e h =
-    none_playing a (map (released_by r) (filter is_sounding ps)) e
-    ∙ ap (λ (qs : List PlayingVoice). filter is_sounding (map (released_by r) qs)) (sym (none_playing a ps e) ∙ h)
+    none_playing a (map (released_by r) ps) e
+    ∙ ap (λ (qs : List PlayingVoice). filter is_sounding (map (released_by r) qs)) h
+
+-- ---- voices that are dropped
+
+pub dropped_ahead : (a : Ahead) (ps : List PlayingVoice) → a.left ≡ 0 → AllYounger lifetime ps → IsAhead a ps
+dropped_ahead a ps e young = none_ahead a ps e (younger_than ps young)
+
+pub ended_ahead : (a : Ahead) → a.left ≡ 0 → IsAhead a []
+ended_ahead a e = none_ahead a [] e (λ k d l. absurd (omega (arith, l)))
+
+pub ended_playing : (a : Ahead) → a.left ≡ 0 → playing_now a [] ≡ []
+ended_playing a e = none_playing a [] e

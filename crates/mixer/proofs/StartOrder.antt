@@ -8,7 +8,7 @@ use Rattle.script_notes.specs.Notes.{Numbers}
 use Rattle.bank_parts.specs.declared.parts.Parts.{Parts}
 use Rattle.mixer.specs.declared.playing.PlayingVoice.{PlayingVoice}
 use Rattle.mixer.specs.StartFrames.{note_voices, silences, is_silenced, voice_at, start_at, sum_at, side_at, frames, clipped, is_left}
-use Rattle.mixer.specs.Render.{frame_count, silenced_from, note_with, note_at, notes_at, rendered_side, render}
+use Rattle.mixer.specs.Render.{frame_count, silenced_from, note_with, note_at, notes_at, rendered_side, first_frames, render}
 use Rattle.mixer.specs.Order.{placed, in_order, start_of, frames_of, IsRising}
 use Rattle.mixer.proofs.Orders.{rising-in_order}
 
@@ -17,11 +17,11 @@ unfoldable sorted_at : Parts → List Numbers → List Numbers → Bool → ℕ 
 sorted_at b before [] left t = pos 0
 sorted_at b before (n ∷ after) left t = note_at b before after n left t +ℤ sorted_at b before after left t
 
-rising-from : (j k : ℕ) (ms : List Numbers) → j ≤ k → IsRising k ms → IsRising j ms
+pub rising-from : (j k : ℕ) (ms : List Numbers) → j ≤ k → IsRising k ms → IsRising j ms
 rising-from j k [] h r = tt
 rising-from j k (m ∷ ms) h r = (omega (arith, h, r.0), r.1)
 
-at_least : (a b : ℕ) → a ≤ b → nat_le a b ≡ true
+pub at_least : (a b : ℕ) → a ≤ b → nat_le a b ≡ true
 at_least a b h = grind (arith, nat_tests)
 
 not_least : (a b : ℕ) → b < a → nat_le a b ≡ false
@@ -159,9 +159,9 @@ pub order_free : (b : Parts) (ns : List Numbers) (left : Bool) (t : ℕ)
     → sum_at (map (start_of b) (in_order ns)) left t ≡ notes_at b [] ns left t
 order_free b ns left t = in_order_is b 0 (in_order ns) left t (rising-in_order ns) ∙ sym (unordered_is b [] ns left t)
 
-pub render_is : (b : Parts) (ns : List Numbers) → frames_of b (in_order ns) (frame_count b ns) ≡ render b ns
-unfolding frames_of frames side_at rendered_side render
-render_is b ns =
+pub frames_are : (b : Parts) (ns : List Numbers) (m : ℕ) → frames_of b (in_order ns) m ≡ first_frames b ns m
+unfolding frames_of frames side_at rendered_side
+frames_are b ns m =
     λ j.
     map
     (λ i.
@@ -170,4 +170,8 @@ render_is b ns =
     (let e : 0 + i / 2 ≡ i / 2 = omega arith in e)
     ∙ order_free b ns (is_left i) (i / 2))
     j))
-    (range_with_len 0 (2 * frame_count b ns))
+    (range_with_len 0 (2 * m))
+
+pub render_is : (b : Parts) (ns : List Numbers) → frames_of b (in_order ns) (frame_count b ns) ≡ render b ns
+unfolding render
+render_is b ns = frames_are b ns (frame_count b ns)

@@ -8,3 +8,4 @@ pub mod KeptVoices
 pub mod Ahead
 pub mod Alike
 pub mod Pressed
+pub mod Recorded

@@ -37,36 +37,53 @@ after_release ps r = filter is_sounding (map (released_by r) ps)
 
 -- ---- the frames
 
--- an edit, with the bank after it, which may be any; a note start; a note that is pressed, and its handle; a release; a
--- block of a number of frames
+-- an edit, with the bank after it, which may be any; a note start; a note that is pressed, and its handle; a release;
+-- the end of all voices; a block of a number of frames
 pub data KeyEvent : Type 0 where
   Edited : Parts → KeyEvent
   Started : Numbers → KeyEvent
   Pressed : ℕ → Numbers → KeyEvent
   Released : Release → KeyEvent
+  Stopped : KeyEvent
   Given : ℕ → KeyEvent
 
--- how many frames come before a release of the handle, if it is released
+-- how many frames come before a release of the handle, or the end of all voices, if there is one
 unfoldable pub frames_until : ℕ → List KeyEvent → Option ℕ
 frames_until h [] = None
 frames_until h (Edited c ∷ es) = frames_until h es
 frames_until h (Started n ∷ es) = frames_until h es
 frames_until h (Pressed g n ∷ es) = frames_until h es
 frames_until h (Released r ∷ es) = cond (ends r h) (Some 0) (frames_until h es)
+frames_until h (Stopped ∷ es) = Some 0
 frames_until h (Given m ∷ es) = option_map (λ k. m + k) (frames_until h es)
 
 -- a pressed note, which ends when it is released, but not later than its own end
 unfoldable pub held_note : ℕ → Numbers → List KeyEvent → Numbers
 held_note h n es = record n { length = least n.length (frames_until h es) }
 
--- the same with a note start, of the right length, for each press
+-- the events up to the first end of all voices, with a note start, of the right length, for each press
 unfoldable pub as_notes : List KeyEvent → List Event
 as_notes [] = []
 as_notes (Edited c ∷ es) = events.Edited c ∷ as_notes es
 as_notes (Started n ∷ es) = events.Started n ∷ as_notes es
 as_notes (Pressed h n ∷ es) = events.Started (held_note h n es) ∷ as_notes es
 as_notes (Released r ∷ es) = as_notes es
+as_notes (Stopped ∷ es) = []
 as_notes (Given m ∷ es) = events.Given m ∷ as_notes es
+
+-- the frames after each end of all voices, on the bank at that time
+unfoldable pub heard_later : Parts → List KeyEvent → List ℤ
+heard_later b [] = []
+heard_later b (Edited c ∷ es) = heard_later c es
+heard_later b (Started n ∷ es) = heard_later b es
+heard_later b (Pressed h n ∷ es) = heard_later b es
+heard_later b (Released r ∷ es) = heard_later b es
+heard_later b (Stopped ∷ es) = heard b (as_notes es) ++ heard_later b es
+heard_later b (Given m ∷ es) = heard_later b es
+
+-- All frames. Notes end when they are released; nothing is heard of them after an end of all voices.
+abbrev pub heard_keys : Parts → List KeyEvent → List ℤ
+heard_keys b es = heard b (as_notes es) ++ heard_later b es
 
 -- all blocks of a player of these voices
 unfoldable pub key_blocks : Parts → List PlayingVoice → List KeyEvent → List ℤ
@@ -75,10 +92,11 @@ key_blocks b ps (Edited c ∷ es) = key_blocks c ps es
 key_blocks b ps (Started n ∷ es) = key_blocks b (after_start ps (note_voices b n)) es
 key_blocks b ps (Pressed h n ∷ es) = key_blocks b (after_start ps (pressed_voices b h n)) es
 key_blocks b ps (Released r ∷ es) = key_blocks b (after_release ps r) es
+key_blocks b ps (Stopped ∷ es) = key_blocks b [] es
 key_blocks b ps (Given m ∷ es) = block ps m ++ key_blocks b (after_block ps m) es
 
 -- ---- the law
 
 -- pressed notes give the frames of notes that last until their release
 abbrev pub PressesAreHeard : Type 0
-PressesAreHeard = (b : Parts) (es : List KeyEvent) → key_blocks b [] es ≡ heard b (as_notes es)
+PressesAreHeard = (b : Parts) (es : List KeyEvent) → key_blocks b [] es ≡ heard_keys b es

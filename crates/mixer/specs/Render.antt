@@ -52,9 +52,13 @@ notes_at b before (n ∷ after) left t = note_at b before after n left t +ℤ no
 unfoldable pub rendered_side : Parts → List Numbers → ℕ → ℤ
 rendered_side b ns i = clipped (notes_at b [] ns (is_left i) (i / 2))
 
--- all frames of notes in any order, left and right interleaved
+-- the first m frames of notes in any order, left and right interleaved
+abbrev pub first_frames : Parts → List Numbers → ℕ → List ℤ
+first_frames b ns m = map (rendered_side b ns) (range_with_len 0 (2 * m))
+
+-- all of them
 unfoldable pub render : Parts → List Numbers → List ℤ
-render b ns = map (rendered_side b ns) (range_with_len 0 (2 * frame_count b ns))
+render b ns = first_frames b ns (frame_count b ns)
 
 -- ---- how many that can be
 

@@ -221,6 +221,18 @@ pub(crate) fn silence_voices<'a>(
     drop_silenced(voices, new);
 }
 
+// Discards the remaining frames, and drops the voices that are over at the next frame.
+pub(crate) fn drop_ended<'a>(voices: &mut Vec<PlayingVoice<'a>>, ahead: &mut Ahead)
+    requires { IsAhead ahead.old voices.old.items }
+    ensures ahead { IsAhead ahead.new voices.new.items }
+    ensures none { ahead.new.left ≡ 0 }
+    ensures young { AllYounger lifetime voices.new.items }
+    ensures all { voices.new.items ≡ playing_now ahead.old voices.old.items }
+{
+    discard(voices, ahead);
+    drop_over(voices);
+}
+
 // Ends the notes of a release at the next frame. The frames that are summed ahead don't have their releases.
 pub(crate) fn end_notes<'a>(
     playing: &mut Vec<PlayingVoice<'a>>,
@@ -231,7 +243,16 @@ pub(crate) fn end_notes<'a>(
     ensures ahead { IsAhead ahead.new playing.new.items }
     ensures released { playing_now ahead.new playing.new.items ≡ after_release (playing_now ahead.old playing.old.items) release }
 {
-    discard(playing, ahead);
-    drop_over(playing);
+    drop_ended(playing, ahead);
     release_voices(playing.as_mut_slice(), release);
+}
+
+// Discards the remaining frames, and drops all voices.
+pub(crate) fn end_all<'a>(voices: &mut Vec<PlayingVoice<'a>>, ahead: &mut Ahead)
+    ensures ahead { IsAhead ahead.new voices.new.items }
+    ensures none { playing_now ahead.new voices.new.items ≡ [] }
+{
+    ahead.left = 0;
+    ahead.next_count = 0;
+    voices.truncate(0);
 }

@@ -3,6 +3,7 @@ ghost use Rattle.mixer.specs.Alike.{AlikeBlocks, AlikeFrames, AlikeNotesRender, 
 ghost use Rattle.mixer.specs.Events.{BlocksAreHeard, SplitsAreFree};
 ghost use Rattle.mixer.specs.Order.{OrderIsFree};
 ghost use Rattle.mixer.specs.Pressed.{PressesAreHeard};
+ghost use Rattle.mixer.specs.Recorded.{RecordingsAreHeard};
 ghost use Rattle.mixer.specs.Stops.{StopsAreLeast};
 
 /// The law that a player's blocks are the frames of its note starts, each with the bank at that time: after any starts,
@@ -46,9 +47,17 @@ pub fn alike_edits_change_no_frame()
     ensures blocks { AlikeBlocks }
 {}
 
-/// The law that what a player gives are the frames of notes, each of which lasts from its press to its release: after
-/// any presses, releases, changes of the bank and blocks of any length. It does nothing.
+/// The law that what a player gives are the frames of notes, each of which lasts from its press to its release, and of
+/// which nothing is heard after an end of all voices: after any presses, releases, changes of the bank and blocks of any
+/// length. It does nothing.
 #[tactic(auto, using(crate::proofs::PressedLaws::presses_heard))]
 pub fn presses_are_heard()
     ensures { PressesAreHeard }
+{}
+
+/// The law that the notes that were played, each from its press to its release, render as they were heard. Notes that
+/// are held at the end last until then. It does nothing.
+#[tactic(auto, using(crate::proofs::RecordedLaws::recordings_heard))]
+pub fn recordings_are_heard()
+    ensures { RecordingsAreHeard }
 {}

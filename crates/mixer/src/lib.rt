@@ -13,7 +13,7 @@ mod rendering;
 
 pub use laws::{
     alike_banks_render_the_same, alike_edits_change_no_frame, blocks_are_heard, order_is_free,
-    presses_are_heard, splits_are_free, stops_are_least,
+    presses_are_heard, recordings_are_heard, splits_are_free, stops_are_least,
 };
 pub use player::Player;
 pub use playing::Release;

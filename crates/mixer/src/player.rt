@@ -4,7 +4,7 @@ ghost use Rattle.mixer.specs.StartFrames as heard;
 ghost use Rattle.mixer.specs.Events.{after_start, after_block, block, next_side};
 ghost use Rattle.mixer.specs.Pressed.{after_release, pressed_voices};
 
-use crate::ahead::{Ahead, MOST_AHEAD, end_notes, silence_voices, sum_ahead};
+use crate::ahead::{Ahead, MOST_AHEAD, drop_ended, end_all, end_notes, silence_voices, sum_ahead};
 use crate::blocks::{MixBuffers, PART_SIDES, mix_part};
 use crate::measuring::report_start;
 use crate::playing::{PlayingVoice, Release, drop_over, note_voices, pressed_voices};
@@ -123,6 +123,24 @@ impl<'a> Player<'a> {
         ensures { self.new ≡ after_release self.old release }
     {
         end_notes(&mut self.voices, &mut self.ahead, release);
+    }
+
+    /// Ends all voices before the next frame, at once and without their releases. Allocates nothing.
+    pub fn stop(&mut self)
+        ensures { self.new ≡ [] }
+    {
+        end_all(&mut self.voices, &mut self.ahead);
+    }
+
+    /// How many voices sound at the next frame.
+    ///
+    /// It discards the frames that are summed ahead.
+    pub fn count(&mut self) -> usize
+        ensures count { result ≡ length self.old }
+        ensures same { self.new ≡ self.old }
+    {
+        drop_ended(&mut self.voices, &mut self.ahead);
+        self.voices.len()
     }
 
     // Starts voices at the next frame, after it has silenced those that they end by their exclusive classes.

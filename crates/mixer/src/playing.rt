@@ -37,14 +37,23 @@ pub enum Release {
 }
 
 impl Release {
+    /// Whether it ends the notes with a handle.
+    pub fn ends(self, handle: u64) -> bool
+        ensures { result ≡ ends self handle }
+    {
+        match self {
+            Release::One(one) => one == handle,
+            Release::All => true,
+        }
+    }
+
     // Whether it ends a note with this handle, or without one.
-    fn ends(self, handle: Option<u64>) -> bool
+    fn ends_note(self, handle: Option<u64>) -> bool
         ensures { result ≡ option_map_or (ends self) handle false }
     {
-        match (self, handle) {
-            (Release::One(one), Some(other)) => one == other,
-            (Release::All, Some(_)) => true,
-            (_, None) => false,
+        match handle {
+            Some(handle) => self.ends(handle),
+            None => false,
         }
     }
 }
@@ -120,7 +129,7 @@ pub(crate) fn release_voices(voices: &mut [PlayingVoice], release: Release)
 fn release_voice(p: &mut PlayingVoice, release: Release)
     ensures { p.new ≡ released_by release p.old }
 {
-    if release.ends(p.handle) {
+    if release.ends_note(p.handle) {
         p.voice.release();
     }
 }

@@ -1,4 +1,4 @@
-use Rattle.std.proofs.Common.{◌<◌, length, set, sym, ap, ◌∙◌}
+use Rattle.std.proofs.Common.{set, sym, ap, ◌∙◌}
 use Rattle.std.proofs.lemmas.List.Edits.{map_over_more}
 use Rattle.mixer.specs.declared.playing.PlayingVoice.{PlayingVoice}
 use Rattle.mixer.specs.Pressed.{with_handle}
