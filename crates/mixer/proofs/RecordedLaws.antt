@@ -20,7 +20,7 @@ use Rattle.mixer.proofs.RetimedNotes.{selected_anywhere}
 use Rattle.mixer.proofs.StartOrder.{rising-from, at_least, frames_are}
 
 -- the events, and then a release of all notes
-abbrev closed : List KeyEvent → List KeyEvent
+abbrev pub closed : List KeyEvent → List KeyEvent
 closed es = es ++ Released All ∷ []
 
 -- ---- a release at the end

@@ -228,6 +228,7 @@ pub(crate) fn drop_ended<'a>(voices: &mut Vec<PlayingVoice<'a>>, ahead: &mut Ahe
     ensures none { ahead.new.left ≡ 0 }
     ensures young { AllYounger lifetime voices.new.items }
     ensures all { voices.new.items ≡ playing_now ahead.old voices.old.items }
+    ensures same { playing_now ahead.new voices.new.items ≡ playing_now ahead.old voices.old.items }
 {
     discard(voices, ahead);
     drop_over(voices);
