@@ -10,10 +10,10 @@ use Exporter 'import';
 our @EXPORT = qw(try_notes wave_of play_notes);
 
 # Returns the WAVE file of frames, given as in the table.
-sub wave_of {
-    my ($unescaped) = @_;
-    return Rows::wave(join '', map { frame_of($_) } split ' ', $unescaped);
-}
+sub wave_of { my ($unescaped) = @_; return Rows::wave(frames_of($unescaped)); }
+
+# Returns the bytes of frames.
+sub frames_of { my ($unescaped) = @_; return join '', map { frame_of($_) } split ' ', $unescaped; }
 
 sub frame_of {
     my ($word) = @_;
