@@ -78,11 +78,14 @@ sub wrong_of_noise {
     return $wrong // (@answers == $count + 1 ? undef : @answers - 1 . " answers to $count lines: " . one_line($lines));
 }
 
-# Returns what is wrong with the limit of 100,000,000 frames, or undef.
+# Returns what is wrong with a session of over 100,000,000 frames, or undef: a recording has the notes that start before.
 sub wrong_of_limit {
-    my $status = shell('"$0" live tone /dev/null < lines > answers', "frames 60000000\nframes 40000001\nframes 40000000\nframes 1\nframes 0\nundo\n");
-    my $want = "ok\nrefused 52 TooManyFrames\nok\nrefused 52 TooManyFrames\nok\nrefused 39 NothingToUndo\n";
-    return $status || read_bytes('answers') ne $want ? "status $status, answers " . one_line(read_bytes('answers')) : undef;
+    my $lines = "frames 99999990\nnote 30 0 0 60 100\nframes 10\npress 0 0 61 100\nframes 5\nnote 1 0 0 62 100\nrecord late\n";
+    my $status = shell('"$0" live tone /dev/null < lines > answers', $lines);
+    my $want = "ok\nok 1\nok\nok 1\nok\nok 1\nok 2\n";
+    return "status $status, answers " . one_line(read_bytes('answers')) if $status || read_bytes('answers') ne $want;
+    my $notes = "99999990 10 0 0 60 100\n100000000 0 0 0 61 100\n";
+    return read_bytes('late') eq $notes ? undef : 'recorded ' . one_line(read_bytes('late'));
 }
 
 # Returns what is wrong with the lines of the help, or undef: each must be a valid line.

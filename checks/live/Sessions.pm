@@ -1,7 +1,7 @@
-# Tests random sessions: edits of all kinds, many of them refused, undo and redo, notes, presses and releases, frames,
-# saves and listings. The expected answer to an edit is the result of `apply` of the same edit to the same bank; saved
-# files are those that `apply` writes, and frames are the sum of what `play` renders of the notes of each bank, each from
-# its start, and each pressed note up to its release.
+# Tests random sessions: edits of all kinds, many of them refused, undo and redo, notes, presses, releases and pedals,
+# stops, frames, measures, recordings, saves and listings. The expected answer to an edit is the result of `apply` of the
+# same edit to the same bank; saved files are those that `apply` writes, and frames are the sum of what `play` renders of
+# the notes of each bank since the last stop, each from its start to its release. A recording has these notes.
 package Sessions;
 use strict;
 use warnings;
@@ -15,7 +15,9 @@ our @EXPORT = qw(try_sessions try_kinds session_of wrong_of_run);
 my %floors = (
     'edit ok' => 5000, 'edit refused' => 3000, 'neutral ok' => 500, 'neutral refused' => 500, 'undo ok' => 1500, 'undo refused' => 500,
     'redo ok' => 500, 'redo refused' => 500, 'note ok' => 4000, 'press ok' => 3000, 'release ok' => 400,
-    'release of none' => 500, 'silence ok' => 1000, 'frames ok' => 4000, 'save ok' => 1500, 'show ok' => 300, 'fault' => 500,
+    'release of none' => 500, 'silence ok' => 500, 'frames ok' => 4000, 'save ok' => 1500, 'show ok' => 300, 'fault' => 500,
+    'pedal on' => 1000, 'pedal off' => 500, 'notes that a pedal held' => 100, 'stop ok' => 500, 'record ok' => 500,
+    'voices ok' => 500, 'meter ok' => 500,
     'frames of several banks' => 1000,
 );
 my %count;
@@ -23,7 +25,8 @@ my %count;
 # The faults of the faulty lines, by their first words.
 my %faults = (
     undo => 'fault 41 Syntax', note => 'fault 45 BadNote', press => 'fault 45 BadNote', release => 'fault 41 Syntax',
-    frames => 'fault 42 Number', save => 'fault 43 Literal', help => 'fault 41 Syntax',
+    frames => 'fault 42 Number', save => 'fault 43 Literal', help => 'fault 41 Syntax', pedal => 'fault 41 Syntax',
+    record => 'fault 41 Syntax',
 );
 
 my $lot;
@@ -87,14 +90,15 @@ sub note { return 'note ' . one_of(0, 1, 50 + below(400), 3000) . ' 0 ' . one_of
 # Returns the numbers of a key; there are few, so that presses and releases meet.
 sub key { return '0 ' . one_of(0, 0, 0, 1) . ' ' . one_of(40, 60); }
 
-my $saves;
+my ($saves, $records);
 sub line {
     my @lines = (
         (\&edit) x 8, sub { 'neutral ' . (below(3) ? neutral_step() : edit()) }, ('undo') x 3, ('redo') x 3, (\&note) x 5,
-        (sub { 'press ' . key() . ' ' . (1 + below(20)) }) x 3, (sub { 'release ' . key() }) x 2, 'silence',
+        (sub { 'press ' . key() . ' ' . (1 + below(20)) }) x 3, (sub { 'release ' . key() }) x 2, one_of('silence', 'stop'),
+        (sub { 'pedal ' . one_of('on', 'on', 'off') . ' 0 ' . one_of(0, 0, 1) }) x 2, sub { $records++; "record notes.$records" }, one_of('voices', 'meter'),
         (sub { 'frames ' . one_of(0, 1, below(300), below(3000), 1024) }) x 5,
         (sub { $saves++; "save saved.$saves " . (below(2) ? "undo.$saves" : "\"undo.$saves\"") }) x 2,
-        'show', sub { one_of('', ' # nothing', 'undo 1', 'rename-sample 0', 'note 1 2', 'press 0 0 60', 'release 0 0', 'frames -1', 'save "a', 'trim 0 x1', 'help me') },
+        'show', sub { one_of('', ' # nothing', 'undo 1', 'rename-sample 0', 'note 1 2', 'press 0 0 60', 'release 0 0', 'pedal up 0 0', 'record a b', 'frames -1', 'save "a', 'trim 0 x1', 'help me') },
     );
     my $line = $lines[below(scalar @lines)];
     return ref $line ? $line->() : $line;
@@ -197,24 +201,82 @@ sub take_answer {
     return @answers;
 }
 
-# Starts a note of a number of frames, or of those until its release if the number isn't known yet.
+# Starts a note of at most a number of frames, on the current bank.
 sub start {
     my ($s, $length, @numbers) = @_;
-    my $note = [$s->{frame}, $length, @numbers];
-    push @{ $s->{notes}{ script_of($s) } }, $note;
-    push @{ $s->{held} }, $note if !defined $length;
+    my $note = { start => $s->{frame}, length => $length, numbers => [@numbers], preset => "@numbers[0, 1]", key => "@numbers[0 .. 2]" };
+    push @{ $s->{played} }, $note;
+    push @{ $s->{notes}{ scalar(@{ $s->{stops} }), script_of($s) } }, $note;
+    return $note;
 }
 
-# Releases held notes: the first of a key, or all if there is no key. Returns how many.
-sub released {
-    my ($s, $key) = @_;
-    my @notes = grep { !defined $key || "$_->[2] $_->[3] $_->[4]" eq $key } @{ $s->{held} };
-    @notes = @notes[0 .. 0] if defined $key && @notes;
+# Starts a note that its key holds.
+sub hold {
+    my ($s, @numbers) = @_;
+    push @{ $s->{held} }, start($s, 100_000_000, @numbers);
+}
+
+# Ends some notes now, unless they have ended before.
+sub end_notes {
+    my ($s, @notes) = @_;
     for my $note (@notes) {
-        $note->[1] = $s->{frame} - $note->[0];
+        my $length = $s->{frame} - $note->{start};
+        $note->{length} = $length if !$note->{is_over} && $length < $note->{length};
+        $note->{is_over} = 1;
         $s->{held} = [grep { $_ != $note } @{ $s->{held} }];
     }
     return scalar @notes;
+}
+
+# Releases a key: its first note ends, or is left to the pedal of its preset. Returns how many notes.
+sub released {
+    my ($s, $key) = @_;
+    my ($note) = grep { $_->{key} eq $key && !$_->{is_sustained} } @{ $s->{held} };
+    return 0 if !$note;
+    if ($s->{pedals}{ $note->{preset} }) { $note->{is_sustained} = 1; }
+    else { end_notes($s, $note); }
+    return 1;
+}
+
+# Ends all notes, and releases the pedals. Returns how many notes were held.
+sub all_released {
+    my ($s) = @_;
+    my $held = @{ $s->{held} };
+    end_notes($s, @{ $s->{played} });
+    $s->{pedals} = {};
+    return $held;
+}
+
+# Releases a pedal. Returns how many notes it held alone.
+sub pedal_released {
+    my ($s, $preset) = @_;
+    delete $s->{pedals}{$preset};
+    my $notes = end_notes($s, grep { $_->{preset} eq $preset && $_->{is_sustained} } @{ $s->{held} });
+    $count{'notes that a pedal held'} += $notes;
+    return $notes;
+}
+
+# Returns the line of a note in a note list; one that is held ends now.
+sub listed {
+    my ($s, $note) = @_;
+    my $length = $s->{frame} - $note->{start};
+    $length = $note->{length} if $note->{is_over} || $note->{length} < $length;
+    return join(' ', $note->{start}, $length, @{ $note->{numbers} }) . "\n";
+}
+
+# Returns what is wrong with a recording, or undef.
+sub is_recorded {
+    my ($s, $answer, $notes) = @_;
+    my $wrong = counted('record ok', $answer, scalar @{ $s->{played} });
+    my $want = join '', map { listed($s, $_) } @{ $s->{played} };
+    return $wrong // (read_bytes($notes) eq $want ? undef : 'another recording: ' . one_line(read_bytes($notes)));
+}
+
+# Counts a line of a kind, and returns what is wrong with its answer with a number, or undef.
+sub counted {
+    my ($kind, $answer, $number) = @_;
+    $count{$kind}++;
+    return $answer eq "ok $number" ? undef : "answered '$answer', not 'ok $number'";
 }
 
 # Returns what is wrong with the answer to a line, or undef, and updates the session.
@@ -232,19 +294,36 @@ sub wrong_of_line {
         return $answer =~ /^ok \d+$/ ? undef : "answered '$answer'";
     }
     if ($line =~ /^press (\d+) (\d+) (\d+) (\d+)$/) {
-        start($s, undef, $1, $2, $3, $4);
+        hold($s, $1, $2, $3, $4);
         $count{'press ok'}++;
         return $answer =~ /^ok \d+$/ ? undef : "answered '$answer'";
     }
     if ($line =~ /^release (\d+ \d+ \d+)$/) {
         my $notes = released($s, $1);
-        $count{ $notes ? 'release ok' : 'release of none' }++;
-        return $answer eq "ok $notes" ? undef : "answered '$answer', not 'ok $notes'";
+        return counted($notes ? 'release ok' : 'release of none', $answer, $notes);
     }
-    if ($line eq 'silence') {
-        my $notes = released($s);
-        $count{'silence ok'}++;
-        return $answer eq "ok $notes" ? undef : "answered '$answer', not 'ok $notes'";
+    return counted('silence ok', $answer, all_released($s)) if $line eq 'silence';
+    if ($line eq 'stop') {
+        all_released($s);
+        push @{ $s->{stops} }, $s->{frame};
+        return answered('stop', $answer, 'ok');
+    }
+    if ($line =~ /^pedal on (\d+ \d+)$/) {
+        $s->{pedals}{$1} = 1;
+        $count{'pedal on'}++;
+        return $answer eq 'ok' ? undef : "answered '$answer'";
+    }
+    return counted('pedal off', $answer, pedal_released($s, $1)) if $line =~ /^pedal off (\d+ \d+)$/;
+    return is_recorded($s, $answer, $1) if $line =~ /^record (notes\.\d+)$/;
+    if ($line eq 'voices') {
+        my $held = @{ $s->{held} };
+        $count{'voices ok'}++;
+        return $answer =~ /^ok \d+ $held$/ ? undef : "answered '$answer', with $held held";
+    }
+    if ($line eq 'meter') {
+        push @{ $s->{measures} }, [$s->{frame}, $answer];
+        $count{'meter ok'}++;
+        return;
     }
     if ($line =~ /^frames (\d+)$/) {
         $s->{frame} += $1;
@@ -255,23 +334,44 @@ sub wrong_of_line {
     return is_edited($s, $answer, $line);
 }
 
-# Returns the frames that a session must write: the sum over its banks of what `play` renders.
+# Returns the frames that a session must write: the sum over its banks of what `play` renders of the notes between two
+# stops.
 sub frames_of {
     my ($s) = @_;
-    released($s);
+    all_released($s);
     my @sum = (0) x (2 * $s->{frame});
-    for my $script (sort keys %{ $s->{notes} }) {
+    my @stops = (@{ $s->{stops} }, $s->{frame});
+    for my $notes (sort keys %{ $s->{notes} }) {
+        my ($stops, $script) = split /$;/, $notes, 2;
         my $made = made_by($s, $script);
         return (undef, $made->{wrong} // $made->{line}) if $made->{wrong} || $made->{status};
         write_bytes('out', $made->{out});
-        write_bytes('notes', join '', map { "@$_\n" } @{ $s->{notes}{$script} });
+        write_bytes('notes', join '', map { listed($s, $_) } @{ $s->{notes}{$notes} });
         my $run = run_command(['play', 'out', 'notes', 'wave'], 'wave');
         return (undef, $run->{wrong} // $run->{line}) if $run->{status} || $run->{wrong};
         my @samples = unpack 's<*', substr read_bytes('wave'), 44;
-        my $last = @samples < @sum ? $#samples : $#sum;
-        $sum[$_] += $samples[$_] for 0 .. $last;
+        my $end = 2 * $stops[$stops];
+        $end = @samples if @samples < $end;
+        $sum[$_] += $samples[$_] for 0 .. $end - 1;
     }
     return (pack('s<*', @sum));
+}
+
+# Returns what is wrong with the measures of the frames that a session wrote, or undef.
+sub wrong_of_measures {
+    my ($s, $frames) = @_;
+    my $at = 0;
+    for my $measure (@{ $s->{measures} }) {
+        my ($frame, $answer) = @$measure;
+        my ($peak, $clipped) = (0, 0);
+        for (; $at < $frame; $at++) {
+            my @sides = unpack 's<2', substr $frames, 4 * $at, 4;
+            $clipped++ if grep { $_ == -32768 || $_ == 32767 } @sides;
+            for (map { abs } @sides) { $peak = $_ if $_ > $peak; }
+        }
+        return "meter answered '$answer', not 'ok $peak $clipped'" if $answer ne "ok $peak $clipped";
+    }
+    return;
 }
 
 # ---- sessions
@@ -283,7 +383,10 @@ sub wrong_of_run {
     my $stopped = $may_want && $run->{status} == 6 && $run->{line} eq "sfbank: out of memory\n";
     my $wrong = $stopped ? undef : is_done($run);
     return $wrong if $wrong;
-    my $session = { bank => $bank, edits => [], at => 0, frame => 0, notes => {}, held => [], made => {} };
+    my $session = {
+        bank => $bank, edits => [], at => 0, frame => 0, notes => {}, played => [], held => [], pedals => {}, stops => [],
+        measures => [], made => {},
+    };
     my @left = answer_lines($run);
     pop @left;
     for my $line (grep { /^[^#]*\w/ && !/^ #/ } @lines) {
@@ -296,13 +399,14 @@ sub wrong_of_run {
     return 'answered more: ' . one_line(join "\n", @left) if @left;
     (my $frames, $wrong) = frames_of($session);
     $count{'frames of several banks'}++ if keys %{ $session->{notes} } > 1 && $session->{frame};
-    return $wrong // ($frames eq $run->{frames} ? undef : 'other frames: ' . length($run->{frames}) . ' bytes, not ' . length $frames);
+    $wrong //= $frames eq $run->{frames} ? undef : 'other frames: ' . length($run->{frames}) . ' bytes, not ' . length $frames;
+    return $wrong // wrong_of_measures($session, $frames);
 }
 
 # Returns the bank and the lines of the session of a seed.
 sub session_of {
     my ($seed) = @_;
-    ($lot, $saves) = ($seed, 0);
+    ($lot, $saves, $records) = ($seed, 0, 0);
     below(2) for 1 .. 3;
     return ($BANKS[$seed % @BANKS], (map { line() } 1 .. 8 + below(24)), below(2) ? ('quit', 'undo') : ());
 }
@@ -319,7 +423,7 @@ sub try_sessions {
     my ($first, $count) = @_;
     for my $seed ($first .. $first + $count - 1) {
         report("session $seed", wrong_of_session($seed));
-        unlink glob('saved.*'), glob('undo.*');
+        unlink glob('saved.*'), glob('undo.*'), glob('notes.*');
     }
 }
 

@@ -19,7 +19,6 @@ use Rattle.live_lines.specs.declared.request.Request.{Request}
 use Rattle.live_lines.specs.declared.request.Request.TheVariants as asks
 use Rattle.live_lines.specs.Requests.{request_of}
 use Rattle.live_lines.specs.Answers.{answer_text}
-use Rattle.live_sessions.specs.declared.held.HeldNote.{HeldNote}
 use Rattle.live_sessions.specs.declared.live.LiveState.{LiveState}
 use Rattle.live_sessions.specs.declared.requests.RequestKind.{RequestKind}
 use Rattle.live_sessions.specs.declared.requests.Next.{Next}
@@ -30,7 +29,7 @@ use Rattle.live_sessions.specs.declared.saving.SessionFiles.{SessionFiles}
 use Rattle.live_sessions.specs.AnswerTexts.{kind_of, listing_now, preamble, next_of, is_last, failure_answer, IsWritten}
 use Rattle.live_sessions.specs.Streams.{Streams, SavesNothing}
 use Rattle.live_sessions.specs.Steps.{RequestIs, StopsIn, FramesStop, Does, frames_of, preamble_of}
-use Rattle.live_sessions.specs.Steps.{events_of, is_end, first_held, if_released}
+use Rattle.live_sessions.specs.Steps.{events_of, is_end}
 use Rattle.live_sessions.specs.Turns.{RequestResult, LineIs, FilesAfterAnswer, Turn, answered, ends}
 use Rattle.live_sessions.specs.Runs.{Answers, IsLineResult, StopsLine}
 use Rattle.live_sessions.proofs.RequestLaws.{with_input, request_alike, stops_alike, files_after_memory}
@@ -83,10 +82,6 @@ NothingDone old r new =
     ((counts : Counts) → preamble_of counts old r answer.OutOfMemory ≡ []) × (frames_of old r answer.OutOfMemory ≡ [])
     × (events_of old r answer.OutOfMemory new ≡ []) × (is_end r answer.OutOfMemory ≡ false)
 
-unreleased : (held : Option HeldNote) → if_released held answer.OutOfMemory ≡ []
-unreleased None = refl
-unreleased (Some note) = refl
-
 pub nothing_done : (old : LiveState) (r : Request) (new : LiveState) → NothingDone old r new
 nothing_done old (asks.Edit e) new = ((λ counts. refl), refl, refl, refl)
 nothing_done old (asks.Neutral e) new = ((λ counts. refl), refl, refl, refl)
@@ -94,10 +89,15 @@ nothing_done old asks.Undo new = ((λ counts. refl), refl, refl, refl)
 nothing_done old asks.Redo new = ((λ counts. refl), refl, refl, refl)
 nothing_done old (asks.Note n) new = ((λ counts. refl), refl, refl, refl)
 nothing_done old (asks.Press n) new = ((λ counts. refl), refl, refl, refl)
-nothing_done old (asks.Release k) new = ((λ counts. refl), refl, unreleased (first_held k old.held), refl)
+nothing_done old (asks.Release k) new = ((λ counts. refl), refl, refl, refl)
+nothing_done old (asks.Pedal m) new = ((λ counts. refl), refl, refl, refl)
 nothing_done old asks.Silence new = ((λ counts. refl), refl, refl, refl)
+nothing_done old asks.Stop new = ((λ counts. refl), refl, refl, refl)
 nothing_done old (asks.Frames n) new = ((λ counts. refl), refl, refl, refl)
+nothing_done old (asks.Record path) new = ((λ counts. refl), refl, refl, refl)
 nothing_done old (asks.Save paths) new = ((λ counts. refl), refl, refl, refl)
+nothing_done old asks.Voices new = ((λ counts. refl), refl, refl, refl)
+nothing_done old asks.Meter new = ((λ counts. refl), refl, refl, refl)
 nothing_done old asks.Show new = ((λ counts. refl), refl, refl, refl)
 nothing_done old asks.Help new = ((λ counts. refl), refl, refl, refl)
 nothing_done old asks.Quit new = ((λ counts. refl), refl, refl, refl)
@@ -201,23 +201,28 @@ same_reported counts old new asks.Redo a h = refl
 same_reported counts old new (asks.Note n) a h = refl
 same_reported counts old new (asks.Press n) a h = refl
 same_reported counts old new (asks.Release k) a h = refl
+same_reported counts old new (asks.Pedal m) a h = refl
 same_reported counts old new asks.Silence a h = refl
+same_reported counts old new asks.Stop a h = refl
 same_reported counts old new (asks.Frames n) a h = refl
+same_reported counts old new (asks.Record path) a h = refl
 same_reported counts old new (asks.Save paths) a h = refl
+same_reported counts old new asks.Voices a h = refl
+same_reported counts old new asks.Meter a h = refl
 same_reported counts old new asks.Show answer.Done h = ap (listing_now counts) h
 same_reported counts old new asks.Show (answer.Counted n) h = absurd h
+same_reported counts old new asks.Show (answer.Measured n m) h = absurd h
 same_reported counts old new asks.Show (answer.Refused why) h = absurd h
 same_reported counts old new asks.Show answer.NotNeutral h = absurd h
-same_reported counts old new asks.Show answer.TooManyFrames h = absurd h
 same_reported counts old new asks.Show (answer.Fault f) h = absurd h
 same_reported counts old new asks.Show answer.OutOfMemory h = absurd h
 same_reported counts old new asks.Show (answer.WriteFault path n) h = absurd h
 same_reported counts old new asks.Show (answer.Rejected path f) h = absurd h
 same_reported counts old new asks.Help answer.Done h = refl
 same_reported counts old new asks.Help (answer.Counted n) h = absurd h
+same_reported counts old new asks.Help (answer.Measured n m) h = absurd h
 same_reported counts old new asks.Help (answer.Refused why) h = absurd h
 same_reported counts old new asks.Help answer.NotNeutral h = absurd h
-same_reported counts old new asks.Help answer.TooManyFrames h = absurd h
 same_reported counts old new asks.Help (answer.Fault f) h = absurd h
 same_reported counts old new asks.Help answer.OutOfMemory h = absurd h
 same_reported counts old new asks.Help (answer.WriteFault path n) h = absurd h
@@ -233,16 +238,21 @@ same_end old new asks.Redo a h = refl
 same_end old new (asks.Note n) a h = refl
 same_end old new (asks.Press n) a h = refl
 same_end old new (asks.Release k) a h = refl
+same_end old new (asks.Pedal m) a h = refl
 same_end old new asks.Silence a h = refl
+same_end old new asks.Stop a h = refl
 same_end old new (asks.Frames n) a h = refl
+same_end old new (asks.Record path) a h = refl
 same_end old new (asks.Save paths) a h = refl
+same_end old new asks.Voices a h = refl
+same_end old new asks.Meter a h = refl
 same_end old new asks.Show a h = refl
 same_end old new asks.Help a h = refl
 same_end old new asks.Quit answer.Done h = refl
 same_end old new asks.Quit (answer.Counted n) h = absurd h
+same_end old new asks.Quit (answer.Measured n m) h = absurd h
 same_end old new asks.Quit (answer.Refused why) h = absurd h
 same_end old new asks.Quit answer.NotNeutral h = absurd h
-same_end old new asks.Quit answer.TooManyFrames h = absurd h
 same_end old new asks.Quit (answer.Fault f) h = absurd h
 same_end old new asks.Quit answer.OutOfMemory h = absurd h
 same_end old new asks.Quit (answer.WriteFault path n) h = absurd h
@@ -350,9 +360,14 @@ only_frames old asks.Redo b c f h = absurd h
 only_frames old (asks.Note n) b c f h = absurd h
 only_frames old (asks.Press n) b c f h = absurd h
 only_frames old (asks.Release k) b c f h = absurd h
+only_frames old (asks.Pedal m) b c f h = absurd h
 only_frames old asks.Silence b c f h = absurd h
+only_frames old asks.Stop b c f h = absurd h
 only_frames old (asks.Frames n) b c f h = of_frames old n b.pcm c.pcm f h.0
+only_frames old (asks.Record path) b c f h = absurd h
 only_frames old (asks.Save paths) b c f h = absurd h
+only_frames old asks.Voices b c f h = absurd h
+only_frames old asks.Meter b c f h = absurd h
 only_frames old asks.Show b c f h = absurd h
 only_frames old asks.Help b c f h = absurd h
 only_frames old asks.Quit b c f h = absurd h

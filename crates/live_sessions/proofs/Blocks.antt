@@ -1,6 +1,7 @@
 -- A block that is split in two.
 use Rattle.std.proofs.Common.{◌≡◌, ℕ, ◌+◌, ◌-◌, ◌≤◌, ℤ, Bool, true, false, not, cond, List, [], ◌∷◌, ◌++◌, map}
-use Rattle.std.proofs.Common.{filter, refl, sym, ap, ◌∙◌, arith, append-nil, Option}
+use Rattle.std.proofs.Common.{filter, refl, sym, ap, ◌∙◌, arith, append-nil, Option, ◌*◌, ◌%◌, length}
+use Rattle.std.proofs.lemmas.List.FromFn.{length-map-range_with_len}
 use Rattle.std.specs.List.{flat_map}
 use Rattle.std.proofs.lemmas.Bool.{not-false}
 use Rattle.bank_parts.specs.declared.parts.Parts.{Parts}
@@ -10,13 +11,16 @@ use Rattle.voices.proofs.OverLaws.{over_stays}
 use Rattle.zone_select.specs.declared.parameters.VoiceParameters.{VoiceParameters}
 use Rattle.mixer.specs.declared.playing.PlayingVoice.{PlayingVoice}
 use Rattle.mixer.specs.StartFrames.{frames}
-use Rattle.mixer.specs.Events.{Given, starts, given, is_sounding, aged, after_block, block, blocks}
+use Rattle.mixer.specs.Events.{Given, starts, given, is_sounding, aged, next_side, after_block, block, blocks}
 use Rattle.std.proofs.lemmas.Grind.{flat_map-append}
 use Rattle.base_outputs.specs.declared.output.Output.{Output}
 use Rattle.base_outputs.specs.Output.{Puts}
 use Rattle.base_outputs.proofs.OutputLaws.{Putting, putting_step}
 use Rattle.wave_file.specs.Wave.{sample_bytes}
 use Rattle.mixer.proofs.EventLaws.{blocks_from}
+use Rattle.live_sessions.specs.declared.meter.Meter.{Meter}
+use Rattle.live_sessions.specs.Meters.{metered}
+use Rattle.live_sessions.proofs.Metering.{metered-append, metered_none}
 
 over_later : (p : PlayingVoice) (k n : ℕ) → is_sounding (aged k p) ≡ false → is_sounding (aged (k + n) p) ≡ false
 unfolding is_sounding aged
@@ -117,3 +121,25 @@ pub played_next : (ps qs first : List PlayingVoice) (n k count : ℕ) {m : ℕ} 
 played_next ps qs first n k count {m} e h same within =
     let left : m + (n - k) ≡ n = omega arith in
     ap (λ (xs : List PlayingVoice). after_block xs (n - k)) e ∙ after_both ps m (n - k) ∙ ap (after_block ps) left ∙ h
+
+-- whole frames
+block_even : (ps : List PlayingVoice) (k : ℕ) → length (block ps k) % 2 ≡ 0
+unfolding block
+block_even ps k = let e = length-map-range_with_len (next_side ps) 0 (2 * k) in omega (arith, e)
+
+-- the frames of a block and those that remain are measured one after another
+pub measured_next : (ps qs first : List PlayingVoice) (m was all : Meter) (n k count : ℕ) {j : ℕ} → qs ≡ after_block ps j
+    → m ≡ metered was (block ps j)
+    → metered was (block ps n) ≡ metered all (block first count) → j ≡ k → k ≤ n
+    → metered m (block qs (n - k)) ≡ metered all (block first count)
+measured_next ps qs first m was all n k count {j} e h whole same within =
+    let left : n ≡ j + (n - k) = omega arith in
+    (λ i. metered (h i) (block (e i) (n - k)))
+    ∙ sym (metered-append was (block ps j) (block (after_block ps j) (n - k)) (block_even ps j))
+    ∙ ap (metered was) (sym (ap (block ps) left ∙ block_split ps j (n - k)))
+    ∙ whole
+
+pub measured_last : (m all : Meter) (ps first : List PlayingVoice) (n count : ℕ) → n ≡ 0
+    → metered m (block ps n) ≡ metered all (block first count) → m ≡ metered all (block first count)
+measured_last m all ps first n count e h =
+    sym (ap (λ (k : ℕ). metered m (block ps k)) e ∙ ap (metered m) (block_none ps) ∙ metered_none m) ∙ h

@@ -1,7 +1,8 @@
--- The frames that are written are those of the session's events.
-use Rattle.std.proofs.Common.{◌≡◌, ◌<◌, ◌+◌, inl, inr, ℕ, ℤ, zero, suc, List, [], ◌∷◌, ◌++◌, length, take, Option}
-use Rattle.std.proofs.Common.{Some, None, Ok, Err, slice_get, refl, sym, ap, subst, ◌∙◌, arith, length-take}
-use Rattle.std.specs.List.{flat_map}
+-- The frames that are written, and the notes that were played, are those of the session's events.
+use Rattle.std.proofs.Common.{◌≡◌, ◌<◌, ◌+◌, inl, inr, ℕ, ℤ, zero, suc, Bool, true, false, cond, List, [], ◌∷◌, ◌++◌, map}
+use Rattle.std.proofs.Common.{length, take, Option, Some, None, Ok, Err, slice_get, refl, sym, ap, subst, ◌∙◌, arith}
+use Rattle.std.proofs.Common.{length-take}
+use Rattle.std.specs.List.{flat_map, list_any}
 use Rattle.std.specs.Option.{option_map_or}
 use Rattle.std.proofs.lemmas.Grind.{flat_map-append}
 use Rattle.bank_parts.specs.declared.parts.Parts.{Parts}
@@ -10,47 +11,71 @@ use Rattle.edit_refusals.specs.Edits.{raw}
 use Rattle.inverse_edits.specs.Histories.{History, bank_now, IsEdited}
 use Rattle.inverse_edits.proofs.ListLaws.{get_seam}
 use Rattle.mixer.specs.declared.playing.PlayingVoice.{PlayingVoice}
-use Rattle.mixer.specs.StartFrames.{note_voices}
-use Rattle.mixer.specs.declared.playing.Release.{Release}
 use Rattle.mixer.specs.declared.playing.Release.TheVariants.{One, All}
-use Rattle.mixer.specs.Events.{after_start, after_block, block, heard}
-use Rattle.mixer.specs.Pressed.{KeyEvent, Edited, Started, Pressed, Released, Given, key_blocks, as_notes}
-use Rattle.mixer.specs.Pressed.{pressed_voices, after_release}
+use Rattle.mixer.specs.Alike.{LeaveAlike}
+use Rattle.mixer.specs.Events.{after_block, block}
+use Rattle.mixer.specs.Pressed.{KeyEvent, Edited, Pressed, Released, Stopped, Given, key_blocks, as_notes, heard_keys}
+use Rattle.mixer.specs.Recorded.{recorded, key_frames, HasNoStop}
+use Rattle.mixer.specs.Render.{first_frames}
 use Rattle.mixer.proofs.PressedLaws.{presses_heard}
+use Rattle.mixer.proofs.RecordedLaws.{recordings_heard}
 use Rattle.script_notes.specs.Notes.{Numbers}
 use Rattle.wave_file.specs.Wave.{sample_bytes}
 use Rattle.live_lines.specs.declared.answer.Answer.{Answer}
 use Rattle.live_lines.specs.declared.answer.Answer.TheVariants as answer
+use Rattle.live_lines.specs.declared.paths.Paths.{Paths}
+use Rattle.live_lines.specs.declared.pedal.Pedal.{Pedal}
+use Rattle.live_lines.specs.declared.pedal.PedalPosition.{PedalPosition}
+use Rattle.live_lines.specs.declared.pedal.PedalPosition.TheVariants as position
 use Rattle.live_lines.specs.declared.request.Key.{Key}
 use Rattle.live_lines.specs.declared.request.Request.{Request}
 use Rattle.live_lines.specs.declared.request.Request.TheVariants as asks
-use Rattle.live_lines.specs.declared.paths.Paths.{Paths}
 use Rattle.live_sessions.specs.declared.held.HeldNote.{HeldNote}
 use Rattle.live_sessions.specs.declared.live.LiveState.{LiveState}
-use Rattle.live_sessions.specs.Steps.{RequestIs, EditIs, NeutralIs, UndoIs, RedoIs, NoteIs, PressIs, ReleaseIs, SilenceIs}
-use Rattle.live_sessions.specs.Steps.{FramesAre, SaveIs, ShowIs, OnlyTheBank, StartsVoices, Presses, events_of, frames_of}
-use Rattle.live_sessions.specs.Steps.{if_edited, if_started, if_pressed, if_released, if_silenced, first_held, after_key}
-use Rattle.live_sessions.specs.Steps.{if_given, block_if, after_frames, started_with}
+use Rattle.live_sessions.specs.declared.performance.Performance.{Performance}
+use Rattle.live_sessions.specs.Laws.{CanBeListed}
+use Rattle.live_sessions.specs.Performances.{note_started, notes_released, all_stopped, frames_given, released_in_turn}
+use Rattle.live_sessions.specs.Performances.{recorded_now}
+use Rattle.live_sessions.specs.Steps.{RequestIs, EditIs, NeutralIs, UndoIs, RedoIs, NoteIs, PressIs, ReleaseIs, PedalOnIs}
+use Rattle.live_sessions.specs.Steps.{PedalOffIs, PedalMovesTo, SilenceIs, StopIs, FramesAre, RecordIs, SaveIs, VoicesAre}
+use Rattle.live_sessions.specs.Steps.{MeterIs, ShowIs, OnlyTheBank, StartsVoices, events_of, frames_of, if_edited}
+use Rattle.live_sessions.specs.Steps.{if_pressed, if_released, if_silenced, if_stopped, if_given, of_key, of_pedal}
+use Rattle.live_sessions.specs.Steps.{each_released, sustained_by, with_pedal, after_pedal, is_pedal, pedal_of, first_held}
+use Rattle.live_sessions.specs.Steps.{held_by, held_without, sustained_as, after_key, block_if, after_frames, started_with}
 use Rattle.live_sessions.specs.Turns.{RequestResult, LineIs, Turn, answered, events_in, frames_in, bytes_in, AreTurns}
 use Rattle.live_sessions.proofs.AnsweredLines.{nothing_done}
+use Rattle.live_sessions.proofs.PerformanceLaws.{NotesGoOn, Performs, performs_nothing, performs_press, performs_release}
+use Rattle.live_sessions.proofs.PerformanceLaws.{performs_stop, performs_in_turn}
+use Rattle.live_sessions.proofs.PlayedLaws.{Fit, listing, edited_on, given_on, listing_last}
 
 -- ---- one request
 
--- After a request there is a bank, the first bank is unchanged, and the request's events render as these frames,
--- followed by the player's next blocks.
+-- After a request there is a bank, the first bank is unchanged, the request's events render as these frames, followed by
+-- the player's next blocks, and give the notes that were played.
 record RendersAs (old new : LiveState) (b : Parts) (events : List KeyEvent) (frames : List ℤ) : Type 0 where
   bank : Parts
   here : bank_now new.session ≡ Some bank
   first_bank : slice_get new.session.banks 0 ≡ slice_get old.session.banks 0
-  blocks_are : (es : List KeyEvent) → key_blocks b old.player (events ++ es) ≡ frames ++ key_blocks bank new.player es
+  blocks_are : (es : List KeyEvent)
+      → key_blocks b old.performance.player (events ++ es) ≡ frames ++ key_blocks bank new.performance.player es
+  notes_are : NotesGoOn old.performance new.performance events
+
+-- the bank stays, and there are no frames
+performed_renders : (old new : LiveState) (b : Parts) (s : Performance) (events : List KeyEvent)
+    → bank_now old.session ≡ Some b → new.session ≡ old.session → new.performance ≡ s
+    → Performs b old.performance s events → RendersAs old new b events []
+performed_renders old new b s events here same e p = record {
+  bank = b;
+  here = ap bank_now same ∙ here;
+  first_bank = ap (λ (h : History). slice_get h.banks 0) same;
+  blocks_are = λ es. p.blocks es ∙ ap (λ (u : Performance). key_blocks b u.player es) (sym e);
+  notes_are = subst (λ (u : Performance). NotesGoOn old.performance u events) (sym e) p.notes;
+}
 
 renders_nothing : (old new : LiveState) (b : Parts) → bank_now old.session ≡ Some b → new ≡ old → RendersAs old new b [] []
-renders_nothing old new b here e = record {
-  bank = b;
-  here = ap (λ (s : LiveState). bank_now s.session) e ∙ here;
-  first_bank = ap (λ (s : LiveState). slice_get s.session.banks 0) e;
-  blocks_are = λ es. ap (λ (s : LiveState). key_blocks b s.player es) (sym e);
-}
+renders_nothing old new b here e =
+    performed_renders old new b old.performance [] here (ap (λ (s : LiveState). s.session) e)
+    (ap (λ (s : LiveState). s.performance) e) (performs_nothing b old.performance)
 
 edited_blocks : (b c : Parts) (ps : List PlayingVoice) (es : List KeyEvent) → key_blocks b ps (Edited c ∷ es) ≡ key_blocks c ps es
 unfolding key_blocks
@@ -59,15 +84,28 @@ edited_blocks b c ps es = refl
 bank_change_renders : (old new : LiveState) (b c : Parts) → bank_now new.session ≡ Some c
     → slice_get new.session.banks 0 ≡ slice_get old.session.banks 0 → OnlyTheBank old new
     → RendersAs old new b (if_edited answer.Done new) []
-bank_change_renders old new b c here first_bank only = record {
-  bank = c;
-  here = here;
-  first_bank = first_bank;
-  blocks_are = λ es.
-      ap (λ (o : Option Parts). key_blocks b old.player (option_map_or (λ (d : Parts). Edited d ∷ []) o [] ++ es)) here
-      ∙ edited_blocks b c old.player es
-      ∙ ap (λ (ps : List PlayingVoice). key_blocks c ps es) (sym only.player);
-}
+bank_change_renders old new b c here first_bank only =
+    let same : new.performance ≡ old.performance = ap (λ (s : LiveState). s.performance) only in
+    let notes : NotesGoOn old.performance old.performance (Edited c ∷ []) =
+    λ es h. edited_on old.performance.given old.performance.played c es h in
+    record {
+      bank = c;
+      here = here;
+      first_bank = first_bank;
+      blocks_are = λ es.
+          ap
+          (λ (o : Option Parts).
+          key_blocks b old.performance.player (option_map_or (λ (d : Parts). Edited d ∷ []) o [] ++ es))
+          here
+          ∙ edited_blocks b c old.performance.player es
+          ∙ ap (λ (s : Performance). key_blocks c s.player es) (sym same);
+      notes_are =
+          subst (λ (u : Performance). NotesGoOn old.performance u (if_edited answer.Done new)) (sym same)
+          (subst
+          (λ (o : Option Parts).
+          NotesGoOn old.performance old.performance (option_map_or (λ (d : Parts). Edited d ∷ []) o []))
+          (sym here) notes);
+    }
 
 -- there is a bank at each position
 get_within : {X : Type 0} (xs : List X) (k : ℕ) → k < length xs → (x : X) × (slice_get xs k ≡ Some x)
@@ -120,24 +158,15 @@ done_redo_renders old new b h =
     get_within old.session.banks (old.session.index + 1) h.0.next in
     bank_change_renders old new b got.0 (ap bank_now h.0.moved ∙ got.1) (ap (λ (s : History). slice_get s.banks 0) h.0.moved) h.1
 
-started_blocks : (b : Parts) (n : Numbers) (ps : List PlayingVoice) (es : List KeyEvent)
-    → key_blocks b ps (Started n ∷ es) ≡ key_blocks b (after_start ps (note_voices b n)) es
-unfolding key_blocks
-started_blocks b n ps es = refl
-
-started_note_renders : (old new : LiveState) (b : Parts) (n : Numbers) (voices : ℕ) → bank_now old.session ≡ Some b
-    → StartsVoices old n voices new → RendersAs old new b (Started n ∷ []) []
-started_note_renders old new b n voices here h =
-    let same : b ≡ h.bank = (let e : Some b ≡ Some h.bank = sym here ∙ h.here in cc) in
-    record {
-      bank = b;
-      here = ap (λ (s : LiveState). bank_now s.session) h.plays ∙ here;
-      first_bank = ap (λ (s : LiveState). slice_get s.session.banks 0) h.plays;
-      blocks_are = λ es.
-          started_blocks b n old.player es
-          ∙ ap (λ (c : Parts). key_blocks b (after_start old.player (note_voices c n)) es) same
-          ∙ ap (λ (s : LiveState). key_blocks b s.player es) (sym h.plays);
-    }
+started_note_renders : (old new : LiveState) (b : Parts) (n : Numbers) (voices : ℕ) (held : List HeldNote)
+    → bank_now old.session ≡ Some b → StartsVoices old n voices held new
+    → RendersAs old new b (Pressed old.performance.next_handle n ∷ []) []
+started_note_renders old new b n voices held here h =
+    let same : h.bank ≡ b = (let e : Some h.bank ≡ Some b = sym h.here ∙ here in cc) in
+    performed_renders old new b (note_started old.performance b n) (Pressed old.performance.next_handle n ∷ []) here
+    (ap (λ (s : LiveState). s.session) h.plays)
+    (ap (λ (s : LiveState). s.performance) h.plays ∙ ap (λ (c : Parts). note_started old.performance c n) same)
+    (performs_press b old.performance n)
 
 given_blocks : (b : Parts) (m : ℕ) (ps : List PlayingVoice) (es : List KeyEvent)
     → key_blocks b ps (Given m ∷ es) ≡ block ps m ++ key_blocks b (after_block ps m) es
@@ -145,188 +174,276 @@ unfolding key_blocks
 given_blocks b m ps es = refl
 
 done_frames_render : (old new : LiveState) (b : Parts) (m : ℕ) → bank_now old.session ≡ Some b → new ≡ after_frames old m
-    → RendersAs old new b (Given m ∷ []) (block old.player m)
-done_frames_render old new b m here e = record {
-  bank = b;
-  here = ap (λ (s : LiveState). bank_now s.session) e ∙ here;
-  first_bank = ap (λ (s : LiveState). slice_get s.session.banks 0) e;
-  blocks_are =
-      λ es. given_blocks b m old.player es ∙ ap (λ (s : LiveState). block old.player m ++ key_blocks b s.player es) (sym e);
-}
+    → RendersAs old new b (Given m ∷ []) (block old.performance.player m)
+done_frames_render old new b m here e =
+    let same : new.performance ≡ frames_given old.performance m = ap (λ (s : LiveState). s.performance) e in
+    let notes : NotesGoOn old.performance (frames_given old.performance m) (Given m ∷ []) =
+    λ es h. given_on old.performance.given m old.performance.played es h in
+    record {
+      bank = b;
+      here = ap (λ (s : LiveState). bank_now s.session) e ∙ here;
+      first_bank = ap (λ (s : LiveState). slice_get s.session.banks 0) e;
+      blocks_are =
+          λ es.
+          given_blocks b m old.performance.player es
+          ∙ ap (λ (s : Performance). block old.performance.player m ++ key_blocks b s.player es) (sym same);
+      notes_are = subst (λ (u : Performance). NotesGoOn old.performance u (Given m ∷ [])) (sym same) notes;
+    }
 
 edit_renders : (old new : LiveState) (b : Parts) (e : Edit) (a : Answer) → bank_now old.session ≡ Some b
     → EditIs old e a new → RendersAs old new b (if_edited a new) []
 edit_renders old new b e answer.Done here h = done_edit_renders old new b e h
 edit_renders old new b e (answer.Counted k) here h = absurd h
+edit_renders old new b e (answer.Measured k l) here h = absurd h
 edit_renders old new b e (answer.Refused why) here h = renders_nothing old new b here h.1
 edit_renders old new b e answer.NotNeutral here h = absurd h
-edit_renders old new b e answer.TooManyFrames here h = absurd h
 edit_renders old new b e (answer.Fault f) here h = absurd h
 edit_renders old new b e answer.OutOfMemory here h = absurd h
-edit_renders old new b e (answer.WriteFault path n) here h = absurd h
+edit_renders old new b e (answer.WriteFault path i) here h = absurd h
 edit_renders old new b e (answer.Rejected path f) here h = absurd h
 
 neutral_edit_renders : (old new : LiveState) (b : Parts) (e : Edit) (a : Answer) → bank_now old.session ≡ Some b
     → NeutralIs old e a new → RendersAs old new b (if_edited a new) []
 neutral_edit_renders old new b e answer.Done here h = edit_renders old new b e answer.Done here h.1
 neutral_edit_renders old new b e (answer.Counted k) here h = edit_renders old new b e (answer.Counted k) here h.1
+neutral_edit_renders old new b e (answer.Measured k l) here h = edit_renders old new b e (answer.Measured k l) here h.1
 neutral_edit_renders old new b e (answer.Refused why) here h = edit_renders old new b e (answer.Refused why) here h.1
 neutral_edit_renders old new b e answer.NotNeutral here h = renders_nothing old new b here h.1
-neutral_edit_renders old new b e answer.TooManyFrames here h = edit_renders old new b e answer.TooManyFrames here h.1
 neutral_edit_renders old new b e (answer.Fault f) here h = edit_renders old new b e (answer.Fault f) here h.1
 neutral_edit_renders old new b e answer.OutOfMemory here h = edit_renders old new b e answer.OutOfMemory here h.1
-neutral_edit_renders old new b e (answer.WriteFault path n) here h = edit_renders old new b e (answer.WriteFault path n) here h.1
-neutral_edit_renders old new b e (answer.Rejected path f) here h = edit_renders old new b e (answer.Rejected path f) here h.1
+neutral_edit_renders old new b e (answer.WriteFault path i) here h =
+    edit_renders old new b e (answer.WriteFault path i) here h.1
+neutral_edit_renders old new b e (answer.Rejected path f) here h =
+    edit_renders old new b e (answer.Rejected path f) here h.1
 
 undo_renders : (old new : LiveState) (b : Parts) (a : Answer) → bank_now old.session ≡ Some b → UndoIs old a new
     → RendersAs old new b (if_edited a new) []
 undo_renders old new b answer.Done here h = done_undo_renders old new b h
 undo_renders old new b (answer.Counted k) here h = absurd h
+undo_renders old new b (answer.Measured k l) here h = absurd h
 undo_renders old new b (answer.Refused why) here h = renders_nothing old new b here h.1
 undo_renders old new b answer.NotNeutral here h = absurd h
-undo_renders old new b answer.TooManyFrames here h = absurd h
 undo_renders old new b (answer.Fault f) here h = absurd h
 undo_renders old new b answer.OutOfMemory here h = absurd h
-undo_renders old new b (answer.WriteFault path n) here h = absurd h
+undo_renders old new b (answer.WriteFault path i) here h = absurd h
 undo_renders old new b (answer.Rejected path f) here h = absurd h
 
 redo_renders : (old new : LiveState) (b : Parts) (a : Answer) → bank_now old.session ≡ Some b → RedoIs old a new
     → RendersAs old new b (if_edited a new) []
 redo_renders old new b answer.Done here h = done_redo_renders old new b h
 redo_renders old new b (answer.Counted k) here h = absurd h
+redo_renders old new b (answer.Measured k l) here h = absurd h
 redo_renders old new b (answer.Refused why) here h = renders_nothing old new b here h.1
 redo_renders old new b answer.NotNeutral here h = absurd h
-redo_renders old new b answer.TooManyFrames here h = absurd h
 redo_renders old new b (answer.Fault f) here h = absurd h
 redo_renders old new b answer.OutOfMemory here h = absurd h
-redo_renders old new b (answer.WriteFault path n) here h = absurd h
+redo_renders old new b (answer.WriteFault path i) here h = absurd h
 redo_renders old new b (answer.Rejected path f) here h = absurd h
 
 note_renders : (old new : LiveState) (b : Parts) (n : Numbers) (a : Answer) → bank_now old.session ≡ Some b
-    → NoteIs old n a new → RendersAs old new b (if_started n a) []
-note_renders old new b m answer.Done here h = absurd h
-note_renders old new b m (answer.Counted k) here h = started_note_renders old new b m k here h
-note_renders old new b m (answer.Refused why) here h = absurd h
-note_renders old new b m answer.NotNeutral here h = absurd h
-note_renders old new b m answer.TooManyFrames here h = absurd h
-note_renders old new b m (answer.Fault f) here h = absurd h
-note_renders old new b m answer.OutOfMemory here h = renders_nothing old new b here h
-note_renders old new b m (answer.WriteFault path n) here h = absurd h
-note_renders old new b m (answer.Rejected path f) here h = absurd h
-
-pressed_blocks : (b : Parts) (handle : ℕ) (n : Numbers) (ps : List PlayingVoice) (es : List KeyEvent)
-    → key_blocks b ps (Pressed handle n ∷ es) ≡ key_blocks b (after_start ps (pressed_voices b handle n)) es
-unfolding key_blocks
-pressed_blocks b handle n ps es = refl
-
-pressed_note_renders : (old new : LiveState) (b : Parts) (n : Numbers) (voices : ℕ) → bank_now old.session ≡ Some b
-    → Presses old n voices new → RendersAs old new b (Pressed old.next_handle n ∷ []) []
-pressed_note_renders old new b n voices here h =
-    let same : b ≡ h.bank = (let e : Some b ≡ Some h.bank = sym here ∙ h.here in cc) in
-    record {
-      bank = b;
-      here = ap (λ (s : LiveState). bank_now s.session) h.plays ∙ here;
-      first_bank = ap (λ (s : LiveState). slice_get s.session.banks 0) h.plays;
-      blocks_are = λ es.
-          pressed_blocks b old.next_handle n old.player es
-          ∙ ap (λ (c : Parts). key_blocks b (after_start old.player (pressed_voices c old.next_handle n)) es) same
-          ∙ ap (λ (s : LiveState). key_blocks b s.player es) (sym h.plays);
-    }
+    → NoteIs old n a new → RendersAs old new b (if_pressed old.performance.next_handle n a) []
+note_renders old new b n answer.Done here h = absurd h
+note_renders old new b n (answer.Counted k) here h = started_note_renders old new b n k old.held here h
+note_renders old new b n (answer.Measured k l) here h = absurd h
+note_renders old new b n (answer.Refused why) here h = absurd h
+note_renders old new b n answer.NotNeutral here h = absurd h
+note_renders old new b n (answer.Fault f) here h = absurd h
+note_renders old new b n answer.OutOfMemory here h = renders_nothing old new b here h
+note_renders old new b n (answer.WriteFault path i) here h = absurd h
+note_renders old new b n (answer.Rejected path f) here h = absurd h
 
 press_renders : (old new : LiveState) (b : Parts) (n : Numbers) (a : Answer) → bank_now old.session ≡ Some b
-    → PressIs old n a new → RendersAs old new b (if_pressed old.next_handle n a) []
+    → PressIs old n a new → RendersAs old new b (if_pressed old.performance.next_handle n a) []
 press_renders old new b n answer.Done here h = absurd h
-press_renders old new b n (answer.Counted k) here h = pressed_note_renders old new b n k here h
+press_renders old new b n (answer.Counted k) here h =
+    started_note_renders old new b n k (old.held ++ held_by n old.performance.next_handle ∷ []) here h
+press_renders old new b n (answer.Measured k l) here h = absurd h
 press_renders old new b n (answer.Refused why) here h = absurd h
 press_renders old new b n answer.NotNeutral here h = absurd h
-press_renders old new b n answer.TooManyFrames here h = absurd h
 press_renders old new b n (answer.Fault f) here h = absurd h
 press_renders old new b n answer.OutOfMemory here h = renders_nothing old new b here h
-press_renders old new b n (answer.WriteFault path k) here h = absurd h
+press_renders old new b n (answer.WriteFault path i) here h = absurd h
 press_renders old new b n (answer.Rejected path f) here h = absurd h
 
-released_blocks : (b : Parts) (r : Release) (ps : List PlayingVoice) (es : List KeyEvent)
-    → key_blocks b ps (Released r ∷ es) ≡ key_blocks b (after_release ps r) es
-unfolding key_blocks
-released_blocks b r ps es = refl
-
--- a session with the same banks, whose player has released some notes
-released_renders : (old new : LiveState) (b : Parts) (r : Release) → bank_now old.session ≡ Some b
-    → new.session ≡ old.session → new.player ≡ after_release old.player r → RendersAs old new b (Released r ∷ []) []
-released_renders old new b r here same plays = record {
-  bank = b;
-  here = ap bank_now same ∙ here;
-  first_bank = ap (λ (s : History). slice_get s.banks 0) same;
-  blocks_are = λ es.
-      released_blocks b r old.player es ∙ ap (λ (ps : List PlayingVoice). key_blocks b ps es) (sym plays);
-}
-
-key_renders : (old new : LiveState) (b : Parts) (held : Option HeldNote) (n : ℕ) → bank_now old.session ≡ Some b
-    → new ≡ after_key old held → RendersAs old new b (if_released held (answer.Counted n)) []
-key_renders old new b None n here h = renders_nothing old new b here h
-key_renders old new b (Some note) n here h =
-    released_renders old new b (One note.handle) here (ap (λ (s : LiveState). s.session) h)
-    (ap (λ (s : LiveState). s.player) h)
+key_renders : (old new : LiveState) (b : Parts) (held : Option HeldNote) → bank_now old.session ≡ Some b
+    → new ≡ after_key old held → RendersAs old new b (if_released old.pedals held) []
+key_renders old new b None here e = renders_nothing old new b here e
+key_renders old new b (Some note) here e =
+    let sustained : LiveState = record old { held = map (sustained_as note.handle) old.held } in
+    let ended : LiveState = record old {
+      performance = notes_released old.performance (One note.handle);
+      held = held_without note.handle old.held;
+    } in
+    let P : Bool → Type 0 =
+    λ c. new ≡ cond c sustained ended → RendersAs old new b (cond c [] (Released (One note.handle) ∷ [])) [] in
+    let at : (c : Bool) → P c = elim [
+      | true ↦ λ f.
+          performed_renders old new b old.performance [] here (ap (λ (s : LiveState). s.session) f)
+          (ap (λ (s : LiveState). s.performance) f) (performs_nothing b old.performance)
+      | false ↦ λ f.
+          performed_renders old new b (notes_released old.performance (One note.handle)) (Released (One note.handle) ∷ []) here
+          (ap (λ (s : LiveState). s.session) f) (ap (λ (s : LiveState). s.performance) f)
+          (performs_release b old.performance (One note.handle))
+    ] in
+    at (list_any (is_pedal (pedal_of note)) old.pedals) e
 
 release_renders : (old new : LiveState) (b : Parts) (k : Key) (a : Answer) → bank_now old.session ≡ Some b
-    → ReleaseIs old k a new → RendersAs old new b (if_released (first_held k old.held) a) []
-release_renders old new b k answer.Done here h = absurd h
-release_renders old new b k (answer.Counted n) here h = key_renders old new b (first_held k old.held) n here h.1
-release_renders old new b k (answer.Refused why) here h = absurd h
-release_renders old new b k answer.NotNeutral here h = absurd h
-release_renders old new b k answer.TooManyFrames here h = absurd h
-release_renders old new b k (answer.Fault f) here h = absurd h
-release_renders old new b k answer.OutOfMemory here h = absurd h
-release_renders old new b k (answer.WriteFault path n) here h = absurd h
-release_renders old new b k (answer.Rejected path f) here h = absurd h
+    → ReleaseIs old k a new → RendersAs old new b (of_key old k a) []
+release_renders old new b key answer.Done here h = absurd h
+release_renders old new b key (answer.Counted k) here h = key_renders old new b (first_held key old.held) here h.1
+release_renders old new b key (answer.Measured k l) here h = absurd h
+release_renders old new b key (answer.Refused why) here h = absurd h
+release_renders old new b key answer.NotNeutral here h = absurd h
+release_renders old new b key (answer.Fault f) here h = absurd h
+release_renders old new b key answer.OutOfMemory here h = absurd h
+release_renders old new b key (answer.WriteFault path i) here h = absurd h
+release_renders old new b key (answer.Rejected path f) here h = absurd h
+
+-- a pedal that is pressed, or released
+pedal_renders : (old new : LiveState) (b : Parts) (p : Pedal) → bank_now old.session ≡ Some b
+    → new ≡ record old { pedals = with_pedal p old.pedals } → RendersAs old new b [] []
+pedal_renders old new b p here e =
+    performed_renders old new b old.performance [] here (ap (λ (s : LiveState). s.session) e)
+    (ap (λ (s : LiveState). s.performance) e) (performs_nothing b old.performance)
+
+released_pedal_renders : (old new : LiveState) (b : Parts) (p : Pedal) → bank_now old.session ≡ Some b
+    → new ≡ after_pedal old p → RendersAs old new b (each_released (sustained_by p old.held)) []
+released_pedal_renders old new b p here e =
+    performed_renders old new b (released_in_turn old.performance (sustained_by p old.held))
+    (each_released (sustained_by p old.held)) here (ap (λ (s : LiveState). s.session) e)
+    (ap (λ (s : LiveState). s.performance) e) (performs_in_turn b old.performance (sustained_by p old.held))
+
+pedal_on_renders : (old new : LiveState) (b : Parts) (p : Pedal) (a : Answer) → bank_now old.session ≡ Some b
+    → PedalOnIs old p a new → RendersAs old new b (of_pedal old (record { position = position.On; pedal = p }) a) []
+pedal_on_renders old new b p answer.Done here h = pedal_renders old new b p here h
+pedal_on_renders old new b p (answer.Counted k) here h = absurd h
+pedal_on_renders old new b p (answer.Measured k l) here h = absurd h
+pedal_on_renders old new b p (answer.Refused why) here h = absurd h
+pedal_on_renders old new b p answer.NotNeutral here h = absurd h
+pedal_on_renders old new b p (answer.Fault f) here h = absurd h
+pedal_on_renders old new b p answer.OutOfMemory here h = renders_nothing old new b here h
+pedal_on_renders old new b p (answer.WriteFault path i) here h = absurd h
+pedal_on_renders old new b p (answer.Rejected path f) here h = absurd h
+
+pedal_off_renders : (old new : LiveState) (b : Parts) (p : Pedal) (a : Answer) → bank_now old.session ≡ Some b
+    → PedalOffIs old p a new → RendersAs old new b (of_pedal old (record { position = position.Off; pedal = p }) a) []
+pedal_off_renders old new b p answer.Done here h = absurd h
+pedal_off_renders old new b p (answer.Counted k) here h = released_pedal_renders old new b p here h.1
+pedal_off_renders old new b p (answer.Measured k l) here h = absurd h
+pedal_off_renders old new b p (answer.Refused why) here h = absurd h
+pedal_off_renders old new b p answer.NotNeutral here h = absurd h
+pedal_off_renders old new b p (answer.Fault f) here h = absurd h
+pedal_off_renders old new b p answer.OutOfMemory here h = absurd h
+pedal_off_renders old new b p (answer.WriteFault path i) here h = absurd h
+pedal_off_renders old new b p (answer.Rejected path f) here h = absurd h
+
+moved_pedal_renders : (old new : LiveState) (b : Parts) (at : PedalPosition) (p : Pedal) (a : Answer)
+    → bank_now old.session ≡ Some b → PedalMovesTo at old p a new
+    → RendersAs old new b (of_pedal old (record { position = at; pedal = p }) a) []
+moved_pedal_renders old new b position.On p a here h = pedal_on_renders old new b p a here h
+moved_pedal_renders old new b position.Off p a here h = pedal_off_renders old new b p a here h
 
 silence_renders : (old new : LiveState) (b : Parts) (a : Answer) → bank_now old.session ≡ Some b
     → SilenceIs old a new → RendersAs old new b (if_silenced a) []
 silence_renders old new b answer.Done here h = absurd h
-silence_renders old new b (answer.Counted n) here h =
-    released_renders old new b All here (ap (λ (s : LiveState). s.session) h.1) (ap (λ (s : LiveState). s.player) h.1)
+silence_renders old new b (answer.Counted k) here h =
+    performed_renders old new b (notes_released old.performance All) (Released All ∷ []) here
+    (ap (λ (s : LiveState). s.session) h.1) (ap (λ (s : LiveState). s.performance) h.1)
+    (performs_release b old.performance All)
+silence_renders old new b (answer.Measured k l) here h = absurd h
 silence_renders old new b (answer.Refused why) here h = absurd h
 silence_renders old new b answer.NotNeutral here h = absurd h
-silence_renders old new b answer.TooManyFrames here h = absurd h
 silence_renders old new b (answer.Fault f) here h = absurd h
 silence_renders old new b answer.OutOfMemory here h = absurd h
-silence_renders old new b (answer.WriteFault path n) here h = absurd h
+silence_renders old new b (answer.WriteFault path i) here h = absurd h
 silence_renders old new b (answer.Rejected path f) here h = absurd h
+
+stop_renders : (old new : LiveState) (b : Parts) (a : Answer) → bank_now old.session ≡ Some b
+    → StopIs old a new → RendersAs old new b (if_stopped a) []
+stop_renders old new b answer.Done here h =
+    performed_renders old new b (all_stopped old.performance) (Stopped ∷ []) here (ap (λ (s : LiveState). s.session) h)
+    (ap (λ (s : LiveState). s.performance) h) (performs_stop b old.performance)
+stop_renders old new b (answer.Counted k) here h = absurd h
+stop_renders old new b (answer.Measured k l) here h = absurd h
+stop_renders old new b (answer.Refused why) here h = absurd h
+stop_renders old new b answer.NotNeutral here h = absurd h
+stop_renders old new b (answer.Fault f) here h = absurd h
+stop_renders old new b answer.OutOfMemory here h = absurd h
+stop_renders old new b (answer.WriteFault path i) here h = absurd h
+stop_renders old new b (answer.Rejected path f) here h = absurd h
 
 frames_render : (old new : LiveState) (b : Parts) (m : ℕ) (a : Answer) → bank_now old.session ≡ Some b
     → FramesAre old m a new → RendersAs old new b (if_given m a) (block_if old m a)
-frames_render old new b m answer.Done here h = done_frames_render old new b m here h.1
+frames_render old new b m answer.Done here h = done_frames_render old new b m here h
 frames_render old new b m (answer.Counted k) here h = absurd h
+frames_render old new b m (answer.Measured k l) here h = absurd h
 frames_render old new b m (answer.Refused why) here h = absurd h
 frames_render old new b m answer.NotNeutral here h = absurd h
-frames_render old new b m answer.TooManyFrames here h = renders_nothing old new b here h.1
 frames_render old new b m (answer.Fault f) here h = absurd h
 frames_render old new b m answer.OutOfMemory here h = absurd h
-frames_render old new b m (answer.WriteFault path n) here h = absurd h
+frames_render old new b m (answer.WriteFault path i) here h = absurd h
 frames_render old new b m (answer.Rejected path f) here h = absurd h
 
 show_renders : (old new : LiveState) (b : Parts) (a : Answer) → bank_now old.session ≡ Some b → ShowIs old a new
     → RendersAs old new b [] []
 show_renders old new b answer.Done here h = renders_nothing old new b here h
 show_renders old new b (answer.Counted k) here h = absurd h
+show_renders old new b (answer.Measured k l) here h = absurd h
 show_renders old new b (answer.Refused why) here h = absurd h
 show_renders old new b answer.NotNeutral here h = absurd h
-show_renders old new b answer.TooManyFrames here h = absurd h
 show_renders old new b (answer.Fault f) here h = absurd h
 show_renders old new b answer.OutOfMemory here h = absurd h
-show_renders old new b (answer.WriteFault path n) here h = absurd h
+show_renders old new b (answer.WriteFault path i) here h = absurd h
 show_renders old new b (answer.Rejected path f) here h = absurd h
+
+voices_render : (old new : LiveState) (b : Parts) (a : Answer) → bank_now old.session ≡ Some b → VoicesAre old a new
+    → RendersAs old new b [] []
+voices_render old new b answer.Done here h = absurd h
+voices_render old new b (answer.Counted k) here h = absurd h
+voices_render old new b (answer.Measured k l) here h = renders_nothing old new b here h.2
+voices_render old new b (answer.Refused why) here h = absurd h
+voices_render old new b answer.NotNeutral here h = absurd h
+voices_render old new b (answer.Fault f) here h = absurd h
+voices_render old new b answer.OutOfMemory here h = absurd h
+voices_render old new b (answer.WriteFault path i) here h = absurd h
+voices_render old new b (answer.Rejected path f) here h = absurd h
+
+meter_renders : (old new : LiveState) (b : Parts) (a : Answer) → bank_now old.session ≡ Some b → MeterIs old a new
+    → RendersAs old new b [] []
+meter_renders old new b answer.Done here h = absurd h
+meter_renders old new b (answer.Counted k) here h = absurd h
+meter_renders old new b (answer.Measured k l) here h =
+    performed_renders old new b old.performance [] here (ap (λ (s : LiveState). s.session) h.2)
+    (ap (λ (s : LiveState). s.performance) h.2) (performs_nothing b old.performance)
+meter_renders old new b (answer.Refused why) here h = absurd h
+meter_renders old new b answer.NotNeutral here h = absurd h
+meter_renders old new b (answer.Fault f) here h = absurd h
+meter_renders old new b answer.OutOfMemory here h = absurd h
+meter_renders old new b (answer.WriteFault path i) here h = absurd h
+meter_renders old new b (answer.Rejected path f) here h = absurd h
+
+record_renders : (old new : LiveState) (b : Parts) (at : List ℕ) (a : Answer) → bank_now old.session ≡ Some b
+    → RecordIs old at a new → RendersAs old new b [] []
+record_renders old new b at answer.Done here h = absurd h
+record_renders old new b at (answer.Counted k) here h = renders_nothing old new b here h.1
+record_renders old new b at (answer.Measured k l) here h = absurd h
+record_renders old new b at (answer.Refused why) here h = absurd h
+record_renders old new b at answer.NotNeutral here h = absurd h
+record_renders old new b at (answer.Fault f) here h = absurd h
+record_renders old new b at answer.OutOfMemory here h = renders_nothing old new b here h
+record_renders old new b at (answer.WriteFault path i) here h = renders_nothing old new b here h.1
+record_renders old new b at (answer.Rejected path f) here h = renders_nothing old new b here h.1
 
 save_renders : (old new : LiveState) (b : Parts) (paths : Paths) (a : Answer) → bank_now old.session ≡ Some b
     → SaveIs old paths a new → RendersAs old new b [] []
 save_renders old new b paths answer.Done here h = renders_nothing old new b here h.1
 save_renders old new b paths (answer.Counted k) here h = absurd h
+save_renders old new b paths (answer.Measured k l) here h = absurd h
 save_renders old new b paths (answer.Refused why) here h = absurd h
 save_renders old new b paths answer.NotNeutral here h = absurd h
-save_renders old new b paths answer.TooManyFrames here h = absurd h
 save_renders old new b paths (answer.Fault f) here h = absurd h
 save_renders old new b paths answer.OutOfMemory here h = renders_nothing old new b here h
-save_renders old new b paths (answer.WriteFault path n) here h = renders_nothing old new b here h.1
+save_renders old new b paths (answer.WriteFault path i) here h = renders_nothing old new b here h.1
 save_renders old new b paths (answer.Rejected path f) here h = renders_nothing old new b here h.1
 
 request_renders : (old new : LiveState) (b : Parts) (r : Request) (a : Answer) → bank_now old.session ≡ Some b
@@ -338,9 +455,14 @@ request_renders old new b asks.Redo a here h = redo_renders old new b a here h
 request_renders old new b (asks.Note n) a here h = note_renders old new b n a here h
 request_renders old new b (asks.Press n) a here h = press_renders old new b n a here h
 request_renders old new b (asks.Release k) a here h = release_renders old new b k a here h
+request_renders old new b (asks.Pedal m) a here h = moved_pedal_renders old new b m.position m.pedal a here h
 request_renders old new b asks.Silence a here h = silence_renders old new b a here h
+request_renders old new b asks.Stop a here h = stop_renders old new b a here h
 request_renders old new b (asks.Frames m) a here h = frames_render old new b m a here h
+request_renders old new b (asks.Record path) a here h = record_renders old new b path a here h
 request_renders old new b (asks.Save paths) a here h = save_renders old new b paths a here h
+request_renders old new b asks.Voices a here h = voices_render old new b a here h
+request_renders old new b asks.Meter a here h = meter_renders old new b a here h
 request_renders old new b asks.Show a here h = show_renders old new b a here h
 request_renders old new b asks.Help a here h = show_renders old new b a here h
 request_renders old new b asks.Quit a here h = show_renders old new b a here h
@@ -380,14 +502,14 @@ unfolding key_blocks
 no_events_render b ps = refl
 
 turns_render : (ts : List Turn) (s last : LiveState) (b : Parts) → bank_now s.session ≡ Some b → AreTurns s ts last
-    → flat_map frames_in ts ≡ key_blocks b s.player (flat_map events_in ts)
-turns_render [] s last b here h = no_events_render b s.player
+    → flat_map frames_in ts ≡ key_blocks b s.performance.player (flat_map events_in ts)
+turns_render [] s last b here h = no_events_render b s.performance.player
 turns_render (t ∷ ts) s last b here h =
     let k : RendersAs t.old t.new b (events_in t) (frames_in t) =
     line_renders _ t.old t.new t.answer b (ap (λ (u : LiveState). bank_now u.session) h.0 ∙ here) h.1 in
     ap (λ (xs : List ℤ). frames_in t ++ xs) (turns_render ts t.new last k.bank k.here h.2)
     ∙ sym (k.blocks_are (flat_map events_in ts))
-    ∙ ap (λ (u : LiveState). key_blocks b u.player (flat_map events_in (t ∷ ts))) h.0
+    ∙ ap (λ (u : LiveState). key_blocks b u.performance.player (flat_map events_in (t ∷ ts))) h.0
 
 pub first_stays : (ts : List Turn) (s last : LiveState) (b : Parts) → bank_now s.session ≡ Some b → AreTurns s ts last
     → slice_get last.session.banks 0 ≡ slice_get s.session.banks 0
@@ -404,8 +526,53 @@ bytes_of_frames (t ∷ ts) =
     ∙ sym (flat_map-append sample_bytes (frames_in t) (flat_map frames_in ts))
 
 pub frames_follow_events : (b : Parts) (ts : List Turn) (last : LiveState) → AreTurns (started_with b) ts last
-    → flat_map bytes_in ts ≡ flat_map sample_bytes (heard b (as_notes (flat_map events_in ts)))
+    → flat_map bytes_in ts ≡ flat_map sample_bytes (heard_keys b (flat_map events_in ts))
 frames_follow_events b ts last h =
     bytes_of_frames ts
     ∙ ap (flat_map sample_bytes)
     (turns_render ts (started_with b) last b refl h ∙ presses_heard b (flat_map events_in ts))
+
+-- ---- the notes that were played
+
+notes_go_on : (ts : List Turn) (s last : LiveState) (b : Parts) → bank_now s.session ≡ Some b → AreTurns s ts last
+    → Fit s.performance.given s.performance.played (flat_map events_in ts)
+    → listing s.performance.given s.performance.played (flat_map events_in ts)
+    ≡ listing last.performance.given last.performance.played []
+notes_go_on [] s last b here h fit =
+    ap (λ (u : LiveState). listing u.performance.given u.performance.played []) (sym h)
+notes_go_on (t ∷ ts) s last b here h fit =
+    let k : RendersAs t.old t.new b (events_in t) (frames_in t) =
+    line_renders _ t.old t.new t.answer b (ap (λ (u : LiveState). bank_now u.session) h.0 ∙ here) h.1 in
+    let all : List KeyEvent = flat_map events_in (t ∷ ts) in
+    let here_fit : Fit t.old.performance.given t.old.performance.played all =
+    subst (λ (u : LiveState). Fit u.performance.given u.performance.played all) (sym h.0) fit in
+    let one = k.notes_are (flat_map events_in ts) here_fit in
+    ap (λ (u : LiveState). listing u.performance.given u.performance.played all) (sym h.0)
+    ∙ one.same
+    ∙ notes_go_on ts t.new last k.bank k.here h.2 one.fit
+
+fit_at_first : (es : List KeyEvent) → CanBeListed es → Fit 0 [] es
+fit_at_first es can =
+    let frames = can.frames in
+    let notes = can.notes in
+    record { frames = omega (arith, frames); notes = omega (arith, notes) }
+
+pub recordings_follow_events : (b : Parts) (ts : List Turn) (last : LiveState) → AreTurns (started_with b) ts last
+    → CanBeListed (flat_map events_in ts)
+    → recorded_now last.performance ≡ recorded (flat_map events_in ts)
+recordings_follow_events b ts last h can =
+    sym
+    (notes_go_on ts (started_with b) last b refl h (fit_at_first (flat_map events_in ts) can)
+    ∙ listing_last last.performance.given last.performance.played)
+
+pub recordings_render : (b : Parts) (ts : List Turn) (last : LiveState) → AreTurns (started_with b) ts last
+    → CanBeListed (flat_map events_in ts) → HasNoStop (flat_map events_in ts)
+    → LeaveAlike b (as_notes (flat_map events_in ts))
+    → flat_map bytes_in ts
+    ≡ flat_map sample_bytes (first_frames b (recorded_now last.performance) (key_frames (flat_map events_in ts)))
+recordings_render b ts last h can goes alike =
+    let es : List KeyEvent = flat_map events_in ts in
+    frames_follow_events b ts last h
+    ∙ ap (flat_map sample_bytes)
+    (recordings_heard b es goes alike
+    ∙ ap (λ (ns : List Numbers). first_frames b ns (key_frames es)) (sym (recordings_follow_events b ts last h can)))

@@ -1,4 +1,5 @@
 pub mod Counted
+pub mod Metering
 pub mod Blocks
 pub mod Backward
 pub mod WrittenAnswers
@@ -6,5 +7,8 @@ pub mod RequestLaws
 pub mod LineLaws
 pub mod AnsweredLines
 pub mod Ending
+pub mod InTurn
+pub mod PlayedLaws
+pub mod PerformanceLaws
 pub mod FrameLaws
 pub mod UndoLists

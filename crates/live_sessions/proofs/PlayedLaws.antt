@@ -1,5 +1,5 @@
 -- The notes that were played are those of the session's events.
-use Rattle.std.proofs.Common.{◌≡◌, ℕ, zero, suc, ◌+◌, ◌-◌, ◌*◌, ◌^◌, ◌<◌, ◌≤◌, min, Bool, true, false, cond, nat_le, Option}
+use Rattle.std.proofs.Common.{◌≡◌, ℕ, suc, ◌+◌, ◌-◌, ◌<◌, ◌≤◌, min, Bool, true, false, cond, nat_le, Option}
 use Rattle.std.proofs.Common.{Some, None, List, [], ◌∷◌, ◌++◌, map, length, refl, sym, ap, subst, ◌∙◌, arith, append-nil}
 use Rattle.std.proofs.Common.{append_assoc}
 use Rattle.std.specs.Option.{option_map, option_map_or}
@@ -9,12 +9,12 @@ use Rattle.bank_parts.specs.declared.parts.Parts.{Parts}
 use Rattle.script_notes.specs.declared.limits.TheConstants.{LAST_FRAME, MOST_NOTES}
 use Rattle.script_notes.specs.Notes.{Numbers}
 use Rattle.mixer.specs.declared.playing.Release.{Release}
-use Rattle.mixer.specs.declared.playing.Release.TheVariants.{One, All}
+use Rattle.mixer.specs.declared.playing.Release.TheVariants.{All}
 use Rattle.mixer.specs.Pressed.{KeyEvent, Edited, Started, Pressed, Released, Stopped, Given, ends, frames_until, held_note}
+use Rattle.mixer.specs.Stops.{least}
 use Rattle.mixer.specs.Recorded.{played, key_frames}
 use Rattle.mixer.proofs.RecordedLaws.{closed}
 use Rattle.live_sessions.specs.declared.performance.PlayedNote.{PlayedNote}
-use Rattle.live_sessions.specs.declared.performance.Performance.{Performance}
 use Rattle.live_sessions.specs.Performances.{most, moved_to, with_note, with_played, end_after, ended_by, listed}
 
 -- ---- the notes so far, and those of the events that follow
@@ -89,6 +89,7 @@ released_note t r es handle n None = after_none t r es handle n
 
 released_notes : (t : ℕ) (r : Release) (es : List KeyEvent) (ps : List PlayedNote)
     → map (note_by t (Released r ∷ es)) ps ≡ map (note_by t es) (map (ended_by r t) ps)
+unfolding ended_by
 released_notes t r es [] = refl
 released_notes t r es (p ∷ ps) =
     λ j. sym (released_note t r es p.handle p.note p.end_frame) j ∷ released_notes t r es ps j

@@ -26,6 +26,7 @@ pub request_alike : (own : SessionFiles) (live : LiveState) (r : Request) (a : A
     (i j o n p q : Option (List ℕ)) → FilesAfterRequest own live r a b c
     → FilesAfterRequest own live r a (with_input i o p b.files b.written) (with_input j n q c.files c.written)
 request_alike own live (asks.Save paths) a b c i j o n p q h = h
+request_alike own live (asks.Record path) a b c i j o n p q h = h
 request_alike own live other a b c i j o n p q h = h
 
 pub stops_alike : (live : LiveState) (r : Request) (b c : Streams) (i j o n : Option (List ℕ)) (why : LiveFault)
@@ -38,6 +39,7 @@ stops_alike live other b c i j o n why h = absurd h
 pub files_after_memory : (own : SessionFiles) (live : LiveState) (r : Request) (b c : Streams) → SavesNothing b c
     → FilesAfterRequest own live r answer.OutOfMemory b c
 files_after_memory own live (asks.Save paths) b c h = h.0
+files_after_memory own live (asks.Record path) b c h = h.0
 files_after_memory own live other b c h = h
 
 -- requests that write no frames and save nothing

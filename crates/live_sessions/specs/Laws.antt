@@ -1,24 +1,51 @@
 -- Laws of all sessions.
-use Rattle.std.specs.Prelude.{◌≡◌, List, Some, reverse}
+use Rattle.std.specs.Prelude.{◌≡◌, ◌≤◌, List, Some, length, reverse}
 use Rattle.std.specs.List.{flat_map}
 use Rattle.bank_parts.specs.declared.parts.Parts.{Parts}
 use Rattle.bank_parts.specs.Sound.{IsSound}
 use Rattle.bank_edits.specs.Runs.{AllAccepted, after_all}
 use Rattle.inverse_edits.specs.Histories.{IsHistory, bank_now, undo_edits}
-use Rattle.mixer.specs.Events.{heard}
-use Rattle.mixer.specs.Pressed.{as_notes}
+use Rattle.mixer.specs.Alike.{LeaveAlike}
+use Rattle.mixer.specs.Pressed.{KeyEvent, as_notes, heard_keys}
+use Rattle.mixer.specs.Recorded.{recorded, key_frames, HasNoStop}
+use Rattle.mixer.specs.Render.{first_frames}
+use Rattle.script_notes.specs.declared.limits.TheConstants.{LAST_FRAME, MOST_NOTES}
 use Rattle.wave_file.specs.Wave.{sample_bytes}
 use Rattle.live_sessions.specs.declared.live.LiveState.{LiveState}
+use Rattle.live_sessions.specs.Performances.{recorded_now}
 use Rattle.live_sessions.specs.Steps.{started_with}
 use Rattle.live_sessions.specs.Turns.{Turn, AreTurns, events_in, bytes_in}
 
 -- The frames that are written are those of the session's events in the order of their lines: edits (also undone and
 -- redone), starts of notes, each on the bank at that time, and blocks of frames. A pressed note is a note that lasts
--- until its release.
+-- until its release, and nothing is heard of it after an end of all voices.
 abbrev pub FramesFollowEvents : Type 0
 FramesFollowEvents =
     (b : Parts) (ts : List Turn) (last : LiveState) → AreTurns (started_with b) ts last
-    → flat_map bytes_in ts ≡ flat_map sample_bytes (heard b (as_notes (flat_map events_in ts)))
+    → flat_map bytes_in ts ≡ flat_map sample_bytes (heard_keys b (flat_map events_in ts))
+
+-- the events of a session's lines fit into a note list
+pub record CanBeListed (es : List KeyEvent) : Type 0 where
+  pub frames : key_frames es ≤ LAST_FRAME
+  pub notes : length (recorded es) ≤ MOST_NOTES
+
+-- The notes that a recording would have are those of the session's events: each from its start to its release, or up to
+-- now.
+abbrev pub RecordingsFollowEvents : Type 0
+RecordingsFollowEvents =
+    (b : Parts) (ts : List Turn) (last : LiveState) → AreTurns (started_with b) ts last
+    → CanBeListed (flat_map events_in ts)
+    → recorded_now last.performance ≡ recorded (flat_map events_in ts)
+
+-- They render as the frames that the session wrote, where nothing ended all voices and each edit kept the voices of each
+-- note.
+abbrev pub RecordingsRender : Type 0
+RecordingsRender =
+    (b : Parts) (ts : List Turn) (last : LiveState) → AreTurns (started_with b) ts last
+    → CanBeListed (flat_map events_in ts) → HasNoStop (flat_map events_in ts)
+    → LeaveAlike b (as_notes (flat_map events_in ts))
+    → flat_map bytes_in ts
+    ≡ flat_map sample_bytes (first_frames b (recorded_now last.performance) (key_frames (flat_map events_in ts)))
 
 -- At any time in a session its bank is sound, and accepts the edits of the undo list in reverse order, which lead to
 -- the bank with which the session began.

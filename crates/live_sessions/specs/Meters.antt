@@ -1,5 +1,5 @@
 -- The peak and the clipped frames of samples, left and right in turn.
-use Rattle.std.specs.Prelude.{ℕ, ◌+◌, ◌-◌, ◌^◌, min, max, ℤ, pos, negsuc, unsigned_abs, Bool, ◌||◌, cond, List, [], ◌∷◌}
+use Rattle.std.specs.Prelude.{◌+◌, ◌-◌, ◌^◌, min, max, ℤ, pos, negsuc, unsigned_abs, Bool, ◌||◌, cond, List, ◌∷◌}
 use Rattle.std.specs.Ordering.{int_eq}
 use Rattle.live_sessions.specs.declared.meter.Meter.{Meter}
 

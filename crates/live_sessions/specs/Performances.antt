@@ -38,7 +38,7 @@ unfoldable pub end_after : Option ℕ → Bool → ℕ → Option ℕ
 end_after (Some e) is_released t = Some e
 end_after None is_released t = cond is_released (Some t) None
 
-abbrev pub ended_by : Release → ℕ → PlayedNote → PlayedNote
+unfoldable pub ended_by : Release → ℕ → PlayedNote → PlayedNote
 ended_by r t p = record p { end_frame = end_after p.end_frame (ends r p.handle) t }
 
 -- the note with its length; a note that is held ends at frame t

@@ -119,7 +119,7 @@ abbrev pub held_without : ℕ → List HeldNote → List HeldNote
 held_without handle hs = filter (λ (h : HeldNote). not (h.handle == handle)) hs
 
 -- the note is left to its pedal, if it has the handle
-abbrev pub sustained_as : ℕ → HeldNote → HeldNote
+unfoldable pub sustained_as : ℕ → HeldNote → HeldNote
 sustained_as handle h = cond (h.handle == handle) (record h { is_sustained = true }) h
 
 -- both are the pedal of one preset
@@ -178,7 +178,7 @@ after_pedal old p = record old {
 }
 
 abbrev pub PedalOffIs : LiveState → Pedal → Answer → LiveState → Type 0
-PedalOffIs old p (answer.Counted n) new = (n + length (held_but_by p old.held) ≡ length old.held) × (new ≡ after_pedal old p)
+PedalOffIs old p (answer.Counted n) new = (n ≡ length (sustained_by p old.held)) × (new ≡ after_pedal old p)
 PedalOffIs old p other new = ⊥
 
 abbrev pub PedalMovesTo : PedalPosition → LiveState → Pedal → Answer → LiveState → Type 0

@@ -1,7 +1,7 @@
 //! The notes that are pressed and not yet released.
 ghost use Rattle.std.specs.Prelude.{◌≡◌, [], ◌++◌, ◌∷◌, OnOk, OnErr, length, map, take};
 ghost use Rattle.live_sessions.specs.Performances.{is_sustained_by};
-ghost use Rattle.live_sessions.specs.Steps.{first_held, held_without, held_but_by, is_held_by, sustained_as};
+ghost use Rattle.live_sessions.specs.Steps.{first_held, held_without, held_but_by, is_held_by, sustained_as, sustained_by};
 
 use live_lines::{Key, Pedal};
 use sf_base::OutOfMemory;
@@ -97,20 +97,20 @@ impl HeldNotes {
     }
 
     /// Leaves the note with a handle to its pedal.
-    #[tactic(auto, using(std::proofs::lemmas::List::Edits::map_over_more))]
     pub(crate) fn sustain(&mut self, handle: u64)
         ensures { self.new ≡ map (sustained_as handle) self.old }
     {
-        for note in self.notes.iter_mut() {
-            sustain(note, handle);
-        }
+        sustain_note(self.notes.as_mut_slice(), handle);
     }
 
-    /// Removes the notes that only a pedal holds.
-    pub(crate) fn remove_sustained(&mut self, pedal: Pedal)
-        ensures { self.new ≡ held_but_by pedal self.old }
+    /// Removes the notes that only a pedal holds, and returns their number.
+    pub(crate) fn remove_sustained(&mut self, pedal: Pedal) -> usize
+        ensures rest { self.new ≡ held_but_by pedal self.old }
+        ensures count { result ≡ length (sustained_by pedal self.old) }
     {
+        let count = self.len();
         self.notes.retain(|note| !is_sustained_by(pedal, *note));
+        count - self.len()
     }
 }
 
@@ -131,7 +131,17 @@ pub(crate) fn is_sustained_by(pedal: Pedal, note: HeldNote) -> bool
     note.is_sustained && note.key.bank == pedal.bank && note.key.number == pedal.number
 }
 
+// Leaves the note with a handle to its pedal.
+fn sustain_note(notes: &mut [HeldNote], handle: u64)
+    ensures { notes.new ≡ map (sustained_as handle) notes.old }
+{
+    for note in notes.iter_mut() {
+        sustain(note, handle);
+    }
+}
+
 // Leaves the note to its pedal, if it has the handle.
+#[tactic(auto, unfolding(crate::specs::Steps::sustained_as))]
 fn sustain(note: &mut HeldNote, handle: u64)
     ensures { note.new ≡ sustained_as handle note.old }
 {

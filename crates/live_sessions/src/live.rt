@@ -191,12 +191,10 @@ impl<'a> LiveState<'a> {
     fn release_pedal(&mut self, pedal: Pedal) -> Answer<'static>
         ensures { PedalOffIs self.old pedal result self.new }
     {
-        let count = self.held.len();
         self.performance
             .release_sustained(self.held.as_slice(), pedal);
-        self.held.remove_sustained(pedal);
         self.pedals.remove(pedal);
-        Answer::Counted(count - self.held.len())
+        Answer::Counted(self.held.remove_sustained(pedal))
     }
 
     /// Releases all notes and pedals. The answer has the number of held notes.

@@ -1,5 +1,5 @@
 //! What is measured of the frames that a session writes.
-ghost use Rattle.std.specs.Prelude.{◌≡◌, ◌%◌, length};
+ghost use Rattle.std.specs.Prelude.{◌≡◌, ◌+◌, ◌%◌, ◌<◌, length, pos, slice_index_or};
 ghost use Rattle.live_sessions.specs.Meters.{is_full, silent, with_frame, metered};
 
 /// The peak and the clipped frames since the last `meter`.
@@ -29,14 +29,18 @@ impl Meter {
     {
         let mut at = 0;
         while at < samples.len() {
-            self.add_frame(samples[at], samples[at + 1]);
+            self.add_frame(samples, at);
             at += 2;
         }
     }
 
-    fn add_frame(&mut self, left: i16, right: i16)
-        ensures { self.new ≡ with_frame self.old left right }
+    // Measures the frame whose samples begin at an index.
+    fn add_frame(&mut self, samples: &[i16], at: usize)
+        requires { at + 1 < length samples.now }
+        ensures { self.new ≡ with_frame self.old (slice_index_or samples.now at (pos 0)) (slice_index_or samples.now (at + 1) (pos 0)) }
     {
+        let left = samples[at];
+        let right = samples[at + 1];
         let peak = left.unsigned_abs().max(right.unsigned_abs());
         self.peak = self.peak.max(peak);
         if is_full(left) || is_full(right) {

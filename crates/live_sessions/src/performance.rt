@@ -1,7 +1,8 @@
 //! The notes of a session: those that sound, and all that were played.
-ghost use Rattle.std.specs.Prelude.{◌≡◌, ◌+◌, ◌^◌, ◌-◌, [], OnOk, OnErr, filter, length, map, min, take};
-ghost use Rattle.mixer.specs.Pressed.{ends};
-ghost use Rattle.live_sessions.specs.Performances.{moved_to, with_played, ended_by, listed, is_sustained_by};
+ghost use Rattle.std.specs.Prelude.{◌≡◌, ◌+◌, ◌≤◌, [], ◌∷◌, OnOk, OnErr, filter, map, take};
+ghost use Rattle.std.specs.Option.{option_map_or};
+ghost use Rattle.script_notes.specs.declared.limits.TheConstants.{LAST_FRAME};
+ghost use Rattle.live_sessions.specs.Performances.{moved_to, with_played, end_after, ended_by, listed, is_sustained_by};
 ghost use Rattle.live_sessions.specs.Performances.{note_started, notes_released, all_stopped, released_in_turn};
 
 use crate::held::{HeldNote, is_sustained_by};
@@ -26,12 +27,11 @@ pub(crate) struct PlayedNote {
 
 impl PlayedNote {
     // Ends the note at a frame, if the release is one of it.
+    #[tactic(auto, unfolding(crate::specs::Performances::ended_by))]
     fn end(&mut self, release: Release, frame: u64)
         ensures { self.new ≡ ended_by release frame self.old }
     {
-        if self.end_frame.is_none() && release.ends(self.handle) {
-            self.end_frame = Some(frame);
-        }
+        self.end_frame = end_after(self.end_frame, release.ends(self.handle), frame);
     }
 
     /// The note with its length. A note that is held ends at the frame.
@@ -39,22 +39,58 @@ impl PlayedNote {
         ensures { result ≡ listed frame self.now }
     {
         let start = self.note.start();
-        let end = self.end_frame.unwrap_or(frame);
-        let most = u64::from(self.note.length());
-        let length = end.saturating_sub(u64::from(start)).min(most);
-        Note::new(
-            start,
-            length as u32,
-            self.note.bank(),
-            self.note.number(),
-            self.note.key(),
-            self.note.velocity(),
-        )
-        .unwrap()
+        let most = self.note.length();
+        let lasting = self.end_by(frame).saturating_sub(u64::from(start));
+        let length = lasting.min(u64::from(most));
+        retimed(&self.note, start, length as u32)
+    }
+
+    // The frame of its end; a note that is held ends at the frame.
+    fn end_by(&self, frame: u64) -> u64
+        ensures { result ≡ option_map_or (λ e. e) self.now.end_frame frame }
+    {
+        match self.end_frame {
+            Some(end) => end,
+            None => frame,
+        }
     }
 }
 
+// The frame of a note's end after one at which it may be released.
+#[tactic(auto, unfolding(crate::specs::Performances::end_after))]
+fn end_after(end: Option<u64>, is_released: bool, frame: u64) -> Option<u64>
+    ensures { result ≡ end_after end is_released frame }
+{
+    match end {
+        Some(end) => Some(end),
+        None => {
+            if is_released {
+                Some(frame)
+            } else {
+                None
+            }
+        }
+    }
+}
+
+// The note with another start and another length.
+fn retimed(note: &Note, start: u32, length: u32) -> Note
+    requires { start + length ≤ LAST_FRAME }
+    ensures { result ≡ record note.now { start = start; length = length } }
+{
+    Note::new(
+        start,
+        length,
+        note.bank(),
+        note.number(),
+        note.key(),
+        note.velocity(),
+    )
+    .unwrap()
+}
+
 // The note from a frame on, which ends by frame 100,000,000; none if it starts after that frame.
+#[tactic(auto, unfolding(crate::specs::Performances::moved_to))]
 fn moved_to(frame: u64, note: &Note) -> Option<Note>
     ensures { result ≡ moved_to frame note.now }
 {
@@ -62,14 +98,7 @@ fn moved_to(frame: u64, note: &Note) -> Option<Note>
         return None;
     }
     let length = u64::from(note.length()).min(LAST_FRAME - frame);
-    Note::new(
-        frame as u32,
-        length as u32,
-        note.bank(),
-        note.number(),
-        note.key(),
-        note.velocity(),
-    )
+    Some(retimed(note, frame as u32, length as u32))
 }
 
 /// The notes that were played, in the order of their starts: the first 65,535 that start by frame 100,000,000, as many as
@@ -140,13 +169,19 @@ impl PlayedNotes {
     }
 
     // Ends the notes of a release at a frame.
-    #[tactic(auto, using(std::proofs::lemmas::List::Edits::map_over_more))]
     fn end(&mut self, release: Release, frame: u64)
         ensures { self.new ≡ map (ended_by release frame) self.old }
     {
-        for played in self.notes.iter_mut() {
-            played.end(release, frame);
-        }
+        end_notes(self.notes.as_mut_slice(), release, frame);
+    }
+}
+
+// Ends the notes of a release at a frame.
+fn end_notes(notes: &mut [PlayedNote], release: Release, frame: u64)
+    ensures { notes.new ≡ map (ended_by release frame) notes.old }
+{
+    for played in notes.iter_mut() {
+        played.end(release, frame);
     }
 }
 
@@ -229,9 +264,17 @@ impl<'a> Performance<'a> {
         ensures { self.new ≡ released_in_turn self.old (filter (is_sustained_by pedal) held.now) }
     {
         for note in held {
-            if is_sustained_by(pedal, *note) {
-                self.release(Release::One(note.handle));
-            }
+            self.release_if_sustained(*note, pedal);
+        }
+    }
+
+    // Ends a note if only this pedal holds it.
+    #[tactic(auto, unfolding(crate::specs::Performances::released_in_turn))]
+    fn release_if_sustained(&mut self, note: HeldNote, pedal: Pedal)
+        ensures { self.new ≡ released_in_turn self.old (filter (is_sustained_by pedal) (note ∷ [])) }
+    {
+        if is_sustained_by(pedal, note) {
+            self.release(Release::One(note.handle));
         }
     }
 }

@@ -25,7 +25,7 @@ use Rattle.plan_presets.specs.declared.fault.PresetFault.TheVariants as preset
 use Rattle.program_explanations.specs.declared.explanations.FaultCode.{FaultCode}
 use Rattle.program_explanations.specs.declared.explanations.FaultCode.TheVariants.{Reading, Script, Notes, Recording, Output}
 use Rattle.program_explanations.specs.declared.explanations.FaultCode.TheVariants.{Refused, NotNeutral, OtherVersion}
-use Rattle.program_explanations.specs.declared.explanations.FaultCode.TheVariants.{TooManyFrames, Presets, PlanFailed}
+use Rattle.program_explanations.specs.declared.explanations.FaultCode.TheVariants.{Presets, PlanFailed}
 use Rattle.program_explanations.specs.declared.explanations.TheConstants.{ALL}
 use Rattle.program_explanations.specs.Explanations.{number_of, name_of}
 
@@ -138,7 +138,6 @@ all_listed (Output it) = of_output it
 all_listed (Refused it) = of_refusal it
 all_listed NotNeutral = refl
 all_listed OtherVersion = refl
-all_listed TooManyFrames = refl
 all_listed (Presets it) = of_presets it
 all_listed PlanFailed = refl
 

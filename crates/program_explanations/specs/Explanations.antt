@@ -13,7 +13,7 @@ use Rattle.edit_refusals.specs.RefusalNames as refusals
 use Rattle.program_explanations.specs.declared.explanations.FaultCode.{FaultCode}
 use Rattle.program_explanations.specs.declared.explanations.FaultCode.TheVariants.{Reading, Script, Notes, Recording, Output}
 use Rattle.program_explanations.specs.declared.explanations.FaultCode.TheVariants.{Refused, NotNeutral, OtherVersion}
-use Rattle.program_explanations.specs.declared.explanations.FaultCode.TheVariants.{TooManyFrames, Presets, PlanFailed}
+use Rattle.program_explanations.specs.declared.explanations.FaultCode.TheVariants.{Presets, PlanFailed}
 use Rattle.program_explanations.specs.declared.explanations.Explanation.{Explanation}
 
 -- the number of each fault and refusal, as its own crate defines it
@@ -26,7 +26,6 @@ number_of (Output fault) = outputs.number_of fault
 number_of (Refused why) = refusals.refusal_number why
 number_of NotNeutral = 50
 number_of OtherVersion = 51
-number_of TooManyFrames = 52
 number_of (Presets fault) = presets.number_of fault
 number_of PlanFailed = 66
 
@@ -40,7 +39,6 @@ name_of (Output fault) = outputs.name_of fault
 name_of (Refused why) = refusals.refusal_name why
 name_of NotNeutral = codes "NotNeutral"
 name_of OtherVersion = codes "OtherVersion"
-name_of TooManyFrames = codes "TooManyFrames"
 name_of (Presets fault) = presets.name_of fault
 name_of PlanFailed = codes "PlanFailed"
 

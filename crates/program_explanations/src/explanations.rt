@@ -38,8 +38,6 @@ pub enum FaultCode {
     NotNeutral,
     /// Two banks of different minor versions.
     OtherVersion,
-    /// More frames than a live session can write.
-    TooManyFrames,
     /// A preset that can't be kept or copied.
     Presets(PresetFault),
     /// A plan that failed.
@@ -67,7 +65,7 @@ pub struct Explanations<'t>(pub &'t [Explanation]);
 const ANY_NUMBERS: PresetNumbers = PresetNumbers { bank: 0, number: 0 };
 
 /// One fault or refusal for each number, in the order of the numbers. The fields of a variant have any value.
-static ALL: [FaultCode; 66] = [
+static ALL: [FaultCode; 65] = [
     FaultCode::Reading(ReadFault::NotRiff),
     FaultCode::Reading(ReadFault::NotSfbk),
     FaultCode::Reading(ReadFault::Truncated),
@@ -115,7 +113,6 @@ static ALL: [FaultCode; 66] = [
     FaultCode::Refused(Refusal::GroupRefused(0, Cause::InUse)),
     FaultCode::NotNeutral,
     FaultCode::OtherVersion,
-    FaultCode::TooManyFrames,
     FaultCode::Recording(WaveFault::NotWave),
     FaultCode::Recording(WaveFault::Truncated),
     FaultCode::Recording(WaveFault::Compressed),
@@ -164,7 +161,6 @@ impl FaultCode {
             FaultCode::Refused(why) => why.number(),
             FaultCode::NotNeutral => 50,
             FaultCode::OtherVersion => 51,
-            FaultCode::TooManyFrames => 52,
             FaultCode::Presets(fault) => fault.number(),
             FaultCode::PlanFailed => 66,
         }
@@ -183,7 +179,6 @@ impl FaultCode {
             FaultCode::Refused(why) => why.name(),
             FaultCode::NotNeutral => "NotNeutral",
             FaultCode::OtherVersion => "OtherVersion",
-            FaultCode::TooManyFrames => "TooManyFrames",
             FaultCode::Presets(fault) => fault.name(),
             FaultCode::PlanFailed => "PlanFailed",
         }
@@ -213,10 +208,6 @@ impl FaultCode {
                 "The banks have different minor versions, which no edit changes.",
                 "Give A the minor version N: `sfbank script A T`, `sfbank new --minor N NEW`, \
                 `sfbank apply NEW T A2 U`; compare A2.",
-            ),
-            FaultCode::TooManyFrames => (
-                "A live session writes at most 100,000,000 frames.",
-                "Save the bank, and start another session.",
             ),
             FaultCode::Presets(fault) => of_presets(fault),
             FaultCode::PlanFailed => (

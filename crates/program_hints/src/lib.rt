@@ -6,6 +6,7 @@ mod expected;
 mod faulty_token;
 mod forms;
 mod joins;
+mod live_forms;
 mod live_hints;
 mod misplaced;
 mod note_hints;

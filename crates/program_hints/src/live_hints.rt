@@ -1,10 +1,12 @@
 //! What helps with a faulty line of a live session.
 
+use crate::forms::{Form, Near, nearest_form};
+use crate::live_forms::{command_of, nearest_command};
 use crate::note_hints::{LIVE_FIELDS, PRESSED_FIELDS, RELEASED_FIELDS, remark_on_fields};
 use crate::remarks::Remarks;
 use crate::script_hints::remark_on_edit;
-use crate::source_line::show;
-use crate::spans::span_at;
+use crate::source_line::{put_caret, show};
+use crate::spans::{Span, span_at};
 use std::alloc::Global;
 
 /// Shows a faulty line of a live session, and says what is wrong in it.
@@ -17,14 +19,45 @@ pub fn remark_on_live_line(alloc: Global, line: &[u8], remarks: &mut Remarks) {
         b"note" => remark_on_fields(line, &LIVE_FIELDS, 1, remarks),
         b"press" => remark_on_fields(line, &PRESSED_FIELDS, 1, remarks),
         b"release" => remark_on_fields(line, &RELEASED_FIELDS, 1, remarks),
-        b"frames" => remarks.line(&[b"The form: frames N, at most 100000000."]),
-        b"save" => remarks.line(&[
-            b"The form: save OUT UNDO, with a path that has blanks in quotes.",
-        ]),
-        b"neutral" => remarks.line(&[b"The form: neutral EDIT."]),
-        b"silence" | b"undo" | b"redo" | b"show" | b"help" | b"quit" => {
-            remarks.line(&[b"Nothing follows this word."]);
-        }
-        _ => remark_on_edit(alloc, line, remarks),
+        word => match command_of(word) {
+            Some(command) => remark_on_command(line, command, remarks),
+            None => remark_on_other(alloc, line, first, remarks),
+        },
     }
+}
+
+// Says what follows the word of a command.
+fn remark_on_command(line: &[u8], command: &Form, remarks: &mut Remarks) {
+    if !command.operands.is_empty() {
+        remarks.line(&[b"The form: ", command.word, b" ", command.operands, b"."]);
+        return;
+    }
+    if let Some(second) = span_at(line, 1) {
+        put_caret(line, second, remarks);
+    }
+    remarks.line(&[b"Nothing follows this word."]);
+}
+
+// Says what is wrong in a line that begins with the word of no command: a command that is nearer than any edit is meant.
+fn remark_on_other(alloc: Global, line: &[u8], first: Span, remarks: &mut Remarks) {
+    let word = first.of(line);
+    match (nearest_command(word), nearest_form(word)) {
+        (Some(command), Some(form)) if form.changes <= command.changes => {
+            remark_on_edit(alloc, line, remarks);
+        }
+        (Some(command), _) => {
+            put_caret(line, first, remarks);
+            remark_on_misspelt(command, remarks);
+        }
+        (None, _) => remark_on_edit(alloc, line, remarks),
+    }
+}
+
+fn remark_on_misspelt(command: Near, remarks: &mut Remarks) {
+    remarks.line(&[
+        b"No command has this name. Perhaps: ",
+        command.form.word,
+        b" ",
+        command.form.operands,
+    ]);
 }

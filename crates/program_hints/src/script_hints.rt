@@ -109,12 +109,12 @@ fn follows_brace(line: &[u8], position: usize) -> bool {
 fn remark_on_first(word: &[u8], remarks: &mut Remarks) {
     if is_digits(word) {
         remarks.line(&[b"This looks like a note: sfbank play reads note lists."]);
-    } else if let Some(form) = nearest_form(word) {
+    } else if let Some(near) = nearest_form(word) {
         remarks.line(&[
             b"No edit has this name. Perhaps: ",
-            form.word,
+            near.form.word,
             b" ",
-            form.operands,
+            near.form.operands,
         ]);
     } else {
         remarks.line(&[

@@ -16,7 +16,7 @@ use Rattle.script_tokens.proofs.LexLaws.{lines_none}
 use Rattle.script_tokens.proofs.CompletenessLaws.{line_values, number_read}
 use Rattle.script_tokens.proofs.PieceLaws.{piece_value, line, line_has_values, line_first, printable_number, writes, AllPrintable}
 use Rattle.script_notes.specs.declared.limits.TheConstants.{MOST_NOTES, LAST_FRAME, HIGHEST_KEY, HIGHEST_VELOCITY}
-use Rattle.script_notes.specs.Notes.{Numbers, note, note_of, in_time, token_lines, notes_after, notes_of}
+use Rattle.script_notes.specs.Notes.{Numbers, IsNote, note, note_of, in_time, token_lines, notes_after, notes_of}
 use Rattle.script_of_notes.specs.NoteTexts.{note_pieces, note_text, notes_text, IsListed}
 
 -- ---- the values of a line
@@ -77,12 +77,12 @@ values_are n h =
 
 -- ---- the note of a line
 
-note_is : (n : Numbers) → IsListed n → note_of n ≡ Some n
+pub note_is : (n : Numbers) → IsNote n → note_of n ≡ Some n
 unfolding note_of
 note_is n h =
-    let e = h.note.ends in
-    let k = h.note.key in
-    let v = h.note.velocity in
+    let e = h.ends in
+    let k = h.key in
+    let v = h.velocity in
     let ends : nat_le (n.start + n.length) LAST_FRAME ≡ true = grind (arith, nat_tests, e) in
     let key : nat_le n.key HIGHEST_KEY ≡ true = grind (arith, nat_tests, k) in
     let velocity : nat_le n.velocity HIGHEST_VELOCITY ≡ true = grind (arith, nat_tests, v) in
@@ -107,7 +107,7 @@ note_read n h =
     let number = reads most_word n.number v4 h.number (omega arith) in
     let key = reads HIGHEST_KEY n.key v5 h.note.key (omega arith) in
     let velocity = reads HIGHEST_VELOCITY n.velocity [] h.note.velocity (omega arith) in
-    rw (start, length, bank, number, key, velocity, note_is n h) refl
+    rw (start, length, bank, number, key, velocity, note_is n h.note) refl
 
 -- ---- all lines
 

@@ -63,8 +63,8 @@ fn answers_are_written(rt: HostRuntime) {
     assert!(rt; is_written_as(alloc, &Answer::Done, b"ok\n"));
     assert!(rt; is_written_as(alloc, &Answer::Counted(0), b"ok 0\n"));
     assert!(rt; is_written_as(alloc, &Answer::Counted(12), b"ok 12\n"));
+    assert!(rt; is_written_as(alloc, &Answer::Measured(32_768, 0), b"ok 32768 0\n"));
     assert!(rt; is_written_as(alloc, &Answer::NotNeutral, b"refused 50 NotNeutral\n"));
-    assert!(rt; is_written_as(alloc, &Answer::TooManyFrames, b"refused 52 TooManyFrames\n"));
     assert!(rt; is_written_as(alloc, &Answer::OutOfMemory, b"out of memory\n"));
 }
 

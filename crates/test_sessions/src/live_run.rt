@@ -46,12 +46,24 @@ static LINES: &[u8] = b"\
     press 0 0 60 127\n\
     release 0 0 60\n\
     release 0 0 60\n\
+    pedal on 0 0\n\
+    press 0 0 60 127\n\
+    release 0 0 60\n\
+    release 0 0 60\n\
+    voices\n\
+    pedal off 0 1\n\
+    pedal off 0 0\n\
     press 0 0 60 127\n\
     silence\n\
+    voices\n\
+    stop\n\
+    voices\n\
+    meter\n\
+    meter\n\
+    record notes.txt\n\
     rename-sample 1 \"u\"\n\
     neutral trim 0 0 0\n\
     save out.sf2 undo.txt\n\
-    frames 100000000\n\
     unknown\n\
     quit\n\
     undo\n";
@@ -67,17 +79,37 @@ static ANSWERS: &[u8] = b"\
     ok 0\n\
     ok 1\n\
     ok 0\n\
+    ok\n\
     ok 0\n\
     ok 1\n\
+    ok 0\n\
+    ok 2 1\n\
+    ok 0\n\
+    ok 1\n\
+    ok 0\n\
+    ok 1\n\
+    ok 2 0\n\
+    ok\n\
+    ok 0 0\n\
+    ok 1500 0\n\
+    ok 0 0\n\
+    ok 5\n\
     refused 22 NoSuchSample\n\
     refused 50 NotNeutral\n\
     ok\n\
-    refused 52 TooManyFrames\n\
     fault 41 Syntax\n\
     ok\n";
 
 // 500 on the left and 1500 on the right.
 static FRAMES: &[u8] = b"\xf4\x01\xdc\x05";
+
+// The second note starts after the only frame, when all are released.
+static NOTES: &[u8] = b"\
+    0 1 0 0 60 127\n\
+    1 0 0 0 60 127\n\
+    1 0 0 0 60 127\n\
+    1 0 0 0 60 127\n\
+    1 0 0 0 60 127\n";
 
 static UNDO_SCRIPT: &[u8] = b"\
     remove-inst 0\n\
@@ -114,6 +146,7 @@ fn a_session_is_answered(rt: HostRuntime) {
     assert!(rt; pcm.as_slice() == FRAMES);
     assert!(rt; begins_as_riff(host.file("out.sf2")));
     assert!(rt; host.file("undo.txt") == Some(UNDO_SCRIPT));
+    assert!(rt; host.file("notes.txt") == Some(NOTES));
 }
 
 fn begins_as_riff(file: Option<&[u8]>) -> bool {
@@ -130,6 +163,10 @@ static SAVES: &[u8] = b"\
     save other.sf2 frames.pcm\n\
     save other.sf2 other.sf2\n\
     save other.sf2 out.sf2\n\
+    record frames.pcm\n\
+    record in.sf2\n\
+    record out.sf2\n\
+    record notes.txt\n\
     save in.sf2 undo.txt\n";
 
 // The bank has 308 bytes, so that the last save has room for 84.
@@ -140,6 +177,10 @@ static SAVED: &[u8] = b"\
     refused 64 SameFile frames.pcm\n\
     refused 64 SameFile other.sf2\n\
     refused 65 HoldsBank out.sf2\n\
+    refused 64 SameFile frames.pcm\n\
+    refused 64 SameFile in.sf2\n\
+    refused 65 HoldsBank out.sf2\n\
+    ok 0\n\
     write fault in.sf2 after 84 bytes\n";
 
 #[test]
@@ -209,8 +250,8 @@ impl Progress for Counter {
     fn report_sound(&mut self) {}
 }
 
-// The instrument plays the highest point twice on the right. A comment, an edit that is refused and too many frames are
-// no faults of a line.
+// The instrument plays the highest point twice on the right. A comment and an edit that is refused are no faults of a
+// line.
 static REPORTED_LINES: &[u8] = b"\
     add-sample 0 \"c\" 44100 60 0 mono loop 0 1 xff7f\n\
     add-inst 0 \"i\" { 0 g 17 500 g 54 1 } { 0 g 17 500 g 54 1 }\n\
@@ -222,7 +263,6 @@ static REPORTED_LINES: &[u8] = b"\
     unknown\n\
     frames 100\n\
     rename-sample 1 \"u\"\n\
-    frames 100000000\n\
     frames 2000\n\
     note 1 2";
 

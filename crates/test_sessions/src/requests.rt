@@ -5,7 +5,9 @@ ghost use Rattle.script_tokens.specs.Lines.{is_feed};
 
 use base_outputs::Output;
 use edit_script::put_edit;
-use live_lines::{HELP, Key, Paths, Request, RequestFault, pool_of_line, read_line};
+use live_lines::{
+    HELP, Key, Paths, PedalMove, PedalPosition, Request, RequestFault, pool_of_line, read_line,
+};
 use script_notes::Note;
 use script_tokens::{Lines, Piece, put_line};
 use sf_base::{BorrowedBytes, Failure};
@@ -13,7 +15,7 @@ use std::alloc::Global;
 use std::io::Write;
 
 /// Lines and their requests, written as canonical lines.
-const LINES: [(&[u8], &[u8]); 27] = [
+const LINES: [(&[u8], &[u8]); 34] = [
     (b"", b"nothing\n"),
     (b" \t# undo\r", b"nothing\n"),
     (b"rename-sample 0 \"u\"", b"edit rename-sample 0 \"u\"\n"),
@@ -38,7 +40,14 @@ const LINES: [(&[u8], &[u8]); 27] = [
     (b"note 0 0 0 0 0", b"note 0 0 0 0 0 0\n"),
     (b"press 0 1 60 100", b"held note 0 100000000 0 1 60 100\n"),
     (b"release 0 1 60", b"release 0 1 60\n"),
+    (b"pedal on 128 0", b"pedal on 128 0\n"),
+    (b"pedal off 0 65535", b"pedal off 0 65535\n"),
     (b"silence", b"silence\n"),
+    (b"stop", b"stop\n"),
+    (b"record notes.txt", b"record \"notes.txt\"\n"),
+    (b"record \"my notes.txt\"", b"record \"my notes.txt\"\n"),
+    (b"voices", b"voices\n"),
+    (b"meter", b"meter\n"),
     (b"frames 0", b"frames 0\n"),
     (b"frames 100000000", b"frames 100000000\n"),
     (b"save out.sf2 undo.txt", b"save \"out.sf2\" \"undo.txt\"\n"),
@@ -62,7 +71,7 @@ const LINES: [(&[u8], &[u8]); 27] = [
 ];
 
 /// Lines with a fault, and its number and name.
-const FAULTS: [(&[u8], &[u8]); 41] = [
+const FAULTS: [(&[u8], &[u8]); 52] = [
     (b"play", b"fault 41 Syntax\n"),
     (b"Undo", b"fault 41 Syntax\n"),
     (b"undo 1", b"fault 41 Syntax\n"),
@@ -97,7 +106,18 @@ const FAULTS: [(&[u8], &[u8]); 41] = [
     (b"press 0 0 60 128", b"fault 45 BadNote\n"),
     (b"release 0 0", b"fault 41 Syntax\n"),
     (b"release 0 0 128", b"fault 42 Number\n"),
+    (b"pedal", b"fault 41 Syntax\n"),
+    (b"pedal up 0 0", b"fault 41 Syntax\n"),
+    (b"pedal on 0", b"fault 41 Syntax\n"),
+    (b"pedal on 65536 0", b"fault 42 Number\n"),
+    (b"pedal off 0 0 60", b"fault 41 Syntax\n"),
     (b"silence now", b"fault 41 Syntax\n"),
+    (b"stop 0", b"fault 41 Syntax\n"),
+    (b"record", b"fault 41 Syntax\n"),
+    (b"record x0", b"fault 43 Literal\n"),
+    (b"record a b", b"fault 41 Syntax\n"),
+    (b"voices 0", b"fault 41 Syntax\n"),
+    (b"meter 0", b"fault 41 Syntax\n"),
     (b"frames", b"fault 41 Syntax\n"),
     (b"frames 100000001", b"fault 42 Number\n"),
     (b"frames x00", b"fault 42 Number\n"),
@@ -128,11 +148,16 @@ fn put_request<W: Write>(request: &Request<'_, '_>, output: &mut Output<'_, W>) 
             put_note(note, output);
         }
         Request::Release(key) => put_key(*key, output),
+        Request::Pedal(moved) => put_pedal(*moved, output),
         Request::Silence => output.put(b"silence\n"),
+        Request::Stop => output.put(b"stop\n"),
         Request::Frames(count) => {
             put_line(b"frames", &[Piece::Number(u64::from(*count))], output);
         }
+        Request::Record(path) => put_line(b"record", &[quoted(path.text())], output),
         Request::Save(paths) => put_paths(paths, output),
+        Request::Voices => output.put(b"voices\n"),
+        Request::Meter => output.put(b"meter\n"),
         Request::Show => output.put(b"show\n"),
         Request::Help => output.put(b"help\n"),
         Request::Quit => output.put(b"quit\n"),
@@ -166,9 +191,29 @@ fn put_key<W: Write>(key: Key, output: &mut Output<'_, W>) {
     );
 }
 
+fn put_pedal<W: Write>(moved: PedalMove, output: &mut Output<'_, W>) {
+    let position = match moved.position {
+        PedalPosition::On => b"on".as_slice(),
+        PedalPosition::Off => b"off".as_slice(),
+    };
+    put_line(
+        b"pedal",
+        &[
+            Piece::Word(BorrowedBytes::new(position)),
+            Piece::Number(u64::from(moved.pedal.bank)),
+            Piece::Number(u64::from(moved.pedal.number)),
+        ],
+        output,
+    );
+}
+
+fn quoted(text: &str) -> Piece<'_> {
+    Piece::Name(BorrowedBytes::new(text.as_bytes()))
+}
+
 fn put_paths<W: Write>(paths: &Paths<'_>, output: &mut Output<'_, W>) {
-    let out = Piece::Name(BorrowedBytes::new(paths.out.text().as_bytes()));
-    let undo = Piece::Name(BorrowedBytes::new(paths.undo.text().as_bytes()));
+    let out = quoted(paths.out.text());
+    let undo = quoted(paths.undo.text());
     put_line(b"save", &[out, undo], output);
 }
 

@@ -45,3 +45,19 @@ returns-in-Help-clause-done g c =
 pub returns-in-Quit-clause-done : goal.returns-in-Quit-clause-done
 returns-in-Quit-clause-done g c =
     does_equal _ _ _ _ _ _ _ c.in-Quit.is (does_without_output _ _ _ _ _ _ refl refl (refl, refl))
+
+pub returns-in-Pedal-clause-done : goal.returns-in-Pedal-clause-done
+returns-in-Pedal-clause-done g c =
+    does_equal _ _ _ _ _ _ _ c.in-Pedal.is (does_without_output _ _ _ _ _ _ c.move_pedal.ensures refl (refl, refl))
+
+pub returns-in-Stop-clause-done : goal.returns-in-Stop-clause-done
+returns-in-Stop-clause-done g c =
+    does_equal _ _ _ _ _ _ _ c.in-Stop.is (does_without_output _ _ _ _ _ _ c.stop.ensures refl (refl, refl))
+
+pub returns-in-Voices-clause-done : goal.returns-in-Voices-clause-done
+returns-in-Voices-clause-done g c =
+    does_equal _ _ _ _ _ _ _ c.in-Voices.is (does_without_output _ _ _ _ _ _ c.voices.ensures refl (refl, refl))
+
+pub returns-in-Meter-clause-done : goal.returns-in-Meter-clause-done
+returns-in-Meter-clause-done g c =
+    does_equal _ _ _ _ _ _ _ c.in-Meter.is (does_without_output _ _ _ _ _ _ c.measure.ensures refl (refl, refl))

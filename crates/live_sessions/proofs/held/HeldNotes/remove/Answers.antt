@@ -1,4 +1,4 @@
-use Rattle.std.proofs.Common.{rules, not, ◌==◌, List, ap, ◌∙◌}
+use Rattle.std.proofs.Common.{rules, not, ◌==◌, ap, ◌∙◌}
 use Rattle.std.proofs.lemmas.Fn.{filter_same}
 use Rattle.live_sessions.specs.declared.held.HeldNote.{HeldNote}
 use Rattle.live_sessions.specs.Steps.{held_without}
