@@ -70,7 +70,7 @@ class Folder:
 class Playing:
     """A run with a MIDI input that sends bytes. Its standard input stays open until `end`."""
 
-    def __init__(self, folder, command):
+    def __init__(self, folder, command, **settings):
         self.files = [open(folder.path / it, "w+b") for it in ("output", "errors")]
         self.process = subprocess.Popen(
             command,
@@ -78,7 +78,7 @@ class Playing:
             stdout=self.files[0],
             stderr=self.files[1],
             bufsize=0,
-            env=folder.settings,
+            env={**folder.settings, **settings},
             cwd=folder.path,
         )
         self.port = open(folder.port, "wb", buffering=0)
