@@ -36,8 +36,10 @@ clean:
 install: $(or $(PROGRAM),build/sfbank)
 	install -D -m 755 "$<" "$(BIN)/sfbank"
 	install -D -m 755 scripts/notes_of_midi "$(BIN)/sfbank-notes-of-midi"
+	install -D -m 755 scripts/sfbank-keys "$(BIN)/sfbank-keys"
 	install -D -m 644 docs/sfbank.1 "$(MAN)/sfbank.1"
 	ln -sf sfbank.1 "$(MAN)/sfbank-notes-of-midi.1"
+	ln -sf sfbank.1 "$(MAN)/sfbank-keys.1"
 	install -D -m 644 completions/sfbank.bash "$(BASH)/sfbank"
 	install -D -m 644 completions/_sfbank "$(ZSH)/_sfbank"
 	install -D -m 644 completions/sfbank.fish "$(FISH)/sfbank.fish"
@@ -46,7 +48,8 @@ install: $(or $(PROGRAM),build/sfbank)
 	install -m 644 examples/* "$(DOC)/examples"
 
 uninstall:
-	rm -f "$(BIN)/sfbank" "$(BIN)/sfbank-notes-of-midi" "$(MAN)/sfbank.1" "$(MAN)/sfbank-notes-of-midi.1"
+	rm -f "$(BIN)/sfbank" "$(BIN)/sfbank-notes-of-midi" "$(BIN)/sfbank-keys"
+	rm -f "$(MAN)/sfbank.1" "$(MAN)/sfbank-notes-of-midi.1" "$(MAN)/sfbank-keys.1"
 	rm -f "$(BASH)/sfbank" "$(ZSH)/_sfbank" "$(FISH)/sfbank.fish"
 	rm -rf "$(DOC)"
 
