@@ -14,8 +14,9 @@ use Rattle.mixer.specs.Pressed.{KeyEvent, Edited, Started, Pressed, Released, St
 use Rattle.mixer.specs.Stops.{least}
 use Rattle.mixer.specs.Recorded.{played, key_frames}
 use Rattle.mixer.proofs.RecordedLaws.{closed}
-use Rattle.live_sessions.specs.declared.performance.PlayedNote.{PlayedNote}
-use Rattle.live_sessions.specs.Performances.{most, moved_to, with_note, with_played, end_after, ended_by, listed}
+use Rattle.live_sessions.specs.declared.played.PlayedNote.{PlayedNote}
+use Rattle.live_sessions.specs.PlayedNotes.{moved_to, with_note, with_played, end_after, ended_by, listed}
+use Rattle.live_sessions.specs.Performances.{most}
 
 -- ---- the notes so far, and those of the events that follow
 

@@ -16,6 +16,7 @@ use Rattle.inverse_edits.specs.Histories.{bank_now, undo_edits}
 use Rattle.live_lines.specs.declared.answer.Answer.{Answer}
 use Rattle.live_lines.specs.declared.answer.Answer.TheVariants as answer
 use Rattle.live_lines.specs.declared.paths.Paths.{Paths}
+use Rattle.script_notes.specs.Notes.{notes_of}
 use Rattle.script_of_notes.specs.NoteTexts.{notes_text}
 use Rattle.live_sessions.specs.declared.live.LiveState.{LiveState}
 use Rattle.live_sessions.specs.declared.performance.Performance.{Performance}
@@ -99,10 +100,12 @@ abbrev pub NotesAreApart : SessionFiles → List ℕ → Option World → Checke
 NotesAreApart own path world checked =
     InOrder (IsApart world path (own.bank.now ∷ own.pcm.now ∷ [])) (IsNoBank world path own.force) checked
 
--- The files after a recording with this answer. A write fault counts the bytes that the host wrote.
+-- The files after a recording with this answer: a note list that reads as the notes so far. A write fault counts the
+-- bytes that the host wrote.
 abbrev pub FilesAfterRecord : SessionFiles → LiveState → List ℕ → Answer → Option World → Option World → ℕ → Type 0
 FilesAfterRecord own s path (answer.Counted n) old new written =
     NotesAreApart own path old (Ok tt) × (new ≡ option_map (with_text path (recording_text s.performance)) old)
+    × (notes_of (recording_text s.performance) ≡ Ok (recorded_now s.performance))
 FilesAfterRecord own s path (answer.WriteFault p count) old new written =
     NotesAreApart own path old (Ok tt) × Spoils old new path (recording_text s.performance) × (count ≡ written)
 FilesAfterRecord own s path (answer.Rejected p why) old new written =

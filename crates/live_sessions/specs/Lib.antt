@@ -10,6 +10,7 @@ pub use Rattle.script_of_notes.specs.NoteTexts
 pub mod Saved
 pub mod Streams
 pub mod Meters
+pub mod PlayedNotes
 pub mod Performances
 pub mod FileSaves
 pub mod AnswerTexts

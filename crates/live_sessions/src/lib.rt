@@ -11,6 +11,7 @@ mod live;
 mod meter;
 mod pedals;
 mod performance;
+mod played;
 mod recording;
 mod request_reading;
 mod requests;

@@ -1,9 +1,9 @@
 //! The state of a session: its bank, its notes, and what is measured of its frames.
-ghost use Rattle.std.specs.Prelude.{◌≡◌, ◌+◌, length, min};
+ghost use Rattle.std.specs.Prelude.{◌≡◌, ◌+◌, IfOk, OnErr, length, min};
 ghost use Rattle.mixer.specs.StartFrames.{note_voices};
 ghost use Rattle.live_sessions.specs.Steps.{EditIs, NeutralIs, UndoIs, RedoIs, NoteIs, PressIs, ReleaseIs, PedalOnIs};
 ghost use Rattle.live_sessions.specs.Steps.{PedalOffIs, PedalIs, SilenceIs, StopIs, VoicesAre, MeterIs};
-ghost use Rattle.live_sessions.specs.Steps.{after_release_of, key_of, pedal_of, started_with};
+ghost use Rattle.live_sessions.specs.Steps.{StartsVoices, after_release_of, key_of, pedal_of, started_with};
 
 use crate::held::{HeldNote, HeldNotes};
 use crate::meter::Meter;
@@ -16,6 +16,7 @@ use inverse_edits::Session;
 use live_lines::{Answer, Key, Pedal, PedalMove, PedalPosition};
 use mixer::Release;
 use script_notes::Note;
+use sf_base::OutOfMemory;
 use sound_neutral_edits::is_neutral;
 use std::alloc::Global;
 use zone_select::matches;
@@ -106,12 +107,26 @@ impl<'a> LiveState<'a> {
     ) -> Answer<'static>
         ensures { NoteIs self.old note.now result self.new }
     {
-        let bank = self.session.bank();
-        let started = self.performance.start(alloc, bank, note, progress);
-        if started.is_err() {
-            return Answer::OutOfMemory;
+        match self.start(alloc, note, progress) {
+            Ok(voices) => Answer::Counted(voices),
+            Err(_) => Answer::OutOfMemory,
         }
-        Answer::Counted(voice_count(bank, note))
+    }
+
+    // Starts a note at the next frame on the current bank, and returns the number of its voices. A failed allocation
+    // changes nothing.
+    fn start<Q: Progress>(
+        &mut self,
+        alloc: Global,
+        note: &Note,
+        progress: &mut Q,
+    ) -> Result<usize, OutOfMemory>
+        ensures done { IfOk result (λ voices. StartsVoices self.old note.now voices self.old.held self.new) }
+        ensures refused { OnErr result (self.new ≡ self.old) }
+    {
+        let bank = self.session.bank();
+        self.performance.start(alloc, bank, note, progress)?;
+        Ok(voice_count(bank, note))
     }
 
     /// Starts a note like [`LiveState::note`], which lasts until it is released.
@@ -132,13 +147,13 @@ impl<'a> LiveState<'a> {
         if self.held.push(held).is_err() {
             return Answer::OutOfMemory;
         }
-        let bank = self.session.bank();
-        let started = self.performance.start(alloc, bank, note, progress);
-        if started.is_err() {
-            self.held.truncate(count);
-            return Answer::OutOfMemory;
+        match self.start(alloc, note, progress) {
+            Ok(voices) => Answer::Counted(voices),
+            Err(_) => {
+                self.held.truncate(count);
+                Answer::OutOfMemory
+            }
         }
-        Answer::Counted(voice_count(bank, note))
     }
 
     /// Releases a key: the note that was pressed first of those that it holds ends, or is left to its pedal. The answer

@@ -1,15 +1,17 @@
 //! Writes the notes of a session to a note list.
-ghost use Rattle.std.specs.Prelude.{◌≡◌, OnOk, IfErr, map};
+ghost use Rattle.std.specs.Prelude.{◌≡◌, Ok, OnOk, IfErr, map};
 ghost use Rattle.std.specs.Option.{option_map};
 ghost use Rattle.file_host.specs.Saving.{SaveFails, Counts};
 ghost use Rattle.file_host.specs.World.{with_text};
+ghost use Rattle.script_notes.specs.Notes.{notes_of};
 ghost use Rattle.script_of_notes.specs.NoteTexts.{notes_text};
 ghost use Rattle.live_sessions.specs.FileSaves.{NotesAreApart, FilesAfterRecord, recording_text};
-ghost use Rattle.live_sessions.specs.Performances.{listed};
+ghost use Rattle.live_sessions.specs.PlayedNotes.{listed};
+ghost use Rattle.live_sessions.specs.Performances.{recorded_now};
 ghost use Rattle.live_sessions.specs.Steps.{RecordIs};
 
 use crate::live::LiveState;
-use crate::performance::PlayedNote;
+use crate::played::PlayedNote;
 use crate::saving::SessionFiles;
 use base_outputs::{Output, OutputFault, WriteFault};
 use base_texts::Text;
@@ -83,6 +85,7 @@ fn save_notes<H: Host>(
     ensures saved { OnOk result (H.world host.new ≡ option_map (with_text path.now (recording_text live.now.performance)) (H.world host.old)) }
     ensures failed { IfErr result (SaveFails (H.world host.old) (H.world host.new) path.now (recording_text live.now.performance)) }
     ensures counted { IfErr result (Counts (H.written host.new)) }
+    ensures read { notes_of (recording_text live.now.performance) ≡ Ok (recorded_now live.now.performance) }
 {
     let lines = NoteLines {
         notes: live.performance.played.as_slice(),

@@ -253,7 +253,6 @@ pub(crate) fn end_all<'a>(voices: &mut Vec<PlayingVoice<'a>>, ahead: &mut Ahead)
     ensures ahead { IsAhead ahead.new voices.new.items }
     ensures none { playing_now ahead.new voices.new.items ≡ [] }
 {
-    ahead.left = 0;
-    ahead.next_count = 0;
+    *ahead = Ahead::none();
     voices.truncate(0);
 }

@@ -7,7 +7,7 @@ use crate::remarks::Remarks;
 use crate::source_line::{put_caret, put_missing};
 use crate::spans::{Span, span_at};
 use crate::word_hints::{
-    has_other_letters, has_printed_quote, is_digits, remark_on_generator, remark_on_word,
+    has_other_letters, has_printed_quote, is_digits, remark_on_amounts, remark_on_word,
 };
 use std::alloc::Global;
 
@@ -79,7 +79,7 @@ fn remark_on_amount(line: &[u8], amount: Span, remarks: &mut Remarks) {
         (Some(form), Some(place))
             if form.word == b"set-gen".as_slice() && place.start == amount.start => {
             if let Some(operator) = span_at(line, AMOUNT - 1) {
-                remark_on_generator(operator.of(line), remarks);
+                remark_on_amounts(operator.of(line), remarks);
             }
         }
         _ => {}

@@ -60,7 +60,7 @@ fn is_named(row: &GeneratorRow, name: &[u8]) -> bool {
 }
 
 /// Says which amounts the generator of this number can have.
-pub(crate) fn remark_on_generator(number: &[u8], remarks: &mut Remarks) {
+pub(crate) fn remark_on_amounts(number: &[u8], remarks: &mut Remarks) {
     let mut digits = Buffer::new();
     for row in usable_generators() {
         if digits.format(row.number).as_bytes() == number {

@@ -1,9 +1,10 @@
 use Rattle.std.proofs.Common.{ℕ, List, IfErr, map, subst}
 use Rattle.file_host.specs.Saving.{SaveFails}
 use Rattle.script_of_notes.specs.NoteTexts.{notes_text}
-use Rattle.live_sessions.specs.declared.performance.PlayedNote.{PlayedNote}
+use Rattle.live_sessions.specs.declared.played.PlayedNote.{PlayedNote}
 use Rattle.live_sessions.specs.FileSaves.{recording_text}
-use Rattle.live_sessions.specs.Performances.{listed}
+use Rattle.live_sessions.specs.PlayedNotes.{AreListed, listed}
+use Rattle.live_sessions.proofs.ListedLaws.{recording_reads}
 use Rattle.live_sessions.proofs.recording.save_notes.Goals as goal
 
 pub returns-clause-failed : goal.returns-clause-failed
@@ -15,4 +16,9 @@ returns-clause-failed g c =
     (subst
     (λ (ps : List PlayedNote).
     IfErr c.save.result (SaveFails old new c.text.result.now (notes_text (map (listed s.given) ps))))
-    c.as_slice.ensures c.save.ensures.failed)
+    c.as_slice.ensures.same c.save.ensures.failed)
+
+pub returns-clause-read : goal.returns-clause-read
+returns-clause-read g c =
+    let s = c.args.live.now.performance in
+    recording_reads s.given s.played (subst AreListed c.as_slice.ensures.same c.as_slice.ensures.listed)

@@ -5,7 +5,7 @@ use Rattle.base_outputs.specs.Output.{Puts}
 use Rattle.base_outputs.proofs.OutputLaws.{putting_from, putting_member}
 use Rattle.script_notes.specs.Notes.{Numbers}
 use Rattle.script_of_notes.specs.NoteTexts.{note_text, notes_text}
-use Rattle.live_sessions.specs.Performances.{listed}
+use Rattle.live_sessions.specs.PlayedNotes.{listed}
 use Rattle.live_sessions.proofs.recording.NoteLinesText.put.Goals as goal
 
 pub loop-played-init : goal.loop-played-init

@@ -2,7 +2,7 @@ use Rattle.std.proofs.Common.{drop, map}
 use Rattle.std.specs.List.{flat_map}
 use Rattle.base_outputs.proofs.OutputLaws.{Putting}
 use Rattle.script_of_notes.specs.NoteTexts.{note_text, notes_text}
-use Rattle.live_sessions.specs.Performances.{listed}
+use Rattle.live_sessions.specs.PlayedNotes.{listed}
 use Rattle.live_sessions.proofs.recording.NoteLinesText.put.Given as goal
 
 -- the lines so far were put

@@ -2,8 +2,8 @@ use Rattle.std.proofs.Common.{◌≡◌, Some, refl, sym, subst, ◌∙◌}
 use Rattle.std.specs.Option.{IsSome}
 use Rattle.script_notes.specs.Notes.{Numbers}
 use Rattle.script_of_notes.proofs.ReadBackLaws.{note_is}
-use Rattle.live_sessions.proofs.performance.retimed.Goals as goal
-use Rattle.live_sessions.proofs.performance.retimed.Goals.{After-new}
+use Rattle.live_sessions.proofs.played.retimed.Goals as goal
+use Rattle.live_sessions.proofs.played.retimed.Goals.{After-new}
 
 abbrev new_numbers : (c : After-new) → Numbers
 new_numbers c = record {
