@@ -18,7 +18,7 @@ use Rattle.live_sessions.specs.Turns.{Turn, AreTurns, events_in, bytes_in}
 
 -- The frames that are written are those of the session's events in the order of their lines: edits (also undone and
 -- redone), starts of notes, each on the bank at that time, and blocks of frames. A pressed note is a note that lasts
--- until its release, and nothing is heard of it after an end of all voices.
+-- until its release, and is silent after an end of all voices.
 abbrev pub FramesFollowEvents : Type 0
 FramesFollowEvents =
     (b : Parts) (ts : List Turn) (last : LiveState) → AreTurns (started_with b) ts last

@@ -81,7 +81,7 @@ heard_later b (Released r ∷ es) = heard_later b es
 heard_later b (Stopped ∷ es) = heard b (as_notes es) ++ heard_later b es
 heard_later b (Given m ∷ es) = heard_later b es
 
--- All frames. Notes end when they are released; nothing is heard of them after an end of all voices.
+-- All frames. Notes end when they are released, and are silent after an end of all voices.
 abbrev pub heard_keys : Parts → List KeyEvent → List ℤ
 heard_keys b es = heard b (as_notes es) ++ heard_later b es
 

@@ -47,9 +47,9 @@ pub fn alike_edits_change_no_frame()
     ensures blocks { AlikeBlocks }
 {}
 
-/// The law that what a player gives are the frames of notes, each of which lasts from its press to its release, and of
-/// which nothing is heard after an end of all voices: after any presses, releases, changes of the bank and blocks of any
-/// length. It does nothing.
+/// The law that what a player gives are the frames of notes, each of which lasts from its press to its release, and is
+/// silent after an end of all voices: after any presses, releases, changes of the bank and blocks of any length. It does
+/// nothing.
 #[tactic(auto, using(crate::proofs::PressedLaws::presses_heard))]
 pub fn presses_are_heard()
     ensures { PressesAreHeard }
