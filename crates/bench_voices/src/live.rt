@@ -1,14 +1,15 @@
-//! Plays notes as in a live session: all together, block by block.
+//! Plays notes as in a live session: all held together, block by block.
 ghost use Rattle.std.specs.Prelude.{◌≤◌};
 
 use crate::blocks::MAX_BLOCK;
+use base_progress::NoReports;
 use mixer::Player;
 use script_notes::parse_notes;
 use sf_reader::read;
 use std::alloc::Global;
 use std::io;
 
-/// A player that has started all notes of a note list on a file's bank.
+/// A player that holds all notes of a note list on a file's bank.
 pub(crate) fn player_of<'a>(alloc: Global, file: &'a [u8], notes: &[u8]) -> io::Result<Player<'a>> {
     let Ok((bank, _counts)) = read(alloc, file) else {
         return Err(io::Error::from(io::ErrorKind::InvalidData));
@@ -17,8 +18,11 @@ pub(crate) fn player_of<'a>(alloc: Global, file: &'a [u8], notes: &[u8]) -> io::
         return Err(io::Error::from(io::ErrorKind::InvalidData));
     };
     let mut player = Player::new(alloc);
+    let mut handle: u64 = 0;
     for note in notes.as_slice() {
-        if player.start(alloc, &bank, note).is_err() {
+        let pressed = player.press(alloc, &bank, note, handle, &mut NoReports);
+        handle = handle.wrapping_add(1);
+        if pressed.is_err() {
             return Err(io::Error::from(io::ErrorKind::OutOfMemory));
         }
     }

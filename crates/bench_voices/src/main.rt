@@ -6,7 +6,7 @@
 //!   name, a checksum, the number of frames, and the nanoseconds. `scripts/bench_voices.c` prints the same of the
 //!   same voices in blocks of 512.
 //! - BANK NOTES: prints the number of frames of all voices of the notes.
-//! - BANK NOTES BLOCK: starts all notes together, plays ten seconds in blocks of BLOCK frames, and prints `live`,
+//! - BANK NOTES BLOCK: holds all notes together, plays ten seconds in blocks of BLOCK frames, and prints `live`,
 //!   a checksum, the number of frames, and the nanoseconds.
 #![tactic(auto)]
 

@@ -216,9 +216,7 @@ fn release<'t, 'p>(line: &mut Cursor<'t, 'p>) -> Result<Request<'t, 'p>, Failure
 }
 
 // A pedal that is pressed or released.
-fn move_pedal<'t, 'p>(
-    line: &mut Cursor<'t, 'p>,
-) -> Result<Request<'t, 'p>, Failure<RequestFault>>
+fn move_pedal<'t, 'p>(line: &mut Cursor<'t, 'p>) -> Result<Request<'t, 'p>, Failure<RequestFault>>
     ensures answer { Answers (λ r. r) result (made_request asks.Pedal (pedal line.old.token_values)) }
     ensures memory { IsNotOutOfMemory result }
 {

@@ -63,7 +63,11 @@ impl<'a> Performance<'a> {
         let count = self.played.as_slice().len();
         let handle = self.next_handle;
         self.played.add(note, handle, self.given)?;
-        if self.player.press(alloc, bank, note, handle, progress).is_err() {
+        if self
+            .player
+            .press(alloc, bank, note, handle, progress)
+            .is_err()
+        {
             self.played.truncate(count);
             return Err(OutOfMemory);
         }

@@ -59,13 +59,7 @@ fn end_after(end: Option<u64>, is_released: bool, frame: u64) -> Option<u64>
 {
     match end {
         Some(end) => Some(end),
-        None => {
-            if is_released {
-                Some(frame)
-            } else {
-                None
-            }
-        }
+        None => { if is_released { Some(frame) } else { None } }
     }
 }
 
