@@ -13,7 +13,8 @@ our @EXPORT = qw(try_failed_allocations);
 my @lines = (
     'rename-sample 0 "u"', 'note 4000 0 0 60 20', 'frames 100', 'group { set-gen inst 0 0 17 -300 } { set-loop 0 loop 0 2 }', 'note 4000 0 0 72 20',
     'frames 300', 'undo', 'neutral rename-inst 0 "v"', 'save saved.1 undo.1', 'redo', 'undo', 'extend 0 x01000200 x0300', 'note 300 0 0 48 20', 'frames 500',
-    'split-zone inst 0 0 key 64', 'save saved.2 "undo.2"', 'show', 'remove-sample 0', 'trim 0 x0', 'frames 50', 'quit',
+    'press 0 0 60 20', 'pedal on 0 0', 'frames 100', 'release 0 0 60', 'frames 100', 'pedal off 0 0', 'press 0 0 72 20', 'record notes.1', 'silence',
+    'split-zone inst 0 0 key 64', 'save saved.2 "undo.2"', 'voices', 'show', 'remove-sample 0', 'trim 0 x0', 'frames 50', 'quit',
 );
 
 sub try_failed_allocations {
@@ -22,7 +23,7 @@ sub try_failed_allocations {
     my ($number, $answered) = (0, 0);
     while (1) {
         $number++;
-        unlink glob('saved.*'), glob('undo.*');
+        unlink glob('saved.*'), glob('undo.*'), glob('notes.*');
         my $run = live_under({ LD_PRELOAD => './fail_allocation.so', FAILED_ALLOCATION => $number, FAILED_MARK => 'mark' }, 'tone', join("\n", @lines) . "\n");
         last if !-e 'mark';
         $answered++ if $run->{answers} =~ /^out of memory$/m;
