@@ -88,7 +88,7 @@ static ANSWERS: &[u8] = b"\
     ok 1\n\
     ok 0\n\
     ok 1\n\
-    ok 2 0\n\
+    ok 0 0\n\
     ok\n\
     ok 0 0\n\
     ok 1500 0\n\
