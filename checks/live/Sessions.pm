@@ -90,12 +90,19 @@ sub note { return 'note ' . one_of(0, 1, 50 + below(400), 3000) . ' 0 ' . one_of
 # Returns the numbers of a key; there are few, so that presses and releases meet.
 sub key { return '0 ' . one_of(0, 0, 0, 1) . ' ' . one_of(40, 60); }
 
+# Returns lines in which a pedal holds a note after the release of its key.
+sub pedalled {
+    my $key = key();
+    my ($preset) = $key =~ /^(\d+ \d+)/;
+    return "pedal on $preset\npress $key " . (1 + below(20)) . "\nframes " . below(300) . "\nrelease $key\nframes " . below(300) . "\npedal off $preset";
+}
+
 my ($saves, $records);
 sub line {
     my @lines = (
         (\&edit) x 8, sub { 'neutral ' . (below(3) ? neutral_step() : edit()) }, ('undo') x 3, ('redo') x 3, (\&note) x 5,
         (sub { 'press ' . key() . ' ' . (1 + below(20)) }) x 3, (sub { 'release ' . key() }) x 2, one_of('silence', 'stop'),
-        (sub { 'pedal ' . one_of('on', 'on', 'off') . ' 0 ' . one_of(0, 0, 1) }) x 2, sub { $records++; "record notes.$records" }, one_of('voices', 'meter'),
+        (sub { 'pedal ' . one_of('on', 'on', 'off') . ' 0 ' . one_of(0, 0, 1) }) x 2, sub { $records++; "record notes.$records" }, one_of('voices', 'meter'), \&pedalled,
         (sub { 'frames ' . one_of(0, 1, below(300), below(3000), 1024) }) x 5,
         (sub { $saves++; "save saved.$saves " . (below(2) ? "undo.$saves" : "\"undo.$saves\"") }) x 2,
         'show', sub { one_of('', ' # nothing', 'undo 1', 'rename-sample 0', 'note 1 2', 'press 0 0 60', 'release 0 0', 'pedal up 0 0', 'record a b', 'frames -1', 'save "a', 'trim 0 x1', 'help me') },
@@ -408,7 +415,7 @@ sub session_of {
     my ($seed) = @_;
     ($lot, $saves, $records) = ($seed, 0, 0);
     below(2) for 1 .. 3;
-    return ($BANKS[$seed % @BANKS], (map { line() } 1 .. 8 + below(24)), below(2) ? ('quit', 'undo') : ());
+    return ($BANKS[$seed % @BANKS], (map { my $text = line(); $text eq q{} ? $text : split /\n/, $text } 1 .. 8 + below(24)), below(2) ? ('quit', 'undo') : ());
 }
 
 sub wrong_of_session {
