@@ -100,7 +100,7 @@ KEYS = [
         "a note without a voice, reported once",
         [program(99), on(60), off(60), on(62), off(62)],
         [press(60, 99), release(60, 99), press(62, 99), release(62, 99)],
-        ["sfbank-keys: press 0 99 60 100: no voice"],
+        ["sfbank-keys: preset 0:99 has no voice for key 60"],
     ),
 ]
 
