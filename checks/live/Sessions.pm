@@ -24,9 +24,9 @@ my %count;
 
 # The faults of the faulty lines, by their first words.
 my %faults = (
-    undo => 'fault 41 Syntax', note => 'fault 45 BadNote', press => 'fault 45 BadNote', release => 'fault 41 Syntax',
-    frames => 'fault 42 Number', save => 'fault 43 Literal', help => 'fault 41 Syntax', pedal => 'fault 41 Syntax',
-    record => 'fault 41 Syntax',
+    undo => 'fault 41 Syntax # 1', note => 'fault 45 BadNote', press => 'fault 45 BadNote', release => 'fault 41 Syntax',
+    frames => 'fault 42 Number # -1', save => 'fault 43 Literal # "a', help => 'fault 41 Syntax # me',
+    pedal => 'fault 41 Syntax # up', record => 'fault 41 Syntax # b',
 );
 
 my $lot;
@@ -153,8 +153,22 @@ sub answered {
     return $answer eq $want ? undef : "answered '$answer', not '$want'";
 }
 
+# Returns a line as a comment shows it.
+sub shown {
+    my ($line) = @_;
+    return length $line > 120 ? substr($line, 0, 120) . '..' : $line;
+}
+
+# Returns the inverse of the last edit of a script, as a line.
+sub inverse_of_last {
+    my ($s, $script) = @_;
+    return (split /\n/, made_by($s, $script)->{undo})[0];
+}
+
 sub is_edited {
     my ($s, $answer, $line, @flags) = @_;
+    my $token = $answer =~ /^fault/ && $answer =~ s/ # (.*)$// ? $1 : undef;
+    return "the comment '$token' is no token" if defined $token && !grep { $_ eq $token } split ' ', $line;
     my $wrong = answered(@flags ? 'neutral' : 'edit', $answer, result_of_apply($s, $line, @flags));
     return $wrong if $wrong || $answer ne 'ok';
     splice @{ $s->{edits} }, $s->{at};
@@ -166,15 +180,18 @@ sub is_edited {
 sub is_undone {
     my ($s, $answer) = @_;
     return answered('undo', $answer, 'refused 39 NothingToUndo') unless $s->{at};
+    my $inverse = inverse_of_last($s, script_of($s));
     $s->{at}--;
-    return answered('undo', $answer, 'ok');
+    return answered('undo', $answer, 'ok # ' . shown($inverse));
 }
 
 sub is_redone {
     my ($s, $answer) = @_;
     return answered('redo', $answer, 'refused 40 NothingToRedo') if $s->{at} == @{ $s->{edits} };
     $s->{at}++;
-    return answered('redo', $answer, 'ok');
+    my $inverse = inverse_of_last($s, script_of($s));
+    my $edit = inverse_of_last($s, script_of($s) . "$inverse\n");
+    return answered('redo', $answer, 'ok # ' . shown($edit));
 }
 
 sub is_saved {

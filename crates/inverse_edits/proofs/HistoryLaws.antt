@@ -1,9 +1,12 @@
 -- The history of a bank with undo and redo lists.
-use Rattle.std.proofs.Common.{◌≡◌, ◌+◌, List, [], ◌∷◌, ◌++◌, map, reverse, length, take, refl, sym, subst, ◌∙◌, ap}
+use Rattle.std.proofs.Common.{◌≡◌, ℕ, suc, ◌+◌, ◌-◌, Option, None, slice_get, List, [], ◌∷◌, ◌++◌, map, reverse, length, take, refl, sym, subst, ◌∙◌, ap}
 use Rattle.std.proofs.Common.{append_assoc, Some, arith}
 use Rattle.std.proofs.lemmas.Grind.{common_steps}
 use Rattle.std.proofs.Math.Seq.{take-append_seam}
-use Rattle.std.specs.Prelude.{zip}
+use Rattle.std.proofs.lemmas.List.{reverse-reverse}
+use Rattle.std.specs.Prelude.{zip, MatchOption}
+use Rattle.std.specs.Borrow.{Bor}
+use Rattle.std.specs.Option.{option_copied}
 use Rattle.bank_parts.specs.declared.parts.Parts.{Parts}
 use Rattle.bank_parts.specs.Sound.{IsSound}
 use Rattle.edit_forms.specs.declared.edit.Edit.{Edit}
@@ -12,8 +15,8 @@ use Rattle.bank_edits.specs.EditChanges.{inverse}
 use Rattle.bank_edits.specs.Runs.{AllAccepted, undo_list}
 use Rattle.bank_edits.proofs.Law.{undone}
 use Rattle.inverse_edits.specs.Histories.{IsHistory, AreLinked, Follow, MovesForward, bank_now, edited, undo_edits}
-use Rattle.inverse_edits.specs.Histories.{banks_before, banks_after, history_of}
-use Rattle.inverse_edits.proofs.ListLaws.{get_seam, take_past_seam, take_zip, map_zip_push, reverse_cons}
+use Rattle.inverse_edits.specs.Histories.{banks_before, banks_after, history_of, IsLast}
+use Rattle.inverse_edits.proofs.ListLaws.{get_seam, take_past_seam, take_zip, map_zip_push, reverse_cons, reverse_push}
 
 -- ---- lengths
 
@@ -137,3 +140,50 @@ undo_list_is b undos next s t =
     (length_before b undos ∙ sym (length_undos b undos)))
     in
     ap (λ (l : List (Parts × Edit)). map f l) cut ∙ inverses b undos s t
+
+-- ---- the next edits
+
+past_first : (x y : Edit) (xs : List Edit)
+    → slice_get (x ∷ y ∷ xs) (length (x ∷ y ∷ xs) - 1) ≡ slice_get (y ∷ xs) (length (y ∷ xs) - 1)
+past_first x y xs =
+    let next : length (x ∷ y ∷ xs) - 1 ≡ suc (length (y ∷ xs) - 1) = omega arith in ap (slice_get (x ∷ y ∷ xs)) next
+
+last_is : (xs : List Edit) (r : Option (Bor Edit)) → option_copied r ≡ slice_get xs (length xs - 1)
+    → MatchOption r (xs ≡ []) (λ (e : Bor Edit). IsLast xs e.now)
+last_is [] None h = refl
+last_is [] (Some e) h = absurd cc
+last_is (x ∷ []) None h = absurd cc
+last_is (x ∷ []) (Some e) h = ([], (let same : e.now ≡ x = cc in λ j. sym same j ∷ []))
+last_is (x ∷ y ∷ xs) None h =
+    let none : y ∷ xs ≡ [] = last_is (y ∷ xs) None (h ∙ past_first x y xs) in absurd cc
+last_is (x ∷ y ∷ xs) (Some e) h =
+    let k : IsLast (y ∷ xs) e.now = last_is (y ∷ xs) (Some e) (h ∙ past_first x y xs) in
+    (x ∷ k.0, ap (λ (l : List Edit). x ∷ l) k.1)
+
+none_left : (xs : List Edit) → xs ≡ [] → length (reverse xs) ≡ 0
+none_left xs e = ap (λ (l : List Edit). length (reverse l)) e
+
+pub next_undo_is : (b : Parts) (undo : List Edit) (next : List Edit) → IsSound b → AllAccepted b (reverse undo)
+    → (r : Option (Bor Edit)) → option_copied r ≡ slice_get undo (length undo - 1)
+    → MatchOption r ((history_of b (reverse undo) next).index ≡ 0)
+    (λ (e : Bor Edit). IsLast (undo_edits (history_of b (reverse undo) next)) e.now)
+next_undo_is b undo next s t None h = none_left undo (last_is undo None h)
+next_undo_is b undo next s t (Some e) h =
+    subst (λ (l : List Edit). IsLast l e.now)
+    (sym (undo_list_is b (reverse undo) next s t ∙ reverse-reverse undo))
+    (last_is undo (Some e) h)
+
+pub next_redo_is : (b : Parts) (undos redo : List Edit) (r : Option (Bor Edit))
+    → option_copied r ≡ slice_get redo (length redo - 1)
+    → MatchOption r ((history_of b undos (reverse redo)).index + 1 ≡ length (history_of b undos (reverse redo)).banks)
+    (λ (e : Bor Edit).
+    slice_get (history_of b undos (reverse redo)).edits (history_of b undos (reverse redo)).index ≡ Some e.now)
+next_redo_is b undos redo None h =
+    let none : length (reverse redo) ≡ 0 = none_left redo (last_is redo None h) in
+    omega (arith, bank_total b undos (reverse redo), none)
+next_redo_is b undos redo (Some e) h =
+    let k : IsLast redo e.now = last_is redo (Some e) h in
+    let first : reverse redo ≡ e.now ∷ reverse k.0 = ap reverse k.1 ∙ reverse_push k.0 e.now in
+    ap (λ (l : List Edit). slice_get (undo_list b undos ++ l) (length undos)) first
+    ∙ ap (λ (n : ℕ). slice_get (undo_list b undos ++ e.now ∷ reverse k.0) n) (sym (length_undos b undos))
+    ∙ get_seam (undo_list b undos) (reverse k.0) e.now

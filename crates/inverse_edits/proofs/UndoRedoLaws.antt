@@ -119,7 +119,7 @@ module _ (old new : Parts) (was now : List Edit) (e : Edit) (d : IsEditApplied o
         bank =
             old;
         here = bank_now_is old (reverse was) next;
-        accepted = d.accepted;
+        accepted = record { fits = d.fits; accepted = d.accepted };
         changed = rw (last, d.changed) there;
       }
 

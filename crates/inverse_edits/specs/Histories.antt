@@ -1,5 +1,5 @@
 -- The model of a session: a list of banks, the edit between each two consecutive banks, and the current index.
-use Rattle.std.specs.Prelude.{◌≡◌, ℕ, ◌<◌, ◌+◌, Option, Some, None, List, [], ◌∷◌, ◌++◌, length, map, take, zip}
+use Rattle.std.specs.Prelude.{◌≡◌, ℕ, ◌<◌, ◌+◌, Option, Some, List, [], ◌∷◌, ◌++◌, length, map, take, zip}
 use Rattle.std.specs.Prelude.{slice_get, option_and_then}
 use Rattle.bank_parts.specs.declared.parts.Parts.{Parts}
 use Rattle.edit_forms.specs.declared.edit.Edit.{Edit}
@@ -55,7 +55,7 @@ edited h e next =
 pub record IsEdited (old new : History) (e : Edit) : Type 0 where
   pub bank : Parts
   pub here : bank_now old ≡ Some bank
-  pub accepted : refusal bank e ≡ None
+  pub accepted : IsAccepted bank e
   pub changed : new ≡ edited old e (raw bank e)
 
 -- why the current bank refuses the edit; `OutOfMemory` is possible in any case
@@ -83,6 +83,10 @@ IsRedoFailure h why = ⊥
 -- the undo list: the inverses of the edits before the current bank, the oldest edit's first
 abbrev pub undo_edits : History → List Edit
 undo_edits h = map (λ (step : Parts × Edit). inverse step.0 step.1) (take h.index (zip h.banks h.edits))
+
+-- the last of some edits
+abbrev pub IsLast : List Edit → Edit → Type 0
+IsLast es e = (before : List Edit) × (es ≡ before ++ e ∷ [])
 
 -- ---- the history of a bank with its undo edits, the last edit's inverse first, and its redo edits
 

@@ -1,6 +1,6 @@
 //! A bank with its undo and redo lists.
-ghost use Rattle.std.specs.Prelude.{◌≡◌, Some, IfErr, OnOk, OnErr};
-ghost use Rattle.inverse_edits.specs.Histories.{IsHistory, bank_now, new_history, IsEdited, IsRefusalNow, MovesForward, IsUndoFailure, IsRedoFailure, undo_edits};
+ghost use Rattle.std.specs.Prelude.{◌≡◌, ◌+◌, Some, IfErr, MatchOption, OnOk, OnErr, length, slice_get};
+ghost use Rattle.inverse_edits.specs.Histories.{IsHistory, bank_now, new_history, IsEdited, IsRefusalNow, MovesForward, IsUndoFailure, IsRedoFailure, undo_edits, IsLast};
 
 use crate::undo_redo::{apply_edit, apply_last};
 use bank_core::Bank;
@@ -117,6 +117,20 @@ impl<'a> Session<'a> {
             &mut self.undo,
             Refusal::NothingToRedo,
         )
+    }
+
+    /// The edit that an undo makes, which is the inverse of the last edit; none at the first bank.
+    pub fn next_undo(&self) -> Option<&Edit<'a>>
+        ensures { MatchOption result (self.now.index ≡ 0) (λ e. IsLast (undo_edits self.now) e.now) }
+    {
+        self.undo.as_slice().last()
+    }
+
+    /// The edit that a redo makes; none at the last bank.
+    pub fn next_redo(&self) -> Option<&Edit<'a>>
+        ensures { MatchOption result (self.now.index + 1 ≡ length self.now.banks) (λ e. slice_get self.now.edits self.now.index ≡ Some e.now) }
+    {
+        self.redo.as_slice().last()
     }
 
     /// Returns the inverses of all edits up to the current bank, the oldest edit's first. Applied from the last to

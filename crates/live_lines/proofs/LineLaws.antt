@@ -9,7 +9,7 @@ use Rattle.script_tokens.specs.declared.cursor.TokenValue.TheVariants.{Word, Lit
 use Rattle.script_tokens.specs.declared.fault.ScriptFault.{ScriptFault}
 use Rattle.script_tokens.specs.Lines.{lines_of, is_feed}
 use Rattle.script_tokens.specs.Tokens.{tokens_of, tokens_for}
-use Rattle.script_tokens.specs.TokenValue.{token_value, values_in, values_over}
+use Rattle.script_tokens.specs.TokenValue.{values_in, values_over}
 use Rattle.script_tokens.specs.Pool.{ListOrFault, and_then, gather, literal_of, literals_of, pool_bytes}
 use Rattle.script_tokens.proofs.PoolLaws.{literals_in_pool}
 use Rattle.live_lines.specs.Requests.{HasNoFeed, is_bad}

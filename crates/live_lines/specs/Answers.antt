@@ -1,5 +1,6 @@
 -- The texts of the answers, one line each.
-use Rattle.std.specs.Prelude.{ℕ, List, [], ◌∷◌, codes}
+use Rattle.std.specs.Prelude.{ℕ, List, [], ◌∷◌, codes, Option}
+use Rattle.std.specs.Option.{option_map_or}
 use Rattle.edit_refusals.specs.declared.refusal.Refusal.{Refusal}
 use Rattle.edit_refusals.specs.declared.refusal.Refusal.TheVariants.{Of, OutOfMemory, NothingToUndo, NothingToRedo}
 use Rattle.edit_refusals.specs.declared.refusal.Refusal.TheVariants.{GroupRefused}
@@ -29,9 +30,15 @@ refused_text NothingToUndo = refused_line NothingToUndo
 refused_text NothingToRedo = refused_line NothingToRedo
 refused_text (GroupRefused step cause) = refused_line (GroupRefused step cause)
 
--- a fault of a line, by its number and its name
-abbrev pub fault_text : RequestFault → List ℕ
-fault_text fault = line_text (codes "fault") (Number (faults.number_of fault) ∷ Word (faults.name_of fault) ∷ [])
+-- a comment, after `#`
+abbrev pub comment_pieces : List ℕ → List Piece
+comment_pieces comment = Word (codes "#") ∷ Word comment ∷ []
+
+-- a fault of a line, by its number and its name, and the comment, if there is one
+abbrev pub fault_text : RequestFault → Option (List ℕ) → List ℕ
+fault_text fault comment =
+    line_text (codes "fault")
+    (Number (faults.number_of fault) ∷ Word (faults.name_of fault) ∷ option_map_or comment_pieces comment [])
 
 -- a failed write, and how much of the file was written
 abbrev pub write_text : List ℕ → ℕ → List ℕ
@@ -49,10 +56,11 @@ rejected_text path fault =
 unfoldable pub answer_text : Answer → List ℕ
 answer_text answers.Done = line_text (codes "ok") []
 answer_text (answers.Counted count) = line_text (codes "ok") (Number count ∷ [])
+answer_text (answers.Moved comment) = line_text (codes "ok") (comment_pieces comment)
 answer_text (answers.Measured one other) = line_text (codes "ok") (Number one ∷ Number other ∷ [])
 answer_text (answers.Refused why) = refused_text why
 answer_text answers.NotNeutral = line_text (codes "refused") (Number 50 ∷ Word (codes "NotNeutral") ∷ [])
-answer_text (answers.Fault fault) = fault_text fault
+answer_text (answers.Fault fault comment) = fault_text fault comment
 answer_text answers.OutOfMemory = no_memory
 answer_text (answers.WriteFault path written) = write_text path written
 answer_text (answers.Rejected path fault) = rejected_text path fault

@@ -1,4 +1,5 @@
 pub mod Faults
 pub mod Paths
 pub mod Requests
+pub mod Comments
 pub mod Answers

@@ -17,7 +17,6 @@ use Rattle.live_lines.specs.declared.command.Command.{Command}
 use Rattle.live_lines.specs.declared.command.Command.TheVariants as command
 use Rattle.live_lines.specs.declared.fault.RequestFault.{RequestFault}
 use Rattle.live_lines.specs.declared.fault.RequestFault.TheVariants as faults
-use Rattle.live_lines.specs.declared.pedal.Pedal.{Pedal}
 use Rattle.live_lines.specs.declared.pedal.PedalMove.{PedalMove}
 use Rattle.live_lines.specs.declared.pedal.PedalPosition.{PedalPosition}
 use Rattle.live_lines.specs.declared.pedal.PedalPosition.TheVariants as position

@@ -4,13 +4,14 @@ ghost use Rattle.base_outputs.specs.Output.{Puts};
 ghost use Rattle.script_tokens.specs.Printing.{line_text};
 ghost use Rattle.live_lines.specs.Answers.{answer_text, refused_text, refused_line, fault_text, write_text, rejected_text};
 
+use crate::comment::Comment;
 use crate::fault::RequestFault;
 use crate::paths::FilePath;
 use base_outputs::{Output, OutputFault};
 use base_texts::Text;
 use edit_refusals::Refusal;
 use edit_script::RefusalText;
-use script_tokens::{Piece, put_line};
+use script_tokens::{Piece, put_line, put_pieces};
 use sf_base::BorrowedBytes;
 use std::io::Write;
 
@@ -21,14 +22,16 @@ pub enum Answer<'a> {
     Done,
     /// `ok COUNT`: a note started this many voices, or so many notes were released or recorded.
     Counted(usize),
+    /// `ok # EDIT`: an undo or a redo made this edit.
+    Moved(Comment),
     /// `ok N M`: the voices that sound and the notes that are held, or the peak and the clipped frames.
     Measured(u64, u64),
     /// `refused NUMBER NAME ..`: an edit, an undo or a redo is refused.
     Refused(Refusal),
     /// `refused 50 NotNeutral`: the edit may change the sound.
     NotNeutral,
-    /// `fault NUMBER NAME`: the line has a fault.
-    Fault(RequestFault),
+    /// `fault NUMBER NAME # TOKEN`: the line has a fault, at this token; none if one is missing.
+    Fault(RequestFault, Option<Comment>),
     /// `out of memory`
     OutOfMemory,
     /// `write fault PATH after N bytes`: a file could not be saved.
@@ -51,12 +54,13 @@ pub fn put_answer<W: Write>(answer: &Answer<'_>, output: &mut Output<'_, W>)
     match answer {
         Answer::Done => put_line(b"ok", &[], output),
         Answer::Counted(count) => put_line(b"ok", &[Piece::Number(*count as u64)], output),
+        Answer::Moved(comment) => put_line(b"ok", &[word("#"), shown(comment)], output),
         Answer::Measured(one, other) => {
             put_line(b"ok", &[Piece::Number(*one), Piece::Number(*other)], output)
         }
         Answer::Refused(why) => put_refused(*why, output),
         Answer::NotNeutral => put_named(50, "NotNeutral", output),
-        Answer::Fault(fault) => put_fault(*fault, output),
+        Answer::Fault(fault, comment) => put_fault(*fault, comment, output),
         Answer::OutOfMemory => output.put(b"out of memory\n"),
         Answer::WriteFault { path, written } => put_write_fault(path.text(), *written, output),
         Answer::Rejected { path, fault } => put_rejected(path.text(), *fault, output),
@@ -89,11 +93,16 @@ fn put_refusal<W: Write>(why: Refusal, output: &mut Output<'_, W>)
     output.put(b"\n");
 }
 
-fn put_fault<W: Write>(fault: RequestFault, output: &mut Output<'_, W>)
-    ensures { Puts W.contents output.old output.new (fault_text fault) }
+fn put_fault<W: Write>(fault: RequestFault, comment: &Option<Comment>, output: &mut Output<'_, W>)
+    ensures { Puts W.contents output.old output.new (fault_text fault comment.now) }
 {
     let number = Piece::Number(u64::from(fault.number()));
-    put_line(b"fault", &[number, word(fault.name())], output);
+    output.put(b"fault");
+    put_pieces(&[number, word(fault.name())], output);
+    if let Some(comment) = comment {
+        put_pieces(&[word("#"), shown(comment)], output);
+    }
+    output.put(b"\n");
 }
 
 fn put_write_fault<W: Write>(path: &str, written: u64, output: &mut Output<'_, W>)
@@ -122,6 +131,13 @@ fn put_rejected<W: Write>(path: &str, fault: OutputFault, output: &mut Output<'_
         &[number, word(fault.name()), word(path)],
         output,
     );
+}
+
+// A piece with the text of a comment.
+fn shown(comment: &Comment) -> Piece<'_>
+    ensures { result ≡ Piece.Word comment.now }
+{
+    Piece::Word(BorrowedBytes::new(comment.bytes()))
 }
 
 // A piece with this word, written as it is.

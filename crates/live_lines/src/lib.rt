@@ -20,7 +20,9 @@
 
 mod answer;
 mod command;
+mod comment;
 mod fault;
+mod faulty_tokens;
 mod help;
 mod paths;
 mod pedal;
@@ -29,7 +31,9 @@ mod request;
 
 pub use answer::{Answer, put_answer};
 pub use command::Command;
+pub use comment::Comment;
 pub use fault::RequestFault;
+pub use faulty_tokens::faulty_token;
 pub use help::HELP;
 pub use paths::{FilePath, Paths};
 pub use pedal::{Pedal, PedalMove, PedalPosition};

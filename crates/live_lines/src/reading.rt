@@ -71,8 +71,21 @@ fn request<'t, 'p: 't>(
     ensures { Answers (λ r. r) result (request (values_over pool.now (tokens_of line.now))) }
 {
     let mut rest = Cursor::of(line, pool);
-    let command = next_named(&mut rest);
-    request_or_edit(alloc, command, &mut rest, line, pool)
+    request_on(alloc, &mut rest, line, pool)
+}
+
+/// Reads the request of a line with tokens by a cursor at its start.
+pub(crate) fn request_on<'t, 'p: 't>(
+    alloc: Global,
+    rest: &mut Cursor<'t, 'p>,
+    line: &'t [u8],
+    pool: &'p [u8],
+) -> Result<Request<'t, 'p>, Failure<RequestFault>>
+    requires { rest.old ≡ cursor_over pool.now (tokens_of line.now) }
+    ensures { Answers (λ r. r) result (request (values_over pool.now (tokens_of line.now))) }
+{
+    let command = next_named(rest);
+    request_or_edit(alloc, command, rest, line, pool)
 }
 
 // The request of the command, if the line begins with one; else an edit.
@@ -88,20 +101,21 @@ fn request_or_edit<'t, 'p: 't>(
 {
     match command {
         Ok(command) => request_by(alloc, command, rest, line, pool),
-        Err(_) => edit_of_line(alloc, line, pool),
+        Err(_) => edit_of_line(alloc, rest, line, pool),
     }
 }
 
-// The edit of a line.
+// The edit of a whole line.
 fn edit_of_line<'t, 'p>(
     alloc: Global,
+    rest: &mut Cursor<'t, 'p>,
     line: &'t [u8],
     pool: &'p [u8],
 ) -> Result<Request<'t, 'p>, Failure<RequestFault>>
     ensures { Answers (λ r. r) result (made_request asks.Edit (edit (values_over pool.now (tokens_of line.now)))) }
 {
-    let mut whole = Cursor::of(line, pool);
-    Ok(Request::Edit(an_edit(alloc, &mut whole)?))
+    *rest = Cursor::of(line, pool);
+    Ok(Request::Edit(an_edit(alloc, rest)?))
 }
 
 // The request of a command, by the rest of its line.

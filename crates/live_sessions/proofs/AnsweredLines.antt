@@ -26,7 +26,8 @@ use Rattle.live_sessions.specs.declared.requests.Next.TheVariants as next
 use Rattle.live_sessions.specs.declared.fault.LiveFault.{LiveFault}
 use Rattle.live_sessions.specs.declared.fault.LiveFault.TheVariants as fault
 use Rattle.live_sessions.specs.declared.saving.SessionFiles.{SessionFiles}
-use Rattle.live_sessions.specs.AnswerTexts.{kind_of, listing_now, preamble, next_of, is_last, failure_answer, IsWritten}
+use Rattle.live_sessions.specs.AnswerTexts.{kind_of, listing_now, preamble, next_of, is_last, IsWritten}
+use Rattle.live_sessions.specs.AnswerTexts.{IsFaultAnswer, IsFailureAnswer}
 use Rattle.live_sessions.specs.Streams.{Streams, SavesNothing}
 use Rattle.live_sessions.specs.Steps.{RequestIs, StopsIn, FramesStop, Does, frames_of, preamble_of}
 use Rattle.live_sessions.specs.Steps.{events_of, is_end}
@@ -69,8 +70,8 @@ none_asked own counts line s o p v y e = record {
 -- ---- a line with a fault, or whose allocation fails
 
 -- a line with this answer writes this answer alone
-pub record Bare (own : SessionFiles) (counts : Counts) (s : LiveState) (x : RequestResult) (a : Answer) : Type 0 where
-  pub is : LineIs x s (Some a) s
+pub record Bare (own : SessionFiles) (counts : Counts) (line : List ℕ) (s : LiveState) (x : RequestResult) (a : Answer) : Type 0 where
+  pub is : LineIs line x s (Some a) s
   pub reported : answered x (Some a) (preamble_of counts s) ≡ []
   pub frames : answered x (Some a) (frames_of s) ≡ []
   pub files : (b c : Streams) → SavesNothing b c → FilesAfterAnswer own x s (Some a) b c
@@ -102,11 +103,11 @@ nothing_done old asks.Show new = ((λ counts. refl), refl, refl, refl)
 nothing_done old asks.Help new = ((λ counts. refl), refl, refl, refl)
 nothing_done old asks.Quit new = ((λ counts. refl), refl, refl, refl)
 
-memory_bare : (own : SessionFiles) (counts : Counts) (s : LiveState) (x : RequestResult)
-    → Bare own counts s x answer.OutOfMemory
-memory_bare own counts s (Ok None) =
+memory_bare : (own : SessionFiles) (counts : Counts) (line : List ℕ) (s : LiveState) (x : RequestResult)
+    → Bare own counts line s x answer.OutOfMemory
+memory_bare own counts line s (Ok None) =
     record { is = inr (refl, refl); reported = refl; frames = refl; files = λ b c h. h; ends = refl }
-memory_bare own counts s (Ok (Some r)) =
+memory_bare own counts line s (Ok (Some r)) =
     let none = nothing_done s r s in
     record {
       is = inr (refl, refl);
@@ -115,29 +116,29 @@ memory_bare own counts s (Ok (Some r)) =
       files = λ b c h. files_after_memory own s r b c h;
       ends = none.3;
     }
-memory_bare own counts s (Err f) =
+memory_bare own counts line s (Err f) =
     record { is = inr (refl, refl); reported = refl; frames = refl; files = λ b c h. h; ends = refl }
 
-fault_bare : (own : SessionFiles) (counts : Counts) (s : LiveState) (x : RequestResult) (f : RequestFault) → x ≡ Err f
-    → Bare own counts s x (answer.Fault f)
-fault_bare own counts s x f e =
-    let at : Bare own counts s (Err f) (answer.Fault f) =
-    record { is = inl (refl, refl); reported = refl; frames = refl; files = λ b c h. h; ends = refl } in
-    subst (λ (y : RequestResult). Bare own counts s y (answer.Fault f)) (sym e) at
+fault_bare : (own : SessionFiles) (counts : Counts) (line : List ℕ) (s : LiveState) (x : RequestResult) (f : RequestFault)
+    (a : Answer) → x ≡ Err f → IsFaultAnswer line f a → Bare own counts line s x a
+fault_bare own counts line s x f a e h =
+    let at : Bare own counts line s (Err f) a =
+    record { is = inl (h, refl); reported = refl; frames = refl; files = λ b c h. h; ends = refl } in
+    subst (λ (y : RequestResult). Bare own counts line s y a) (sym e) at
 
-failure_bare : (own : SessionFiles) (counts : Counts) (s : LiveState) (x : RequestResult) (why : Failure RequestFault)
-    → Fails why x → Bare own counts s x (failure_answer why)
-failure_bare own counts s x (failures.Fault f) h = fault_bare own counts s x f h
-failure_bare own counts s x failures.OutOfMemory h = memory_bare own counts s x
+failure_bare : (own : SessionFiles) (counts : Counts) (line : List ℕ) (s : LiveState) (x : RequestResult)
+    (why : Failure RequestFault) (a : Answer) → Fails why x → IsFailureAnswer line why a → Bare own counts line s x a
+failure_bare own counts line s x (failures.Fault f) a h e = fault_bare own counts line s x f a h e
+failure_bare own counts line s x failures.OutOfMemory a h e =
+    subst (λ (b : Answer). Bare own counts line s x b) (sym e) (memory_bare own counts line s x)
 
 failure_written : (own : SessionFiles) (counts : Counts) (line : List ℕ) (s : LiveState) (o n p : Option (List ℕ))
     (v : Option World) (y : ℕ) (why : Failure RequestFault) (a : Answer)
-    → Fails why (request_of (values_in line)) → a ≡ failure_answer why → Appends o n (answer_text a)
+    → Fails why (request_of (values_in line)) → IsFailureAnswer line why a → Appends o n (answer_text a)
     → Answers own counts line s s (around o p v y) (around n p v y) false
 failure_written own counts line s o n p v y why a h e is_written =
-    let b : Bare own counts s (request_of (values_in line)) a =
-    subst (λ (x : Answer). Bare own counts s (request_of (values_in line)) x) (sym e)
-    (failure_bare own counts s (request_of (values_in line)) why h) in
+    let b : Bare own counts line s (request_of (values_in line)) a =
+    failure_bare own counts line s (request_of (values_in line)) why a h e in
     record {
       turn = turn_of line s (Some a) s;
       line_is = refl;
@@ -154,13 +155,12 @@ failure_written own counts line s o n p v y why a h e is_written =
 
 failure_not_written : (own : SessionFiles) (counts : Counts) (line : List ℕ) (s : LiveState) (o n p : Option (List ℕ))
     (v : Option World) (y : ℕ) (why : Failure RequestFault) (a : Answer) (f : LiveFault)
-    → Fails why (request_of (values_in line)) → a ≡ failure_answer why
+    → Fails why (request_of (values_in line)) → IsFailureAnswer line why a
     → IsWritten {U = Next} o n (answer_text a) (Err f)
     → StopsLine own counts line s (around o p v y) (around n p v y) f
 failure_not_written own counts line s o n p v y why a (fault.Answers k) h e is_written =
-    let b : Bare own counts s (request_of (values_in line)) a =
-    subst (λ (x : Answer). Bare own counts s (request_of (values_in line)) x) (sym e)
-    (failure_bare own counts s (request_of (values_in line)) why h) in
+    let b : Bare own counts line s (request_of (values_in line)) a =
+    failure_bare own counts line s (request_of (values_in line)) why a h e in
     record {
       turn = turn_of line s (Some a) s;
       line_is = refl;
@@ -180,7 +180,7 @@ failure_not_written own counts line s o n p v y why a (fault.Pcm k) h e is_writt
 
 pub failure_answered : (own : SessionFiles) (counts : Counts) (line : List ℕ) (s : LiveState) (o n p : Option (List ℕ))
     (v : Option World) (y : ℕ) (why : Failure RequestFault) (a : Answer) (r : Result Next LiveFault)
-    → Fails why (request_of (values_in line)) → a ≡ failure_answer why → IsWritten o n (answer_text a) r
+    → Fails why (request_of (values_in line)) → IsFailureAnswer line why a → IsWritten o n (answer_text a) r
     → IfOk r (λ (x : Next). x ≡ next.Line)
     → IsLineResult own counts line s s (around o p v y) (around n p v y) r
 failure_answered own counts line s o n p v y why a (Ok x) h e is_written goes =
@@ -211,19 +211,21 @@ same_reported counts old new asks.Voices a h = refl
 same_reported counts old new asks.Meter a h = refl
 same_reported counts old new asks.Show answer.Done h = ap (listing_now counts) h
 same_reported counts old new asks.Show (answer.Counted n) h = absurd h
+same_reported counts old new asks.Show (answer.Moved comment) h = absurd h
 same_reported counts old new asks.Show (answer.Measured n m) h = absurd h
 same_reported counts old new asks.Show (answer.Refused why) h = absurd h
 same_reported counts old new asks.Show answer.NotNeutral h = absurd h
-same_reported counts old new asks.Show (answer.Fault f) h = absurd h
+same_reported counts old new asks.Show (answer.Fault f comment) h = absurd h
 same_reported counts old new asks.Show answer.OutOfMemory h = absurd h
 same_reported counts old new asks.Show (answer.WriteFault path n) h = absurd h
 same_reported counts old new asks.Show (answer.Rejected path f) h = absurd h
 same_reported counts old new asks.Help answer.Done h = refl
 same_reported counts old new asks.Help (answer.Counted n) h = absurd h
+same_reported counts old new asks.Help (answer.Moved comment) h = absurd h
 same_reported counts old new asks.Help (answer.Measured n m) h = absurd h
 same_reported counts old new asks.Help (answer.Refused why) h = absurd h
 same_reported counts old new asks.Help answer.NotNeutral h = absurd h
-same_reported counts old new asks.Help (answer.Fault f) h = absurd h
+same_reported counts old new asks.Help (answer.Fault f comment) h = absurd h
 same_reported counts old new asks.Help answer.OutOfMemory h = absurd h
 same_reported counts old new asks.Help (answer.WriteFault path n) h = absurd h
 same_reported counts old new asks.Help (answer.Rejected path f) h = absurd h
@@ -250,10 +252,11 @@ same_end old new asks.Show a h = refl
 same_end old new asks.Help a h = refl
 same_end old new asks.Quit answer.Done h = refl
 same_end old new asks.Quit (answer.Counted n) h = absurd h
+same_end old new asks.Quit (answer.Moved comment) h = absurd h
 same_end old new asks.Quit (answer.Measured n m) h = absurd h
 same_end old new asks.Quit (answer.Refused why) h = absurd h
 same_end old new asks.Quit answer.NotNeutral h = absurd h
-same_end old new asks.Quit (answer.Fault f) h = absurd h
+same_end old new asks.Quit (answer.Fault f comment) h = absurd h
 same_end old new asks.Quit answer.OutOfMemory h = absurd h
 same_end old new asks.Quit (answer.WriteFault path n) h = absurd h
 same_end old new asks.Quit (answer.Rejected path f) h = absurd h
@@ -276,7 +279,7 @@ request_written own counts line old new r a k next o n p q v w y z e kind_is nex
       begins = refl;
       leaves = refl;
       passes = record {
-        is = subst (λ (x : RequestResult). LineIs x old (Some a) new) (sym e) (inl d.session);
+        is = subst (λ (x : RequestResult). LineIs line x old (Some a) new) (sym e) (inl d.session);
         answers = subst
             (λ (x : RequestResult). Appends o n (answered x (Some a) (preamble_of counts old) ++ answer_text a)) (sym e)
             (subst (λ (xs : List ℕ). Appends o n (xs ++ answer_text a)) reported is_written);
@@ -308,7 +311,7 @@ request_not_written own counts line old new r a k o n p q v w y z (fault.Answers
       line_is = refl;
       begins = refl;
       stops = record {
-        is = subst (λ (x : RequestResult). LineIs x old (Some a) new) (sym e) (inl d.session);
+        is = subst (λ (x : RequestResult). LineIs line x old (Some a) new) (sym e) (inl d.session);
         within = both.0;
         answers = both.1;
         pcm =

@@ -163,7 +163,7 @@ reads_then (Some x) (Some y) (Some z) xs ys p q =
     p ∙ ap (λ (ls : List (List ℕ)). xs ++ ls) q ∙ sym (append_assoc xs ys (lines_of z))
 
 turns_then : (first middle : LiveState) (ts : List Turn) (t : Turn) → AreTurns first ts middle → t.old ≡ middle
-    → LineIs (request_in t) t.old t.answer t.new → AreTurns first (ts ++ t ∷ []) t.new
+    → LineIs t.line (request_in t) t.old t.answer t.new → AreTurns first (ts ++ t ∷ []) t.new
 turns_then first middle [] t h e is = (e ∙ h, is, refl)
 turns_then first middle (s ∷ ts) t h e is = (h.0, h.1, turns_then s.new middle ts t h.2 e is)
 

@@ -11,5 +11,7 @@ pub mod ListedLaws
 pub mod InTurn
 pub mod PlayedLaws
 pub mod PerformanceLaws
+pub mod KeptBanks
 pub mod FrameLaws
+pub mod NeutralSessions
 pub mod UndoLists

@@ -1,5 +1,5 @@
 -- The text that a request writes before its answer, and how the text that answers a line is written.
-use Rattle.std.specs.Prelude.{◌≤◌, ℕ, Bool, true, false, List, [], length, take, Option, Result, Ok, Err}
+use Rattle.std.specs.Prelude.{◌≡◌, ◌≤◌, IfSome, ℕ, Bool, true, false, List, [], length, take, Option, Result, Ok, Err}
 use Rattle.std.specs.Option.{option_map_or}
 use Rattle.std.specs.Io.KnownBytes.{Appends}
 use Rattle.bank_parts.specs.declared.parts.Parts.{Parts}
@@ -11,6 +11,7 @@ use Rattle.live_lines.specs.declared.request.Request.TheVariants as asks
 use Rattle.live_lines.specs.declared.help.TheConstants.{HELP}
 use Rattle.sf_base.specs.declared.memory.Failure.{Failure}
 use Rattle.sf_base.specs.declared.memory.Failure.TheVariants as failures
+use Rattle.live_lines.specs.Comments.{ShowsPart}
 use Rattle.live_lines.specs.declared.answer.Answer.{Answer}
 use Rattle.live_lines.specs.declared.answer.Answer.TheVariants as answer
 use Rattle.live_lines.specs.declared.fault.RequestFault.{RequestFault}
@@ -49,10 +50,15 @@ abbrev pub is_last : Next → Bool
 is_last next.Line = false
 is_last next.End = true
 
+-- the answer reports a fault; its comment, if there is one, shows a part of the line
+abbrev pub IsFaultAnswer : List ℕ → RequestFault → Answer → Type 0
+IsFaultAnswer line f (answer.Fault g comment) = (g ≡ f) × IfSome comment (ShowsPart line)
+IsFaultAnswer line f other = ⊥
+
 -- the answer to a line with a fault or a failed allocation
-abbrev pub failure_answer : Failure RequestFault → Answer
-failure_answer (failures.Fault f) = answer.Fault f
-failure_answer failures.OutOfMemory = answer.OutOfMemory
+abbrev pub IsFailureAnswer : List ℕ → Failure RequestFault → Answer → Type 0
+IsFailureAnswer line (failures.Fault f) a = IsFaultAnswer line f a
+IsFailureAnswer line failures.OutOfMemory a = a ≡ answer.OutOfMemory
 
 -- The text is written whole; with a fault exactly its first `n` bytes are, which may be all.
 abbrev pub IsWritten : {U : Type 0} → Option (List ℕ) → Option (List ℕ) → List ℕ → Result U LiveFault → Type 0

@@ -1,6 +1,6 @@
 -- The session after a request, by its answer, and what the request writes.
 use Rattle.std.specs.Prelude.{◌≡◌, ◌⊎◌, ◌≤◌, ◌+◌, ◌*◌, min, ℕ, ℤ, Bool, true, false, cond, List, [], ◌∷◌}
-use Rattle.std.specs.Prelude.{length, take, filter, map, Option, Some, None, not, ◌==◌, ◌&&◌, ◌++◌}
+use Rattle.std.specs.Prelude.{length, take, filter, map, slice_get, Option, Some, None, not, ◌==◌, ◌&&◌, ◌++◌}
 use Rattle.std.specs.List.{flat_map, find, list_any}
 use Rattle.std.specs.Io.KnownBytes.{Appends}
 use Rattle.std.specs.Option.{option_map_or}
@@ -8,13 +8,14 @@ use Rattle.bank_parts.specs.declared.parts.Parts.{Parts}
 use Rattle.bank_format.specs.declared.fault.Counts.{Counts}
 use Rattle.edit_forms.specs.declared.edit.Edit.{Edit}
 use Rattle.inverse_edits.specs.Histories.{IsHistory, bank_now, new_history, IsEdited, IsRefusalNow, MovesForward}
-use Rattle.inverse_edits.specs.Histories.{IsUndoFailure, IsRedoFailure}
+use Rattle.inverse_edits.specs.Histories.{IsUndoFailure, IsRedoFailure, undo_edits}
 use Rattle.sound_neutral_edits.specs.Neutral.{is_neutral}
 use Rattle.script_notes.specs.Notes.{Numbers}
 use Rattle.mixer.specs.StartFrames.{note_voices}
 use Rattle.mixer.specs.declared.playing.Release.TheVariants.{One, All}
 use Rattle.mixer.specs.Events.{block}
 use Rattle.mixer.specs.Pressed.{KeyEvent, Edited, Pressed, Released, Stopped, Given}
+use Rattle.live_lines.specs.Comments.{IsShown, edit_line}
 use Rattle.live_lines.specs.declared.answer.Answer.{Answer}
 use Rattle.live_lines.specs.declared.answer.Answer.TheVariants as answer
 use Rattle.live_lines.specs.declared.pedal.Pedal.{Pedal}
@@ -66,15 +67,31 @@ abbrev pub NeutralIs : LiveState → Edit → Answer → LiveState → Type 0
 NeutralIs old e answer.NotNeutral new = (is_neutral e ≡ false) × (new ≡ old)
 NeutralIs old e other new = (is_neutral e ≡ true) × EditIs old e other new
 
--- the bank before the last edit
+-- a comment shows the last edit of a list
+pub record ShowsLast (es : List Edit) (comment : List ℕ) : Type 0 where
+  pub before : List Edit
+  pub edit : Edit
+  pub last : es ≡ before ++ edit ∷ []
+  pub is : IsShown (edit_line edit) comment
+
+-- the bank before the last edit; the comment shows the inverse of that edit
 abbrev pub UndoIs : LiveState → Answer → LiveState → Type 0
-UndoIs old answer.Done new = MovesForward new.session old.session × OnlyTheBank old new
+UndoIs old (answer.Moved comment) new =
+    MovesForward new.session old.session × OnlyTheBank old new × ShowsLast (undo_edits old.session) comment
 UndoIs old (answer.Refused why) new = IsUndoFailure old.session why × (new ≡ old)
 UndoIs old other new = ⊥
 
--- the bank after the edit undone last
+-- a comment shows the edit at a position
+pub record ShowsAt (es : List Edit) (index : ℕ) (comment : List ℕ) : Type 0 where
+  pub edit : Edit
+  pub here : slice_get es index ≡ Some edit
+  pub is : IsShown (edit_line edit) comment
+
+-- the bank after the edit undone last, which the comment shows
 abbrev pub RedoIs : LiveState → Answer → LiveState → Type 0
-RedoIs old answer.Done new = MovesForward old.session new.session × OnlyTheBank old new
+RedoIs old (answer.Moved comment) new =
+    MovesForward old.session new.session × OnlyTheBank old new
+    × ShowsAt old.session.edits old.session.index comment
 RedoIs old (answer.Refused why) new = IsRedoFailure old.session why × (new ≡ old)
 RedoIs old other new = ⊥
 
@@ -270,6 +287,7 @@ RequestIs old asks.Quit a new = ShowIs old a new
 -- the bank after an edit, an undo or a redo that is done
 abbrev pub if_edited : Answer → LiveState → List KeyEvent
 if_edited answer.Done new = option_map_or (λ (b : Parts). Edited b ∷ []) (bank_now new.session) []
+if_edited (answer.Moved comment) new = option_map_or (λ (b : Parts). Edited b ∷ []) (bank_now new.session) []
 if_edited other new = []
 
 abbrev pub if_pressed : ℕ → Numbers → Answer → List KeyEvent

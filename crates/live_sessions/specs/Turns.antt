@@ -19,6 +19,7 @@ use Rattle.live_sessions.specs.declared.live.LiveState.{LiveState}
 use Rattle.live_sessions.specs.declared.fault.LiveFault.{LiveFault}
 use Rattle.live_sessions.specs.declared.fault.LiveFault.TheVariants as fault
 use Rattle.live_sessions.specs.declared.saving.SessionFiles.{SessionFiles}
+use Rattle.live_sessions.specs.AnswerTexts.{IsFaultAnswer}
 use Rattle.live_sessions.specs.Steps.{RequestIs, StopsIn, FilesAfterRequest, events_of, frames_of, preamble_of, is_end}
 pub use Rattle.live_sessions.specs.Streams.{Streams}
 use Rattle.live_sessions.specs.Streams.{SavesNothing}
@@ -30,15 +31,15 @@ abbrev pub RequestResult : Type 0
 RequestResult = Result (Option Request) RequestFault
 
 -- a request is answered, or a fault is reported
-abbrev pub AnswerIs : RequestResult → LiveState → Answer → LiveState → Type 0
-AnswerIs (Ok None) old a new = ⊥
-AnswerIs (Ok (Some r)) old a new = RequestIs old r a new
-AnswerIs (Err f) old a new = (a ≡ answer.Fault f) × (new ≡ old)
+abbrev pub AnswerIs : List ℕ → RequestResult → LiveState → Answer → LiveState → Type 0
+AnswerIs line (Ok None) old a new = ⊥
+AnswerIs line (Ok (Some r)) old a new = RequestIs old r a new
+AnswerIs line (Err f) old a new = IsFaultAnswer line f a × (new ≡ old)
 
 -- A line without a request has no answer. Any answer may be replaced by out of memory, and nothing changes.
-abbrev pub LineIs : RequestResult → LiveState → Option Answer → LiveState → Type 0
-LineIs asks old None new = (asks ≡ Ok None) × (new ≡ old)
-LineIs asks old (Some a) new = AnswerIs asks old a new ⊎ ((a ≡ answer.OutOfMemory) × (new ≡ old))
+abbrev pub LineIs : List ℕ → RequestResult → LiveState → Option Answer → LiveState → Type 0
+LineIs line asks old None new = (asks ≡ Ok None) × (new ≡ old)
+LineIs line asks old (Some a) new = AnswerIs line asks old a new ⊎ ((a ≡ answer.OutOfMemory) × (new ≡ old))
 
 -- a line without its line feed, the session before it and after it, and its answer
 pub record Turn : Type 0 where
@@ -91,7 +92,7 @@ FilesAfterLine own t old new = FilesAfterAnswer own (request_in t) t.old t.answe
 
 -- a line is answered, and all that it writes is written
 pub record Passes (own : SessionFiles) (counts : Counts) (t : Turn) (old new : Streams) : Type 0 where
-  pub is : LineIs (request_in t) t.old t.answer t.new
+  pub is : LineIs t.line (request_in t) t.old t.answer t.new
   pub answers : Appends old.answers new.answers (text_in counts t)
   pub pcm : Appends old.pcm new.pcm (bytes_in t)
   pub files : FilesAfterLine own t old new
@@ -99,7 +100,7 @@ pub record Passes (own : SessionFiles) (counts : Counts) (t : Turn) (old new : S
 -- a line is answered, but exactly the first `count` bytes of its text were written, which may be all
 pub record StopsInAnswer (own : SessionFiles) (counts : Counts) (t : Turn) (old new : Streams)
     (count : ℕ) : Type 0 where
-  pub is : LineIs (request_in t) t.old t.answer t.new
+  pub is : LineIs t.line (request_in t) t.old t.answer t.new
   pub within : count ≤ length (text_in counts t)
   pub answers : Appends old.answers new.answers (take count (text_in counts t))
   pub pcm : Appends old.pcm new.pcm (bytes_in t)
@@ -123,7 +124,8 @@ StopsAt own counts t old new other = ⊥
 -- each line is answered by the session after the lines before it
 abbrev pub AreTurns : LiveState → List Turn → LiveState → Type 0
 AreTurns first [] last = last ≡ first
-AreTurns first (t ∷ ts) last = (t.old ≡ first) × LineIs (request_in t) t.old t.answer t.new × AreTurns t.new ts last
+AreTurns first (t ∷ ts) last =
+    (t.old ≡ first) × LineIs t.line (request_in t) t.old t.answer t.new × AreTurns t.new ts last
 
 -- these lines were read of known bytes
 abbrev pub Reads : Option (List ℕ) → Option (List ℕ) → List (List ℕ) → Type 0

@@ -12,8 +12,9 @@ use crate::performance::Performance;
 use bank_core::Bank;
 use base_progress::Progress;
 use edit_forms::Edit;
+use edit_refusals::Refusal;
 use inverse_edits::Session;
-use live_lines::{Answer, Key, Pedal, PedalMove, PedalPosition};
+use live_lines::{Answer, Comment, Key, Pedal, PedalMove, PedalPosition};
 use mixer::Release;
 use script_notes::Note;
 use sf_base::OutOfMemory;
@@ -78,22 +79,30 @@ impl<'a> LiveState<'a> {
         self.edit(alloc, edit)
     }
 
-    /// Undoes the last edit.
+    /// Undoes the last edit. The answer shows its inverse.
     pub(crate) fn undo(&mut self, alloc: Global) -> Answer<'static>
         ensures { UndoIs self.old result self.new }
     {
+        let Some(edit) = self.session.next_undo() else {
+            return Answer::Refused(Refusal::NothingToUndo);
+        };
+        let comment = Comment::of_edit(edit);
         match self.session.undo(alloc) {
-            Ok(()) => Answer::Done,
+            Ok(()) => Answer::Moved(comment),
             Err(why) => Answer::Refused(why),
         }
     }
 
-    /// Redoes the edit undone last.
+    /// Redoes the edit undone last. The answer shows it.
     pub(crate) fn redo(&mut self, alloc: Global) -> Answer<'static>
         ensures { RedoIs self.old result self.new }
     {
+        let Some(edit) = self.session.next_redo() else {
+            return Answer::Refused(Refusal::NothingToRedo);
+        };
+        let comment = Comment::of_edit(edit);
         match self.session.redo(alloc) {
-            Ok(()) => Answer::Done,
+            Ok(()) => Answer::Moved(comment),
             Err(why) => Answer::Refused(why),
         }
     }

@@ -2,7 +2,7 @@
 ghost use Rattle.std.specs.Prelude.{◌≡◌, None};
 ghost use Rattle.script_tokens.specs.Lines.{lines_of};
 ghost use Rattle.live_lines.specs.Requests.{HasNoFeed};
-ghost use Rattle.live_sessions.specs.AnswerTexts.{failure_answer};
+ghost use Rattle.live_sessions.specs.AnswerTexts.{IsFailureAnswer};
 ghost use Rattle.live_sessions.specs.Runs.{IsLineResult, IsNextLineResult, IsFirst, IsReadFault, Plays, Runs};
 
 use crate::answering::write_answer;
@@ -15,7 +15,7 @@ use crate::saving::SessionFiles;
 use bank_format::Counts;
 use base_progress::Progress;
 use file_host::Host;
-use live_lines::{Answer, RequestFault};
+use live_lines::{Answer, RequestFault, faulty_token};
 use script_tokens::Lines;
 use sf_base::Failure;
 use sf_reader::read;
@@ -170,7 +170,7 @@ fn answer_line<'a, A: Write, P: Write, H: Host, Q: Progress>(
         }
         Ok(None) => Ok(Next::Line),
         Err(failure) => {
-            let answer = reported(failure);
+            let answer = reported(alloc, line, failure);
             let written = write_answer(live, counts, RequestKind::Plain, &answer, answers);
             report_fault(line, &answer, written.is_ok(), progress);
             written
@@ -185,17 +185,17 @@ fn report_fault<Q: Progress>(
     is_answered: bool,
     progress: &mut Q,
 ) {
-    if is_answered && matches!(answer, Answer::Fault(_)) && progress.is_detailed() {
+    if is_answered && matches!(answer, Answer::Fault(..)) && progress.is_detailed() {
         progress.found_fault(line);
     }
 }
 
 // The answer to a line with a fault or a failed allocation.
-fn reported(failure: Failure<RequestFault>) -> Answer<'static>
-    ensures { result ≡ failure_answer failure }
+fn reported(alloc: Global, line: &[u8], failure: Failure<RequestFault>) -> Answer<'static>
+    ensures { IsFailureAnswer line.now failure result }
 {
     match failure {
-        Failure::Fault(fault) => Answer::Fault(fault),
+        Failure::Fault(fault) => Answer::Fault(fault, faulty_token(alloc, line)),
         Failure::OutOfMemory => Answer::OutOfMemory,
     }
 }

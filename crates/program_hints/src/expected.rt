@@ -1,8 +1,8 @@
 //! What the parser of edits accepts in the place of a wrong or missing token, found by trying.
 
 use crate::remarks::Remarks;
-use crate::trial::{accepts_after, is_edit};
 use itoa::Buffer;
+use script_trials::{accepts_after, is_edit};
 use std::alloc::Global;
 
 /// The words of the grammar, but for those of forms.

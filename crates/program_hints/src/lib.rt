@@ -3,7 +3,6 @@
 #![tactic(auto)]
 
 mod expected;
-mod faulty_token;
 mod forms;
 mod joins;
 mod live_forms;
@@ -16,8 +15,6 @@ mod refusals;
 mod remarks;
 mod script_hints;
 mod source_line;
-mod spans;
-mod trial;
 mod users;
 mod word_hints;
 

@@ -6,7 +6,7 @@ use crate::note_hints::{LIVE_FIELDS, PRESSED_FIELDS, RELEASED_FIELDS, remark_on_
 use crate::remarks::Remarks;
 use crate::script_hints::remark_on_edit;
 use crate::source_line::{put_caret, show};
-use crate::spans::{Span, span_at};
+use script_trials::{Span, span_at};
 use std::alloc::Global;
 
 /// Shows a faulty line of a live session, and says what is wrong in it.

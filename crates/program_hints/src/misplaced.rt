@@ -2,7 +2,7 @@
 
 use crate::forms::form_of;
 use crate::remarks::Remarks;
-use crate::spans::span_at;
+use script_trials::span_at;
 
 /// Says what to do with an edit in the place of the path of an input.
 pub fn remark_on_path(path: &[u8], remarks: &mut Remarks) {

@@ -3,10 +3,10 @@
 use crate::forms::form_of;
 use crate::remarks::Remarks;
 use crate::source_line::{put_caret, put_missing};
-use crate::spans::{end_of_tokens, span_at};
 use crate::word_hints::is_digits;
 use script_notes::{HIGHEST_KEY, HIGHEST_VELOCITY};
 use script_tokens::Cursor;
+use script_trials::{end_of_tokens, span_at};
 
 /// A number of a note, and how high it may be.
 #[derive(Clone, Copy)]

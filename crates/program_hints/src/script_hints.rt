@@ -1,14 +1,13 @@
 //! What helps with a faulty line of a script.
 
 use crate::expected::{TokenPlace, remark_on_expected};
-use crate::faulty_token::{Wrong, wrong_in};
 use crate::forms::{Form, form_of, nearest_form};
 use crate::remarks::Remarks;
 use crate::source_line::{put_caret, put_missing};
-use crate::spans::{Span, span_at};
 use crate::word_hints::{
     has_other_letters, has_printed_quote, is_digits, remark_on_amounts, remark_on_word,
 };
+use script_trials::{Span, Wrong, span_at, wrong_in};
 use std::alloc::Global;
 
 /// The most bytes of a name.

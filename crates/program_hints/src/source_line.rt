@@ -3,8 +3,8 @@
 use crate::note_hints::{LIST_FIELDS, remark_on_note};
 use crate::remarks::Remarks;
 use crate::script_hints::remark_on_edit;
-use crate::spans::Span;
 use script_tokens::Lines;
+use script_trials::Span;
 use std::alloc::Global;
 
 /// The longest part of a line that is shown, in bytes.

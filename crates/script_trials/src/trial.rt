@@ -1,6 +1,6 @@
 //! Lines that are tried on the parser of edits.
 
-use crate::spans::Span;
+use crate::spans::{Span, end_of_tokens};
 use arrayvec::ArrayVec;
 use edit_script::edit;
 use script_tokens::{Cursor, pool_of};
@@ -15,7 +15,7 @@ const NEXT: &[u8] = b" ?";
 
 /// How far the parser of edits comes in a line.
 #[derive(Clone, Copy)]
-pub(crate) enum Trial {
+pub enum Trial {
     /// It accepts the line.
     Accepted,
     /// It stops with a fault after it has read all but this many tokens.
@@ -24,7 +24,7 @@ pub(crate) enum Trial {
 
 impl Trial {
     /// Whether all tokens were read.
-    pub(crate) fn has_read_all(self) -> bool {
+    pub fn has_read_all(self) -> bool {
         match self {
             Trial::Accepted => true,
             Trial::Stopped(remaining) => remaining == 0,
@@ -33,25 +33,25 @@ impl Trial {
 }
 
 /// Tries a line, unless a literal of it is malformed or memory is short.
-pub(crate) fn try_line(alloc: Global, line: &[u8]) -> Option<Trial> {
+pub fn try_line(alloc: Global, line: &[u8]) -> Option<Trial> {
     let Ok(pool) = pool_of(alloc, line) else {
         return None;
     };
     let mut cursor = Cursor::of(line, pool.as_slice());
     match edit(alloc, &mut cursor) {
         Ok(_edit) => Some(Trial::Accepted),
-        Err(Failure::Fault(_)) => Some(Trial::Stopped(remaining(cursor, line.len()))),
+        Err(Failure::Fault(_)) => Some(Trial::Stopped(tokens_left(cursor, line.len()))),
         Err(Failure::OutOfMemory) => None,
     }
 }
 
 /// How many tokens a line has.
-pub(crate) fn token_count(line: &[u8]) -> usize {
-    remaining(Cursor::of(line, &[]), line.len())
+pub fn token_count(line: &[u8]) -> usize {
+    tokens_left(Cursor::of(line, &[]), line.len())
 }
 
-// How many tokens a cursor has not read, at most as many as its line has bytes.
-fn remaining(mut cursor: Cursor<'_, '_>, most: usize) -> usize {
+/// How many tokens a cursor has not read, at most as many as its line has bytes.
+pub fn tokens_left(mut cursor: Cursor<'_, '_>, most: usize) -> usize {
     for count in 0..most {
         if cursor.is_empty() {
             return count;
@@ -63,7 +63,7 @@ fn remaining(mut cursor: Cursor<'_, '_>, most: usize) -> usize {
 
 /// Whether the parser reads a line's first tokens, up to a position, and another token after them. It is asked with a
 /// further token, since a missing one is a fault too.
-pub(crate) fn accepts_after(alloc: Global, line: &[u8], end: usize, token: &[u8]) -> bool {
+pub fn accepts_after(alloc: Global, line: &[u8], end: usize, token: &[u8]) -> bool {
     let Some(front) = line.get(..end) else {
         return false;
     };
@@ -73,8 +73,17 @@ pub(crate) fn accepts_after(alloc: Global, line: &[u8], end: usize, token: &[u8]
     }
 }
 
+/// A line's tokens and one more, which no form accepts, unless memory is short.
+pub fn followed(alloc: Global, line: &[u8]) -> Option<Vec<u8>> {
+    let tokens = line.get(..end_of_tokens(line))?;
+    let mut tried = Vec::new(alloc);
+    tried.extend_from_slice(tokens).ok()?;
+    tried.extend_from_slice(NEXT).ok()?;
+    Some(tried)
+}
+
 /// Whether the parser accepts a line's bytes up to a position as an edit.
-pub(crate) fn is_edit(alloc: Global, line: &[u8], end: usize) -> bool {
+pub fn is_edit(alloc: Global, line: &[u8], end: usize) -> bool {
     let Some(front) = line.get(..end) else {
         return false;
     };
@@ -85,7 +94,7 @@ pub(crate) fn is_edit(alloc: Global, line: &[u8], end: usize) -> bool {
 }
 
 /// Whether the token of a span is what stops the parser, and not that one is missing after it.
-pub(crate) fn stops_at(alloc: Global, line: &[u8], span: Span) -> bool {
+pub fn stops_at(alloc: Global, line: &[u8], span: Span) -> bool {
     !accepts_after(alloc, line, span.start, span.of(line))
 }
 

@@ -2,14 +2,16 @@
 
 /// Where a token is in its line, in bytes.
 #[derive(Clone, Copy)]
-pub(crate) struct Span {
+pub struct Span {
+    /// The index of its first byte.
     pub start: usize,
+    /// The index after its last byte.
     pub end: usize,
 }
 
 impl Span {
     /// The bytes of the token.
-    pub(crate) fn of<'t>(self, line: &'t [u8]) -> &'t [u8] {
+    pub fn of<'t>(self, line: &'t [u8]) -> &'t [u8] {
         match line.get(self.start..self.end) {
             Some(token) => token,
             None => &[],
@@ -18,7 +20,7 @@ impl Span {
 }
 
 /// The span of the token with this index, if the line has so many tokens.
-pub(crate) fn span_at(line: &[u8], index: usize) -> Option<Span> {
+pub fn span_at(line: &[u8], index: usize) -> Option<Span> {
     let mut span = span_from(line, 0)?;
     for _before in 0..index {
         span = span_from(line, span.end)?;
@@ -27,7 +29,7 @@ pub(crate) fn span_at(line: &[u8], index: usize) -> Option<Span> {
 }
 
 /// The end of the last token.
-pub(crate) fn end_of_tokens(line: &[u8]) -> usize {
+pub fn end_of_tokens(line: &[u8]) -> usize {
     let mut end = 0;
     for _token in 0..line.len() {
         match span_from(line, end) {
@@ -38,8 +40,8 @@ pub(crate) fn end_of_tokens(line: &[u8]) -> usize {
     end
 }
 
-// The span of the first token from a position on.
-fn span_from(line: &[u8], at: usize) -> Option<Span> {
+/// The span of the first token from a position on.
+pub fn span_from(line: &[u8], at: usize) -> Option<Span> {
     let rest = line.get(at..)?;
     let blanks = rest.iter().take_while(|byte| is_blank(**byte)).count();
     let start = at.saturating_add(blanks);
@@ -62,11 +64,16 @@ fn token_length(text: &[u8]) -> Option<usize> {
     }
 }
 
-// The length of a quoted token, given the text after its first quote. Without a last quote it is the whole text.
+// The length of a quoted token, given the text after its first quote. If no last quote ends it before a blank or the
+// end, it is the whole text.
 fn quoted_length(rest: &[u8]) -> usize {
     let inside = rest.iter().take_while(|byte| **byte != b'"').count();
-    let quotes = if inside < rest.len() { 2 } else { 1 };
-    inside.saturating_add(quotes)
+    let after = inside.saturating_add(1);
+    match rest.get(after) {
+        None => rest.len().saturating_add(1),
+        Some(byte) if is_blank(*byte) => after.saturating_add(1),
+        Some(_) => rest.len().saturating_add(1),
+    }
 }
 
 fn is_blank(byte: u8) -> bool {

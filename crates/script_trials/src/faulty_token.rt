@@ -1,6 +1,6 @@
 //! Which token of a faulty line is wrong.
 
-use crate::spans::{Span, end_of_tokens, span_at};
+use crate::spans::{Span, end_of_tokens, span_at, span_from};
 use crate::trial::{Trial, stops_at, token_count, try_line};
 use script_tokens::pool_of;
 use sf_base::Failure;
@@ -8,7 +8,7 @@ use std::alloc::Global;
 
 /// What is wrong in a faulty line.
 #[derive(Clone, Copy)]
-pub(crate) enum Wrong {
+pub enum Wrong {
     /// This token, which the parser doesn't accept.
     Token(Span),
     /// This literal, which is malformed.
@@ -18,7 +18,7 @@ pub(crate) enum Wrong {
 }
 
 /// What is wrong in a line that has no edit.
-pub(crate) fn wrong_in(alloc: Global, line: &[u8]) -> Option<Wrong> {
+pub fn wrong_in(alloc: Global, line: &[u8]) -> Option<Wrong> {
     match pool_of(alloc, line) {
         Ok(_pool) => wrong_token(alloc, line),
         Err(Failure::Fault(_)) => Some(Wrong::Literal(malformed_literal(alloc, line)?)),
@@ -40,13 +40,15 @@ fn wrong_token(alloc: Global, line: &[u8]) -> Option<Wrong> {
     }
 }
 
-// The first malformed literal.
-fn malformed_literal(alloc: Global, line: &[u8]) -> Option<Span> {
-    for index in 0..line.len() {
-        let span = span_at(line, index)?;
+/// The first malformed literal.
+pub fn malformed_literal(alloc: Global, line: &[u8]) -> Option<Span> {
+    let mut end = 0;
+    for _token in 0..line.len() {
+        let span = span_from(line, end)?;
         if pool_of(alloc, span.of(line)).is_err() {
             return Some(span);
         }
+        end = span.end;
     }
     None
 }
