@@ -95,7 +95,7 @@ bank_change_renders : (n : Type 0) (old new : LiveState) (b c : Parts) → bank_
 bank_change_renders n old new b c here first_bank only keep =
     let same : new.performance ≡ old.performance = ap (λ (s : LiveState). s.performance) only in
     let notes : NotesGoOn old.performance old.performance (Edited c ∷ []) =
-    λ es h. edited_on old.performance.given old.performance.played c es h in
+    λ es h. edited_on old.performance.given old.performance.next_handle old.performance.played c es h in
     record {
       bank = c;
       here = here;
@@ -190,7 +190,7 @@ done_frames_render : (old new : LiveState) (b : Parts) (m : ℕ) → bank_now ol
 done_frames_render old new b m here e =
     let same : new.performance ≡ frames_given old.performance m = ap (λ (s : LiveState). s.performance) e in
     let notes : NotesGoOn old.performance (frames_given old.performance m) (Given m ∷ []) =
-    λ es h. given_on old.performance.given m old.performance.played es h in
+    λ es h. given_on old.performance.given m old.performance.next_handle old.performance.played es h in
     record {
       bank = b;
       here = ap (λ (s : LiveState). bank_now s.session) e ∙ here;
@@ -594,7 +594,7 @@ frames_follow_events b ts last h =
 -- ---- the notes that were played
 
 notes_go_on : (ts : List Turn) (s last : LiveState) (b : Parts) → bank_now s.session ≡ Some b → AreTurns s ts last
-    → Fit s.performance.given s.performance.played (flat_map events_in ts)
+    → Fit s.performance.given s.performance.next_handle s.performance.played (flat_map events_in ts)
     → listing s.performance.given s.performance.played (flat_map events_in ts)
     ≡ listing last.performance.given last.performance.played []
 notes_go_on [] s last b here h fit =
@@ -603,18 +603,18 @@ notes_go_on (t ∷ ts) s last b here h fit =
     let k : RendersAs (DoesNeutral (request_in t) t.answer) t.old t.new b (events_in t) (frames_in t) =
     line_renders t.line _ t.old t.new t.answer b (ap (λ (u : LiveState). bank_now u.session) h.0 ∙ here) h.1 in
     let all : List KeyEvent = flat_map events_in (t ∷ ts) in
-    let here_fit : Fit t.old.performance.given t.old.performance.played all =
-    subst (λ (u : LiveState). Fit u.performance.given u.performance.played all) (sym h.0) fit in
+    let here_fit : Fit t.old.performance.given t.old.performance.next_handle t.old.performance.played all =
+    subst (λ (u : LiveState). Fit u.performance.given u.performance.next_handle u.performance.played all) (sym h.0) fit in
     let one = k.notes_are (flat_map events_in ts) here_fit in
     ap (λ (u : LiveState). listing u.performance.given u.performance.played all) (sym h.0)
     ∙ one.same
     ∙ notes_go_on ts t.new last k.bank k.here h.2 one.fit
 
-fit_at_first : (es : List KeyEvent) → CanBeListed es → Fit 0 [] es
+fit_at_first : (es : List KeyEvent) → CanBeListed es → Fit 0 0 [] es
 fit_at_first es can =
     let frames = can.frames in
     let notes = can.notes in
-    record { frames = omega (arith, frames); notes = omega (arith, notes) }
+    record { numbered = refl; frames = omega (arith, frames); notes = omega (arith, notes) }
 
 pub recordings_follow_events : (b : Parts) (ts : List Turn) (last : LiveState) → AreTurns (started_with b) ts last
     → CanBeListed (flat_map events_in ts)

@@ -7,6 +7,7 @@ pub mod RequestLaws
 pub mod LineLaws
 pub mod AnsweredLines
 pub mod Ending
+pub mod NumberedNotes
 pub mod ListedLaws
 pub mod InTurn
 pub mod PlayedLaws

@@ -11,20 +11,22 @@ use Rattle.script_of_notes.specs.NoteTexts.{IsListed, notes_text}
 use Rattle.script_of_notes.proofs.ReadBackLaws.{notes_read_back}
 use Rattle.live_sessions.specs.declared.played.PlayedNote.{PlayedNote}
 use Rattle.live_sessions.specs.PlayedNotes.{AreListed, ended_by, listed}
+use Rattle.live_sessions.proofs.NumberedNotes.{numbered_added, numbered_first, numbered_ended}
 
 abbrev Each : List PlayedNote → Type 0
 Each ps = AllByRecursion (λ (p : PlayedNote). IsListed p.note) ps
 
 pub none_listed : AreListed []
-none_listed = record { each = tt; few = omega arith }
+none_listed = record { numbered = tt; each = tt; few = omega arith }
 
 each_added : (ps : List PlayedNote) (p : PlayedNote) → Each ps → IsListed p.note → Each (ps ++ p ∷ [])
 each_added [] p h fits = (fits, tt)
 each_added (q ∷ ps) p h fits = (h.0, each_added ps p h.1 fits)
 
-pub one_added : (ps : List PlayedNote) (p : PlayedNote) → AreListed ps → length ps < MOST_NOTES → IsListed p.note
-    → AreListed (ps ++ p ∷ [])
-one_added ps p h few fits = record {
+pub one_added : (ps : List PlayedNote) (p : PlayedNote) → AreListed ps → p.handle ≡ length ps → length ps < MOST_NOTES
+    → IsListed p.note → AreListed (ps ++ p ∷ [])
+one_added ps p h at few fits = record {
+  numbered = numbered_added 0 ps p h.numbered (omega (arith, at));
   each = each_added ps p h.each fits;
   few = (let l = length-append ps (p ∷ []) in omega (arith, few, l));
 }
@@ -41,6 +43,7 @@ few_first (suc k) (p ∷ ps) = (let h = few_first k ps in omega (arith, h))
 
 pub first_listed : (k : ℕ) (ps : List PlayedNote) → AreListed ps → AreListed (take k ps)
 first_listed k ps h = record {
+  numbered = numbered_first k 0 ps h.numbered;
   each = each_first k ps h.each;
   few = (let few = few_first k ps in let all = h.few in omega (arith, few, all));
 }
@@ -52,6 +55,7 @@ each_ended r t (p ∷ ps) h = (h.0, each_ended r t ps h.1)
 
 pub ended_listed : (r : Release) (t : ℕ) (ps : List PlayedNote) → AreListed ps → AreListed (map (ended_by r t) ps)
 ended_listed r t ps h = record {
+  numbered = numbered_ended r t 0 ps h.numbered;
   each = each_ended r t ps h.each;
   few = subst (λ (n : ℕ). n ≤ MOST_NOTES) (sym (length-map ps (ended_by r t))) h.few;
 }

@@ -16,7 +16,8 @@ use Rattle.live_sessions.proofs.PlayedLaws.{Fit, GoesOn, pressed_on, released_on
 -- these events lead from one to the other as far as the notes that were played are concerned
 abbrev pub NotesGoOn : Performance → Performance → List KeyEvent → Type 0
 NotesGoOn s u events =
-    (es : List KeyEvent) → Fit s.given s.played (events ++ es) → GoesOn s.given u.given s.played u.played (events ++ es) es
+    (es : List KeyEvent) → Fit s.given s.next_handle s.played (events ++ es)
+    → GoesOn s.given u.given u.next_handle s.played u.played (events ++ es) es
 
 -- without a frame, these events lead from one to the other
 pub record Performs (b : Parts) (s u : Performance) (events : List KeyEvent) : Type 0 where
@@ -49,7 +50,7 @@ released_blocks b r ps es = refl
 pub performs_release : (b : Parts) (s : Performance) (r : Release) → Performs b s (notes_released s r) (Released r ∷ [])
 performs_release b s r = record {
   blocks = λ es. released_blocks b r s.player es;
-  notes = λ es h. released_on s.given s.played r es h;
+  notes = λ es h. released_on s.given s.next_handle s.played r es h;
 }
 
 stopped_blocks : (b : Parts) (ps : List PlayingVoice) (es : List KeyEvent)
@@ -60,7 +61,7 @@ stopped_blocks b ps es = refl
 pub performs_stop : (b : Parts) (s : Performance) → Performs b s (all_stopped s) (Stopped ∷ [])
 performs_stop b s = record {
   blocks = λ es. stopped_blocks b s.player es;
-  notes = λ es h. stopped_on s.given s.played es h;
+  notes = λ es h. stopped_on s.given s.next_handle s.played es h;
 }
 
 pub performs_in_turn : (b : Parts) (s : Performance) (hs : List HeldNote)

@@ -1,5 +1,5 @@
 -- The notes that were played are those of the session's events.
-use Rattle.std.proofs.Common.{◌≡◌, ℕ, suc, ◌+◌, ◌-◌, ◌<◌, ◌≤◌, min, Bool, true, false, cond, nat_le, Option}
+use Rattle.std.proofs.Common.{◌≡◌, ℕ, suc, ◌+◌, ◌-◌, ◌<◌, ◌≤◌, ◌&&◌, min, Bool, true, false, cond, nat_eq, nat_le, nat_lt, Option}
 use Rattle.std.proofs.Common.{Some, None, List, [], ◌∷◌, ◌++◌, map, length, refl, sym, ap, subst, ◌∙◌, arith, append-nil}
 use Rattle.std.proofs.Common.{append_assoc}
 use Rattle.std.specs.Option.{option_map, option_map_or}
@@ -32,14 +32,15 @@ note_by t es p =
 abbrev pub listing : ℕ → List PlayedNote → List KeyEvent → List Numbers
 listing t ps es = map (note_by t es) ps ++ played t (closed es)
 
--- a note list can have them
-pub record Fit (t : ℕ) (ps : List PlayedNote) (es : List KeyEvent) : Type 0 where
+-- a note list can have them, and the next handle is the number of the notes so far
+pub record Fit (t next : ℕ) (ps : List PlayedNote) (es : List KeyEvent) : Type 0 where
+  pub numbered : next ≡ length ps
   pub frames : t + key_frames es ≤ LAST_FRAME
   pub notes : length ps + length (played t (closed es)) ≤ MOST_NOTES
 
 -- these events lead from one list of notes to another
-pub record GoesOn (t u : ℕ) (ps qs : List PlayedNote) (es fs : List KeyEvent) : Type 0 where
-  pub fit : Fit u qs fs
+pub record GoesOn (t u later : ℕ) (ps qs : List PlayedNote) (es fs : List KeyEvent) : Type 0 where
+  pub fit : Fit u later qs fs
   pub same : listing t ps es ≡ listing u qs fs
 
 same_notes : (t : ℕ) (es fs : List KeyEvent) → ((p : PlayedNote) → note_by t es p ≡ note_by t fs p) → (ps : List PlayedNote)
@@ -49,10 +50,11 @@ same_notes t es fs h (p ∷ ps) = λ j. h p j ∷ same_notes t es fs h ps j
 
 -- ---- an edit
 
-pub edited_on : (t : ℕ) (ps : List PlayedNote) (c : Parts) (es : List KeyEvent) → Fit t ps (Edited c ∷ es)
-    → GoesOn t t ps ps (Edited c ∷ es) es
+pub edited_on : (t next : ℕ) (ps : List PlayedNote) (c : Parts) (es : List KeyEvent) → Fit t next ps (Edited c ∷ es)
+    → GoesOn t t next ps ps (Edited c ∷ es) es
 unfolding played key_frames frames_until
-edited_on t ps c es h = record { fit = record { frames = h.frames; notes = h.notes }; same = refl }
+edited_on t next ps c es h =
+    record { fit = record { numbered = h.numbered; frames = h.frames; notes = h.notes }; same = refl }
 
 -- ---- a release
 
@@ -95,11 +97,12 @@ released_notes t r es [] = refl
 released_notes t r es (p ∷ ps) =
     λ j. sym (released_note t r es p.handle p.note p.end_frame) j ∷ released_notes t r es ps j
 
-pub released_on : (t : ℕ) (ps : List PlayedNote) (r : Release) (es : List KeyEvent) → Fit t ps (Released r ∷ es)
-    → GoesOn t t ps (map (ended_by r t) ps) (Released r ∷ es) es
+pub released_on : (t next : ℕ) (ps : List PlayedNote) (r : Release) (es : List KeyEvent) → Fit t next ps (Released r ∷ es)
+    → GoesOn t t next ps (map (ended_by r t) ps) (Released r ∷ es) es
 unfolding played key_frames
-released_on t ps r es h = record {
+released_on t next ps r es h = record {
   fit = record {
+    numbered = h.numbered ∙ sym (length-map ps (ended_by r t));
     frames = h.frames;
     notes = subst (λ (n : ℕ). n + length (played t (closed es)) ≤ MOST_NOTES) (sym (length-map ps (ended_by r t))) h.notes;
   };
@@ -113,11 +116,12 @@ stopped_note : (t : ℕ) (es : List KeyEvent) (p : PlayedNote) → note_by t (St
 unfolding frames_until
 stopped_note t es p = refl
 
-pub stopped_on : (t : ℕ) (ps : List PlayedNote) (es : List KeyEvent) → Fit t ps (Stopped ∷ es)
-    → GoesOn t t ps (map (ended_by All t) ps) (Stopped ∷ es) es
+pub stopped_on : (t next : ℕ) (ps : List PlayedNote) (es : List KeyEvent) → Fit t next ps (Stopped ∷ es)
+    → GoesOn t t next ps (map (ended_by All t) ps) (Stopped ∷ es) es
 unfolding played key_frames
-stopped_on t ps es h = record {
+stopped_on t next ps es h = record {
   fit = record {
+    numbered = h.numbered ∙ sym (length-map ps (ended_by All t));
     frames = h.frames;
     notes = subst (λ (n : ℕ). n + length (played t (closed es)) ≤ MOST_NOTES) (sym (length-map ps (ended_by All t))) h.notes;
   };
@@ -146,11 +150,15 @@ later_notes : (t m : ℕ) (es : List KeyEvent) (ps : List PlayedNote)
 later_notes t m es [] = refl
 later_notes t m es (p ∷ ps) = λ j. later_note t m es p j ∷ later_notes t m es ps j
 
-given_here : (t m : ℕ) (ps : List PlayedNote) (es : List KeyEvent) → Fit t ps (Given m ∷ es)
-    → GoesOn t (t + m) ps ps (Given m ∷ es) es
+given_here : (t m next : ℕ) (ps : List PlayedNote) (es : List KeyEvent) → Fit t next ps (Given m ∷ es)
+    → GoesOn t (t + m) next ps ps (Given m ∷ es) es
 unfolding played key_frames
-given_here t m ps es h = record {
-  fit = record { frames = (let f : t + (m + key_frames es) ≤ LAST_FRAME = h.frames in omega (arith, f)); notes = h.notes };
+given_here t m next ps es h = record {
+  fit = record {
+    numbered = h.numbered;
+    frames = (let f : t + (m + key_frames es) ≤ LAST_FRAME = h.frames in omega (arith, f));
+    notes = h.notes;
+  };
   same = ap (λ (ns : List Numbers). ns ++ played (t + m) (closed es)) (later_notes t m es ps);
 }
 
@@ -158,10 +166,10 @@ within_most : (t m : ℕ) (es : List KeyEvent) → t + key_frames (Given m ∷ e
 unfolding key_frames
 within_most t m es h = omega (arith, h)
 
-pub given_on : (t m : ℕ) (ps : List PlayedNote) (es : List KeyEvent) → Fit t ps (Given m ∷ es)
-    → GoesOn t (min (t + m) most) ps ps (Given m ∷ es) es
-given_on t m ps es h =
-    subst (λ (u : ℕ). GoesOn t u ps ps (Given m ∷ es) es) (within_most t m es h.frames) (given_here t m ps es h)
+pub given_on : (t m next : ℕ) (ps : List PlayedNote) (es : List KeyEvent) → Fit t next ps (Given m ∷ es)
+    → GoesOn t (min (t + m) most) next ps ps (Given m ∷ es) es
+given_on t m next ps es h =
+    subst (λ (u : ℕ). GoesOn t u next ps ps (Given m ∷ es) es) (within_most t m es h.frames) (given_here t m next ps es h)
 
 -- ---- a note that is pressed
 
@@ -216,12 +224,15 @@ moved_here : (t : ℕ) (n : Numbers) → t ≤ LAST_FRAME
 unfolding moved_to
 moved_here t n h = let e : nat_le t LAST_FRAME ≡ true = grind (arith, nat_tests, h) in rw e refl
 
-added_note : (t handle : ℕ) (n : Numbers) (ps : List PlayedNote) → t ≤ LAST_FRAME → length ps < MOST_NOTES
+added_note : (t handle : ℕ) (n : Numbers) (ps : List PlayedNote) → t ≤ LAST_FRAME → handle ≡ length ps
+    → length ps < MOST_NOTES
     → with_played ps handle n t
     ≡ ps ++ (let p : PlayedNote = record { handle = handle; note = record n { start = t; length = min n.length (LAST_FRAME - t) }; end_frame = None } in p) ∷ []
-added_note t handle n ps h few =
-    let e : nat_le MOST_NOTES (length ps) ≡ false = grind (arith, nat_tests, few) in
-    ap (λ (b : Bool). cond b ps (with_note ps handle (moved_to t n))) e ∙ ap (with_note ps handle) (moved_here t n h)
+added_note t handle n ps h at few =
+    let next : nat_eq handle (length ps) ≡ true = grind (arith, nat_tests, at) in
+    let less : nat_lt handle MOST_NOTES ≡ true = grind (arith, nat_tests, at, few) in
+    (λ j. cond (next j && less j) (with_note ps handle (moved_to t n)) ps)
+    ∙ ap (with_note ps handle) (moved_here t n h)
 
 pressed_length : (t k l : ℕ) → t + k ≤ LAST_FRAME → min l k ≡ min (t + k - t) (min l (LAST_FRAME - t))
 pressed_length t k l h = omega (arith, h)
@@ -250,8 +261,8 @@ unfolding frames_until
 other_note t handle n es p = refl
 
 pub pressed_on : (t : ℕ) (ps : List PlayedNote) (handle : ℕ) (n : Numbers) (es : List KeyEvent)
-    → Fit t ps (Pressed handle n ∷ es)
-    → GoesOn t t ps (with_played ps handle n t) (Pressed handle n ∷ es) es
+    → Fit t handle ps (Pressed handle n ∷ es)
+    → GoesOn t t (min (handle + 1) most) ps (with_played ps handle n t) (Pressed handle n ∷ es) es
 unfolding played key_frames
 pressed_on t ps handle n es h =
     let frames : t + key_frames es ≤ LAST_FRAME = h.frames in
@@ -259,10 +270,12 @@ pressed_on t ps handle n es h =
     let q : PlayedNote =
     record { handle = handle; note = record n { start = t; length = min n.length (LAST_FRAME - t) }; end_frame = None } in
     let added : with_played ps handle n t ≡ ps ++ q ∷ [] =
-    added_note t handle n ps (omega (arith, frames)) (omega (arith, notes)) in
+    added_note t handle n ps (omega (arith, frames)) h.numbered (omega (arith, notes)) in
     let rest : List Numbers = played t (closed es) in
     record {
       fit = record {
+        numbered = subst (λ (qs : List PlayedNote). min (handle + 1) most ≡ length qs) (sym added)
+            (let l = length-append ps (q ∷ []) in let at = h.numbered in omega (arith, notes, l, at));
         frames = frames;
         notes = subst (λ (qs : List PlayedNote). length qs + length rest ≤ MOST_NOTES) (sym added)
             (let l = length-append ps (q ∷ []) in omega (arith, notes, l));

@@ -3,7 +3,8 @@ ghost use Rattle.std.specs.Prelude.{◌≡◌, ◌+◌, ◌≤◌, [], OnOk, OnE
 ghost use Rattle.std.specs.Option.{option_map_or};
 ghost use Rattle.script_notes.specs.declared.limits.TheConstants.{LAST_FRAME};
 ghost use Rattle.script_of_notes.specs.NoteTexts.{IsListed};
-ghost use Rattle.live_sessions.specs.PlayedNotes.{AreListed, moved_to, with_played, end_after, ended_by, listed};
+ghost use Rattle.mixer.specs.declared.playing.Release.TheVariants.{One};
+ghost use Rattle.live_sessions.specs.PlayedNotes.{AreListed, AreNumbered, moved_to, with_played, end_after, ended_by, listed};
 
 use mixer::Release;
 use script_notes::{LAST_FRAME, MOST_NOTES, Note};
@@ -103,7 +104,7 @@ fn moved_to(frame: u64, note: &Note) -> Option<Note>
 }
 
 /// The notes that were played, in the order of their starts: the first 65,535 that start by frame 100,000,000, as many as
-/// a note list can have.
+/// a note list can have. The handle of each is its index, so that a release walks no list.
 pub(crate) struct PlayedNotes {
     notes: Vec<PlayedNote>,
 }
@@ -149,7 +150,8 @@ impl PlayedNotes {
         ensures ok { OnOk result (self.new ≡ with_played self.old handle note.now frame) }
         ensures err { OnErr result (self.new ≡ self.old) }
     {
-        if self.notes.len() >= MOST_NOTES {
+        let count = self.notes.len();
+        if handle != count as u64 || count >= MOST_NOTES {
             return Ok(());
         }
         let Some(note) = moved_to(frame, note) else {
@@ -184,6 +186,28 @@ impl PlayedNotes {
 
 // Ends the notes of a release at a frame.
 fn end_notes(notes: &mut [PlayedNote], release: Release, frame: u64)
+    requires { AreNumbered 0 notes.old }
+    ensures { notes.new ≡ map (ended_by release frame) notes.old }
+{
+    match release {
+        Release::One(handle) => end_note(notes, handle, frame),
+        Release::All => end_each(notes, release, frame),
+    }
+}
+
+// Ends the note of a handle, which is its index, at a frame.
+fn end_note(notes: &mut [PlayedNote], handle: u64, frame: u64)
+    requires { AreNumbered 0 notes.old }
+    ensures { notes.new ≡ map (ended_by (One handle) frame) notes.old }
+{
+    let index = handle as usize;
+    if index < notes.len() {
+        notes[index].end(Release::One(handle), frame);
+    }
+}
+
+// Asks each note whether the release is one of it.
+fn end_each(notes: &mut [PlayedNote], release: Release, frame: u64)
     ensures { notes.new ≡ map (ended_by release frame) notes.old }
 {
     for played in notes.iter_mut() {

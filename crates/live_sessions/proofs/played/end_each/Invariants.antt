@@ -1,6 +1,6 @@
 use Rattle.std.proofs.Common.{◌≡◌, ◌++◌, map, take, drop}
 use Rattle.live_sessions.specs.PlayedNotes.{ended_by}
-use Rattle.live_sessions.proofs.played.end_notes.Given as goal
+use Rattle.live_sessions.proofs.played.end_each.Given as goal
 
 -- the notes so far are ended
 abbrev pub invariant-loop-played : goal.invariant-loop-played

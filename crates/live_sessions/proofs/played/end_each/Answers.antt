@@ -2,7 +2,7 @@ use Rattle.std.proofs.Common.{set, sym, ap, ◌∙◌, arith}
 use Rattle.std.proofs.lemmas.Grind.{common_steps}
 use Rattle.std.proofs.lemmas.List.Edits.{map_over_more}
 use Rattle.live_sessions.specs.PlayedNotes.{ended_by}
-use Rattle.live_sessions.proofs.played.end_notes.Goals as goal
+use Rattle.live_sessions.proofs.played.end_each.Goals as goal
 
 pub loop-played-init : goal.loop-played-init
 loop-played-init c = grind (arith, common_steps)
