@@ -1,0 +1,3 @@
+pub mod NearestLaws
+pub mod FloatLaws
+pub mod ChannelLaws

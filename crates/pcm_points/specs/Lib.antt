@@ -1,0 +1,3 @@
+pub mod Samples
+pub mod Points
+pub mod Laws

@@ -1,0 +1,15 @@
+//! PCM samples of any width as 16-bit points, one sample or the samples of a channel.
+//!
+//! A sample is a fraction of the full scale. Its point is that fraction of 32,768, rounded to the nearest whole number,
+//! ties away from zero, and clipped to 16 bits. All in integers, so it is the same everywhere.
+#![tactic(auto)]
+
+mod channel;
+mod encoding;
+mod laws;
+mod rounding;
+
+pub use channel::channel_points;
+pub use encoding::SampleEncoding;
+pub use laws::{points_are_nearest, sixteen_bits_stay};
+pub use rounding::point;
