@@ -1,20 +1,22 @@
 -- The points of a channel, frame by frame.
-use Rattle.std.proofs.Common.{◌≡◌, ◌≤◌, ◌<◌, ◌+◌, ◌-◌, ◌*◌, ◌/◌, ◌^◌, ℕ, zero, suc, List, [], ◌∷◌, ◌++◌, length, take}
-use Rattle.std.proofs.Common.{drop, refl, ap, sym, ◌∙◌, inl, inr, arith}
+use Rattle.std.proofs.Common.{◌≡◌, ◌≤◌, ◌<◌, ◌+◌, ◌-◌, ◌*◌, ◌/◌, ◌%◌, ◌^◌, ℕ, zero, suc, List, [], ◌∷◌, ◌++◌, length, take}
+use Rattle.std.proofs.Common.{drop, Bool, true, false, pos, neg_ℤ, refl, ap, sym, ◌∙◌, inl, inr, arith}
 use Rattle.std.specs.Prelude.{All, min}
 use Rattle.byteorder.specs.Endian.{little_number}
 use Rattle.std.specs.List.{flat_map}
 use Rattle.std.specs.Int.{w16, cast_unsigned}
 use Rattle.std.proofs.lemmas.List.{append_assoc, length-drop}
 use Rattle.std.proofs.Math.Nat.{div-eq-sub-div}
+use Rattle.std.proofs.lemmas.List.Elements.{All-nil, All-cons, All-append}
 use Rattle.std.proofs.lemmas.Bool.{cases_lt, lt-ltb, le-ltb}
 use Rattle.hydra_records.specs.Records.{first_records}
 use Rattle.hydra_records.proofs.TableLaws.{records-short, records-next}
-use Rattle.sample_view.specs.Words.{words, word_bytes}
+use Rattle.sample_view.specs.Words.{words, word_bytes, AreWords}
+use Rattle.sample_view.proofs.WordLaws.{words_of_bytes, length-word_bytes}
 use Rattle.pcm_points.specs.declared.encoding.SampleEncoding.{SampleEncoding}
 use Rattle.pcm_points.specs.declared.encoding.SampleEncoding.TheVariants.{Signed16}
-use Rattle.pcm_points.specs.Samples.{size_of, integer_fraction}
-use Rattle.pcm_points.specs.Points.{nearest, point_of, point_word, sample_in, channel_words}
+use Rattle.pcm_points.specs.Samples.{size_of, integer_fraction, fraction}
+use Rattle.pcm_points.specs.Points.{nearest, most, with_sign, point_of, point_word, sample_in, channel_words}
 use Rattle.pcm_points.specs.Laws.{SixteenBitsStay}
 
 -- ---- 16-bit samples of one channel
@@ -48,6 +50,45 @@ sixteen_frames (suc n) (low ∷ high ∷ rest) a e =
 
 pub sixteen_bits_stay : SixteenBitsStay
 sixteen_bits_stay bytes a e = sixteen_frames (length bytes / 2) bytes a (omega (arith, e))
+
+word_bytes_fit : (ws : List ℕ) → AreWords ws → All (λ b. b < 256) (flat_map word_bytes ws)
+unfolding word_bytes
+word_bytes_fit [] h = All-nil (λ b. b < 256)
+word_bytes_fit (w ∷ ws) h =
+    let small = h.0 in
+    All-append (λ b. b < 256) (word_bytes w) (flat_map word_bytes ws)
+    (All-cons (λ b. b < 256) (w % 256) (w / 256 ∷ []) (omega arith)
+    (All-cons (λ b. b < 256) (w / 256) [] (omega (arith, small)) (All-nil (λ b. b < 256))))
+    (word_bytes_fit ws h.1)
+
+-- The points of the bytes of points are those points.
+pub words_stay : (ws : List ℕ) → AreWords ws → channel_words Signed16 1 0 (flat_map word_bytes ws) ≡ ws
+words_stay ws h =
+    sixteen_bits_stay (flat_map word_bytes ws) (word_bytes_fit ws h)
+    (let even = length-word_bytes ws in omega (arith, even))
+    ∙ words_of_bytes ws
+
+-- ---- points fit into 16 bits
+
+point_fits : (sign : Bool) (n : ℕ) → cast_unsigned w16 (with_sign sign (min n (most sign))) < 2 ^ 16
+point_fits false n = omega arith
+point_fits true n = negative (min n 32768) (omega arith)
+  where
+    negative : (n : ℕ) → n ≤ 32768 → cast_unsigned w16 (neg_ℤ (pos n)) < 2 ^ 16
+    negative zero h = omega arith
+    negative (suc n) h = omega (arith, h)
+
+frames_fit : (e : SampleEncoding) (size channel n : ℕ) (bytes : List ℕ)
+    → AreWords (first_records size (λ frame. point_word e (sample_in (size_of e) channel frame)) n bytes)
+frames_fit e size channel zero bytes = tt
+frames_fit e size channel (suc n) bytes =
+    let f = fraction e (sample_in (size_of e) channel (take size bytes)) in
+    (point_fits f.is_negative (nearest f.numerator f.denominator), frames_fit e size channel n (drop size bytes))
+
+pub words_fit : (e : SampleEncoding) (channels channel : ℕ) (bytes : List ℕ)
+    → AreWords (channel_words e channels channel bytes)
+words_fit e channels channel bytes =
+    frames_fit e (channels * size_of e) channel (length bytes / (channels * size_of e)) bytes
 
 -- ---- frame after frame
 

@@ -178,7 +178,7 @@ static COMMANDS_TO_LIVE: [Entry; 8] = [
             Operand::Path("IN", "The bank to add to"),
             Operand::Path(
                 "WAVE",
-                "The recording, a WAVE file of 16 bits; its name is the sample's",
+                "The recording, a WAVE file; its name is the sample's",
             ),
             Operand::Path("OUT", "Where the larger bank is written; may be IN"),
             Operand::Path(

@@ -446,7 +446,7 @@ fn of_recording(fault: WaveFault) -> (&'static str, &'static str) {
             "Get it again, or convert it: `sox IN -b 16 OUT.wav`.",
         ),
         WaveFault::Compressed => (
-            "The samples are compressed, or floating point.",
+            "The samples are compressed, or 64-bit floats.",
             "Convert it: `sox IN -b 16 -e signed-integer OUT.wav`.",
         ),
         WaveFault::NoFormat => (
@@ -454,7 +454,7 @@ fn of_recording(fault: WaveFault) -> (&'static str, &'static str) {
             "Convert it: `sox IN -b 16 OUT.wav`.",
         ),
         WaveFault::SampleBits => (
-            "The samples do not have 16 bits.",
+            "The samples have neither 8, 16, 24 nor 32 bits.",
             "Convert it: `sox IN -b 16 OUT.wav`.",
         ),
         WaveFault::ChannelCount => (

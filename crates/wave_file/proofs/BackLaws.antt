@@ -11,7 +11,9 @@ use Rattle.std.proofs.lemmas.Int.{to_z-of_z}
 use Rattle.byteorder.specs.Numbers.{little_number-reads_back}
 use Rattle.sf_base.specs.declared.limits.TheConstants.{POINTS}
 use Rattle.sample_view.specs.Words.{word_bytes}
-use Rattle.sample_view.proofs.WordLaws.{words_of_bytes, length-word_bytes}
+use Rattle.sample_view.proofs.WordLaws.{length-word_bytes}
+use Rattle.pcm_points.specs.declared.encoding.SampleEncoding.TheVariants.{Signed16}
+use Rattle.pcm_points.proofs.ChannelLaws.{words_stay}
 use Rattle.riff_chunks.specs.Walk.{Chunk, walk}
 use Rattle.riff_chunks.specs.Finding.{chunks_in, is_whole, first_body}
 use Rattle.riff_chunks.specs.Encoding.{chunk, encode, FitsChunk}
@@ -27,13 +29,13 @@ use Rattle.wave_file.specs.SamplerPitch.{pitch, unity_note, pitch_fraction}
 use Rattle.wave_file.specs.SampleWave.{SAMPLER, numbers, mono_format, frame_time, loop_count, sampler_head}
 use Rattle.wave_file.specs.SampleWave.{loop_bytes, stored_pitch, sampler, sample_chunks, sample_wave}
 use Rattle.wave_file.proofs.SampleLaws.{length-ids, length-mono_format, length-sampler, length-content}
-use Rattle.wave_file.specs.declared.frames.SamplerLoop.{SamplerLoop}
+use Rattle.wave_file.specs.declared.sampler_loop.SamplerLoop.{SamplerLoop}
 use Rattle.wave_file.specs.declared.recording.Layout.TheVariants as layout
 use Rattle.wave_file.specs.declared.recording.Format.{Format}
 use Rattle.wave_file.specs.declared.recording.Channels.TheVariants.{Mono}
 use Rattle.wave_file.specs.declared.recording.Pitch.{Pitch}
 use Rattle.bank_format.specs.FaultChecks.{first_fault}
-use Rattle.wave_file.specs.Recordings.{layout_in, format_in, channels_in, frame_count, forward_loop, ends_of}
+use Rattle.wave_file.specs.Recordings.{format_in, channels_in, frame_count, forward_loop, ends_of}
 use Rattle.wave_file.specs.Recordings.{unity_note_in, fraction_in, data_in, pitch_of_stored, is_stored, stored_in, pitch_of}
 use Rattle.wave_file.specs.Recordings.{sampler_in}
 use Rattle.wave_file.specs.ReadChecks.{riff_checks, format_checks, frame_checks, data_checks, has_loops, loop_checks}
@@ -183,15 +185,14 @@ format_holds : (rate : ℕ) → first_fault (format_checks (mono_format rate)) �
 unfolding format_checks mono_format
 format_holds rate = refl
 
-format_back : (rate : ℕ) → rate < 2 ^ 32 → format_in (mono_format rate) ≡ record { layout = layout.Mono; rate = rate }
+abbrev written_format : ℕ → Format
+written_format rate = record { layout = layout.Mono; encoding = Signed16; rate = rate }
+
+format_back : (rate : ℕ) → rate < 2 ^ 32 → format_in (mono_format rate) ≡ written_format rate
 unfolding mono_format
 format_back rate lt =
     let e = little_number-reads_back 4 rate (drop 8 (mono_format rate)) lt in
-    λ i. record { layout = layout.Mono; rate = e i }
-
-mono_layout : (rate : ℕ) → layout_in (mono_format rate) ≡ layout.Mono
-unfolding mono_format
-mono_layout rate = refl
+    λ i. record { layout = layout.Mono; encoding = Signed16; rate = e i }
 
 module _ (s : Sample) (f : FitsSample s) (l : IsLoop (length s.points) s.looped) (most : length s.points ≤ POINTS) where
   form_small : length (WAVE ++ encode (sample_chunks s)) < 2 ^ 32
@@ -247,34 +248,34 @@ module _ (s : Sample) (f : FitsSample s) (l : IsLoop (length s.points) s.looped)
   unfolding sampler_head
   sampler_is_sample = sampler_back (length s.points) (frame_time s.rate) s.key s.correction s.looped f.correction f.looped l most
 
-  channels_back : channels_in layout.Mono points ≡ Mono s.points
-  channels_back = ap (λ (x : List ℕ). Mono x) (words_of_bytes s.points)
+  channels_back : channels_in (written_format s.rate) points ≡ Mono s.points
+  channels_back = ap (λ (x : List ℕ). Mono x) (words_stay s.points f.points)
 
-  data_holds : first_fault (data_checks layout.Mono (Some points)) ≡ None
+  data_holds : first_fault (data_checks (written_format s.rate) (Some points)) ≡ None
   unfolding data_checks frame_checks
   data_holds =
       let even : eqb (length points % 2) 0 ≡ true =
       eq-eqb _ _ (let a = length-word_bytes s.points in omega (arith, a)) in
       rw even refl
 
-  layout_is : layout_in (body_in FORMAT (sample_chunks s)) ≡ layout.Mono
-  layout_is = ap layout_in format_found ∙ mono_layout s.rate
+  format_is : format_in (body_in FORMAT (sample_chunks s)) ≡ written_format s.rate
+  format_is = ap format_in format_found ∙ format_back s.rate f.rate
 
-  channels_are : channels_in (layout_in (body_in FORMAT (sample_chunks s))) (body_in DATA (sample_chunks s))
+  channels_are : channels_in (format_in (body_in FORMAT (sample_chunks s))) (body_in DATA (sample_chunks s))
       ≡ Mono s.points
-  channels_are = (λ i. channels_in (layout_is i) (unwrap_or (data_found i) [])) ∙ channels_back
+  channels_are = (λ i. channels_in (format_is i) (unwrap_or (data_found i) [])) ∙ channels_back
 
   content_holds : first_fault (content_checks (sample_chunks s)) ≡ None
   unfolding content_checks
   content_holds =
       let counted : frame_count
-      (channels_in (layout_in (body_in FORMAT (sample_chunks s))) (body_in DATA (sample_chunks s)))
+      (channels_in (format_in (body_in FORMAT (sample_chunks s))) (body_in DATA (sample_chunks s)))
       ≡ length s.points =
       ap frame_count channels_are in
       then_none (format_checks (body_in FORMAT (sample_chunks s))) _
       (ap (λ (x : List ℕ). first_fault (format_checks x)) format_found ∙ format_holds s.rate)
-      (then_none (data_checks (layout_in (body_in FORMAT (sample_chunks s)))
-      (first_body DATA (sample_chunks s))) _ ((λ i. first_fault (data_checks (layout_is i) (data_found i))) ∙
+      (then_none (data_checks (format_in (body_in FORMAT (sample_chunks s)))
+      (first_body DATA (sample_chunks s))) _ ((λ i. first_fault (data_checks (format_is i) (data_found i))) ∙
       data_holds)
       ((λ i. first_fault (sampler_checks (counted i) (sampler_found i))) ∙ sampler_is_sample.holds))
 
@@ -282,8 +283,7 @@ module _ (s : Sample) (f : FitsSample s) (l : IsLoop (length s.points) s.looped)
   unfolding content_in
   content_is =
       let rate : (format_in (body_in FORMAT (sample_chunks s))).rate ≡ s.rate =
-      ap (λ (x : List ℕ). (format_in x).rate) format_found
-      ∙ ap (λ (x : Format). x.rate) (format_back s.rate f.rate) in
+      ap (λ (x : Format). x.rate) format_is in
       let sampler_is : sampler_in (first_body SAMPLER (sample_chunks s)) ≡ (recorded s).sampler =
       ap sampler_in sampler_found ∙ sampler_is_sample.is in
       λ i. record { channels = channels_are i; rate = rate i; sampler = sampler_is i }

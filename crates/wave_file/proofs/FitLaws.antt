@@ -1,24 +1,26 @@
 -- The fields of a recording read from bytes are in range, and so are the edits of its import.
 use Rattle.std.proofs.Common.{◌≡◌, ◌≤◌, ◌<◌, ◌+◌, ◌-◌, ◌^◌, ℕ, zero, suc, pos, neg_ℤ, Bool, true, false, cond, leb}
-use Rattle.std.proofs.Common.{ltb, eqb, ◌&&◌, ◌||◌, List, [], ◌∷◌, length, take, drop, get_or, codes, Option, Some}
+use Rattle.std.proofs.Common.{ltb, eqb, ◌&&◌, ◌||◌, List, [], ◌∷◌, length, take, get_or, codes, Option, Some}
 use Rattle.std.proofs.Common.{None, Ok, FitsSigned, refl, inl, inr, arith}
 use Rattle.std.specs.Prelude.{unwrap_or}
 use Rattle.std.specs.Option.{option_map}
 use Rattle.std.specs.Int.{w8}
-use Rattle.std.specs.List.{AllByRecursion, flat_map}
+use Rattle.std.specs.List.{AllByRecursion}
 use Rattle.std.proofs.lemmas.Bool.{cases_lt, leb-true, ltb-true, and_parts}
 use Rattle.std.proofs.lemmas.List.{get_or_past}
-use Rattle.std.proofs.lemmas.List.Elements.{All-nil, All-append}
 use borrow.Author.Gap.{read_sfits}
 use Rattle.sf_base.specs.declared.limits.TheConstants.{SAMPLES}
 use Rattle.sf_base.specs.Names.{before_zero, IsTextByte, IsName}
 use Rattle.sample_view.specs.Words.{AreWords}
-use Rattle.sample_view.proofs.WordLaws.{AreWords-words}
+use Rattle.pcm_points.specs.declared.encoding.SampleEncoding.{SampleEncoding}
+use Rattle.pcm_points.specs.declared.encoding.SampleEncoding.TheVariants.{Unsigned8, Signed16, Signed24, Signed32}
+use Rattle.pcm_points.specs.declared.encoding.SampleEncoding.TheVariants.{Float32}
+use Rattle.pcm_points.specs.Points.{channel_words}
+use Rattle.pcm_points.proofs.ChannelLaws.{words_fit}
 use Rattle.riff_chunks.specs.Walk.{Chunk, walk}
 use Rattle.riff_chunks.specs.Finding.{chunks_in, first_body}
-use Rattle.hydra_records.specs.Records.{records, AreBytes, ReadFits}
+use Rattle.hydra_records.specs.Records.{AreBytes}
 use Rattle.hydra_records.proofs.Fields.{field_at-lt}
-use Rattle.hydra_records.proofs.RecordLaws.{records-fit}
 use Rattle.bank_parts.specs.declared.parts.Kind.{Kind}
 use Rattle.bank_parts.specs.declared.parts.Kind.TheVariants as kind
 use Rattle.bank_parts.specs.declared.parts.Sample.{Sample}
@@ -33,24 +35,23 @@ use Rattle.edit_forms.specs.Fits.{FitsEdit}
 use Rattle.wave_file.specs.Wave.{FORMAT, DATA}
 use Rattle.wave_file.specs.SampleWave.{SAMPLER}
 use Rattle.wave_file.specs.declared.fault.WaveFault.{WaveFault}
-use Rattle.wave_file.specs.declared.frames.Frame.{Frame}
-use Rattle.wave_file.specs.declared.frames.SamplerLoop.{SamplerLoop}
+use Rattle.wave_file.specs.declared.sampler_loop.SamplerLoop.{SamplerLoop}
 use Rattle.wave_file.specs.declared.recording.Layout.{Layout}
 use Rattle.wave_file.specs.declared.recording.Layout.TheVariants as layout
 use Rattle.wave_file.specs.declared.recording.Channels.{Channels}
-use Rattle.wave_file.specs.declared.recording.Channels.TheVariants.{Mono, Stereo}
+use Rattle.wave_file.specs.declared.recording.Channels.TheVariants.{Mono, MonoSamples, Stereo}
 use Rattle.wave_file.specs.declared.recording.Pitch.{Pitch}
 use Rattle.wave_file.specs.declared.recording.Sampler.{Sampler}
 use Rattle.wave_file.specs.declared.recording.Recording.{Recording}
 use Rattle.bank_format.specs.FaultChecks.{first_fault}
-use Rattle.wave_file.specs.Recordings.{layout_in, frame_of, channels_in, forward_loop, ends_of, unity_note_in}
+use Rattle.wave_file.specs.Recordings.{format_in, mono_in, channels_of, forward_loop, ends_of, unity_note_in}
 use Rattle.wave_file.specs.Recordings.{fraction_in, data_in, pitch_of_stored, is_stored, stored_in, cents_in, nearest}
 use Rattle.wave_file.specs.Recordings.{pitch_of, sampler_in}
 use Rattle.wave_file.specs.ReadChecks.{riff_checks, format_checks, data_checks, has_loops, is_inside, loop_checks}
 use Rattle.wave_file.specs.ReadChecks.{chunk_checks, sampler_checks, content_checks, content_in, window_checks, steps}
 use Rattle.wave_file.specs.ReadChecks.{unless_broken, recording_in}
-use Rattle.wave_file.specs.Imports.{left_points, right_points, mono_name, side_name, sample_of, add_edit}
-use Rattle.wave_file.specs.Imports.{pair_edits, channel_edits, import_edits}
+use Rattle.wave_file.specs.Imports.{mono_name, side_name, sample_of, add_edit, pair_edits, mono_edits, channel_edits}
+use Rattle.wave_file.specs.Imports.{import_edits}
 use Rattle.wave_file.proofs.ImportLaws.{truncated_text, side_named}
 
 pub record FitsPitch (p : Pitch) : Type 0 where
@@ -63,7 +64,8 @@ pub record FitsSampler (s : Sampler) : Type 0 where
 
 abbrev pub FitChannels : Channels → Type 0
 FitChannels (Mono points) = AreWords points
-FitChannels (Stereo frames) = AreWords (left_points frames) × AreWords (right_points frames)
+FitChannels (MonoSamples points) = AreWords points
+FitChannels (Stereo left right) = AreWords left × AreWords right
 
 pub record FitsRecording (r : Recording) : Type 0 where
   pub channels : FitChannels r.channels
@@ -72,31 +74,16 @@ pub record FitsRecording (r : Recording) : Type 0 where
 
 -- ---- channels
 
-pub record FitsFrame (f : Frame) : Type 0 where
-  pub left : AreBytes f.left
-  pub right : AreBytes f.right
+mono_fits : (e : SampleEncoding) (points : List ℕ) → AreWords points → FitChannels (mono_in e points)
+mono_fits Unsigned8 points p = p
+mono_fits Signed16 points p = p
+mono_fits Signed24 points p = p
+mono_fits Signed32 points p = p
+mono_fits Float32 points p = p
 
-frame_fits : ReadFits 4 frame_of FitsFrame
-frame_fits bytes b e =
-    record { left = take_bytes 2 bytes b; right = take_bytes 2 (drop 2 bytes) (drop_bytes 2 bytes b) }
-
-left_bytes : (fs : List Frame) → AllByRecursion FitsFrame fs → AreBytes (flat_map (λ (f : Frame). f.left) fs)
-left_bytes [] h = All-nil (λ b. b < 256)
-left_bytes (f ∷ fs) h =
-    All-append (λ b. b < 256) f.left (flat_map (λ (x : Frame). x.left) fs) h.0.left (left_bytes fs h.1)
-
-right_bytes : (fs : List Frame) → AllByRecursion FitsFrame fs → AreBytes (flat_map (λ (f : Frame). f.right) fs)
-right_bytes [] h = All-nil (λ b. b < 256)
-right_bytes (f ∷ fs) h =
-    All-append (λ b. b < 256) f.right (flat_map (λ (x : Frame). x.right) fs) h.0.right (right_bytes fs h.1)
-
-channels_fit : (l : Layout) (bytes : List ℕ) → AreBytes bytes → FitChannels (channels_in l bytes)
-channels_fit layout.Mono bytes b = AreWords-words bytes b
-channels_fit layout.Stereo bytes b =
-    let fs = records-fit 4 frame_of FitsFrame frame_fits bytes b in (
-      AreWords-words _ (left_bytes (records 4 frame_of bytes) fs),
-      AreWords-words _ (right_bytes (records 4 frame_of bytes) fs),
-    )
+channels_fit : (l : Layout) (e : SampleEncoding) (bytes : List ℕ) → FitChannels (channels_of l e bytes)
+channels_fit layout.Mono e bytes = mono_fits e (channel_words e 1 0 bytes) (words_fit e 1 0 bytes)
+channels_fit layout.Stereo e bytes = (words_fit e 2 0 bytes, words_fit e 2 1 bytes)
 
 -- ---- the pitch
 
@@ -163,9 +150,9 @@ unfolding content_checks content_in
 content_fits chunks b h =
     let f = body_in FORMAT chunks in
     let past_format = both_none (format_checks f) _ h in
-    let past_data = both_none (data_checks (layout_in f) (first_body DATA chunks)) _ past_format.1 in
+    let past_data = both_none (data_checks (format_in f) (first_body DATA chunks)) _ past_format.1 in
     record {
-      channels = channels_fit (layout_in f) (body_in DATA chunks) (body_bytes DATA chunks b);
+      channels = channels_fit (format_in f).layout (format_in f).encoding (body_in DATA chunks);
       rate = field_at-lt 4 4 f (body_bytes FORMAT chunks b);
       sampler = sampler_fits _ (first_body SAMPLER chunks) (body_bytes SAMPLER chunks b) past_data.1;
     }
@@ -225,19 +212,27 @@ name_fits : (name side : List ℕ) → AreBytes name → length side ≡ 2 → A
     → IsName (side_name name side)
 name_fits name side b two s = side_named (before_zero (take 18 name)) side (truncated_text 18 name b) two s
 
-channels_edits_fit : (n : ℕ) (name : List ℕ) (rate : ℕ) (sampler : Sampler) (ch : Channels) → n ≤ SAMPLES
-    → AreBytes name → rate < 2 ^ 32 → FitsSampler sampler → FitChannels ch
-    → AllByRecursion FitsEdit (channel_edits n name rate sampler ch)
-channels_edits_fit n name rate sampler (Mono points) most b r s p = (
+mono_edits_fit : (n : ℕ) (name : List ℕ) (rate : ℕ) (sampler : Sampler) (points : List ℕ) → n ≤ SAMPLES
+    → AreBytes name → rate < 2 ^ 32 → FitsSampler sampler → AreWords points
+    → AllByRecursion FitsEdit (mono_edits n name rate sampler points)
+mono_edits_fit n name rate sampler points most b r s p = (
   (omega (arith, most), sample_fits rate sampler (mono_name name) points kind.Mono r s (truncated_text 20 name b) p tt),
   tt,
 )
-channels_edits_fit n name rate sampler (Stereo frames) most b r s p =
+
+channels_edits_fit : (n : ℕ) (name : List ℕ) (rate : ℕ) (sampler : Sampler) (ch : Channels) → n ≤ SAMPLES
+    → AreBytes name → rate < 2 ^ 32 → FitsSampler sampler → FitChannels ch
+    → AllByRecursion FitsEdit (channel_edits n name rate sampler ch)
+channels_edits_fit n name rate sampler (Mono points) most b r s p =
+    mono_edits_fit n name rate sampler points most b r s p
+channels_edits_fit n name rate sampler (MonoSamples points) most b r s p =
+    mono_edits_fit n name rate sampler points most b r s p
+channels_edits_fit n name rate sampler (Stereo left_points right_points) most b r s p =
     let left = name_fits name (codes " L") b refl ((omega arith, omega arith), ((omega arith, omega arith), tt)) in
     let right = name_fits name (codes " R") b refl ((omega arith, omega arith), ((omega arith, omega arith), tt)) in
     pair_fits n _ _ most
-    (sample_fits rate sampler (side_name name (codes " L")) (left_points frames) kind.Mono r s left p.0 tt)
-    (sample_fits rate sampler (side_name name (codes " R")) (right_points frames) (kind.Right n) r s right p.1
+    (sample_fits rate sampler (side_name name (codes " L")) left_points kind.Mono r s left p.0 tt)
+    (sample_fits rate sampler (side_name name (codes " R")) right_points (kind.Right n) r s right p.1
     (omega (arith, most)))
 
 pub imports_fit : (n : ℕ) (name : List ℕ) (r : Recording) → n ≤ SAMPLES → AreBytes name → FitsRecording r

@@ -11,7 +11,7 @@ use Rattle.sf_base.specs.Names.{before_zero, IsTextByte, IsText, IsName}
 use Rattle.sf_base.specs.declared.limits.TheConstants.{SAMPLES}
 use Rattle.edit_forms.specs.declared.edit.Edit.{Edit}
 use Rattle.wave_file.specs.declared.recording.Channels.{Channels}
-use Rattle.wave_file.specs.declared.recording.Channels.TheVariants.{Mono, Stereo}
+use Rattle.wave_file.specs.declared.recording.Channels.TheVariants.{Mono, MonoSamples, Stereo}
 use Rattle.wave_file.specs.declared.recording.Sampler.{Sampler}
 use Rattle.wave_file.specs.declared.recording.Recording.{Recording}
 use Rattle.wave_file.specs.Imports.{channel_edits, import_edits}
@@ -81,7 +81,8 @@ few_of false x y z = omega arith
 few_of_channels : (n : ℕ) (name : List ℕ) (rate : ℕ) (sampler : Sampler) (channels : Channels)
     → length (channel_edits n name rate sampler channels) ≤ 3
 few_of_channels n name rate sampler (Mono points) = omega arith
-few_of_channels n name rate sampler (Stereo frames) = few_of (ltb n SAMPLES) _ _ _
+few_of_channels n name rate sampler (MonoSamples points) = omega arith
+few_of_channels n name rate sampler (Stereo left right) = few_of (ltb n SAMPLES) _ _ _
 
 pub few_edits : (n : ℕ) (name : List ℕ) (r : Recording) → length (import_edits n name r) ≤ 3
 unfolding import_edits

@@ -8,13 +8,12 @@ use Rattle.bank_format.specs.Chunks.{window, body_in}
 use Rattle.wave_file.specs.Wave.{FORMAT, DATA}
 use Rattle.wave_file.specs.SampleWave.{SAMPLER}
 use Rattle.wave_file.specs.declared.fault.WaveFault.{WaveFault}
-use Rattle.wave_file.specs.declared.recording.Layout.{Layout}
 use Rattle.wave_file.specs.declared.recording.Format.{Format}
 use Rattle.wave_file.specs.declared.recording.Channels.{Channels}
 use Rattle.wave_file.specs.declared.recording.Sampler.{Sampler}
 use Rattle.wave_file.specs.declared.recording.Recording.{Recording}
 use Rattle.bank_format.specs.FaultChecks.{Check, first_fault, Passes}
-use Rattle.wave_file.specs.Recordings.{layout_in, format_in, channels_in, frame_count, sampler_in}
+use Rattle.wave_file.specs.Recordings.{format_in, channels_in, frame_count, sampler_in}
 use Rattle.wave_file.specs.ReadChecks.{riff_checks, format_checks, data_checks, sampler_checks, content_checks}
 use Rattle.wave_file.specs.ReadChecks.{window_checks, content_in, steps, unless_broken, recording_in}
 use Rattle.bank_format.proofs.CheckLaws.{first_fault-append, first_fault-front, passes_by, passes_front, passes_after}
@@ -64,15 +63,15 @@ has_format chunks f format e h is =
     record { holds = ap (λ (x : List ℕ). first_fault (format_checks x)) (sym e) ∙ h; is = is ∙ ap format_in e }
 
 pub record HasData (chunks : List Chunk) (format : Format) (found : Channels) : Type 0 where
-  pub holds : first_fault (data_checks format.layout (first_body DATA chunks)) ≡ None
-  pub is : found ≡ channels_in format.layout (body_in DATA chunks)
+  pub holds : first_fault (data_checks format (first_body DATA chunks)) ≡ None
+  pub is : found ≡ channels_in format (body_in DATA chunks)
 
 pub has_data : (chunks : List Chunk) (format : Format) (o : Option (List ℕ)) (found : Channels)
-    → o ≡ first_body DATA chunks → first_fault (data_checks format.layout o) ≡ None
-    → found ≡ channels_in format.layout (unwrap_or o []) → HasData chunks format found
+    → o ≡ first_body DATA chunks → first_fault (data_checks format o) ≡ None
+    → found ≡ channels_in format (unwrap_or o []) → HasData chunks format found
 has_data chunks format o found e h is = record {
-  holds = ap (λ (x : Option (List ℕ)). first_fault (data_checks format.layout x)) (sym e) ∙ h;
-  is = is ∙ ap (λ (x : Option (List ℕ)). channels_in format.layout (unwrap_or x [])) e;
+  holds = ap (λ (x : Option (List ℕ)). first_fault (data_checks format x)) (sym e) ∙ h;
+  is = is ∙ ap (λ (x : Option (List ℕ)). channels_in format (unwrap_or x [])) e;
 }
 
 module _ (chunks : List Chunk) (r : Result Recording WaveFault) where
@@ -80,7 +79,7 @@ module _ (chunks : List Chunk) (r : Result Recording WaveFault) where
   f = body_in FORMAT chunks
 
   abbrev last_checks : List (Check WaveFault)
-  last_checks = sampler_checks (frame_count (channels_in (layout_in f) (body_in DATA chunks))) (first_body SAMPLER chunks)
+  last_checks = sampler_checks (frame_count (channels_in (format_in f) (body_in DATA chunks))) (first_body SAMPLER chunks)
 
   abbrev Reads : Type 0
   Reads = Passes (λ (x : Recording). x) r (content_checks chunks) (content_in chunks)
@@ -90,19 +89,19 @@ module _ (chunks : List Chunk) (r : Result Recording WaveFault) where
   unfolding content_checks
   format_fails bytes e same is h =
       passes_front (λ (x : Recording). x) (content_in chunks) r e (format_checks f)
-      (data_checks (layout_in f) (first_body DATA chunks) ++ last_checks) is
+      (data_checks (format_in f) (first_body DATA chunks) ++ last_checks) is
       (ap (λ (x : List ℕ). first_fault (format_checks x)) (sym same) ∙ h)
 
   pub data_fails : (format : Format) (o : Option (List ℕ)) (e : WaveFault) → HasFormat chunks format
       → o ≡ first_body DATA chunks → IsErrAnd r (λ d. d ≡ e)
-      → first_fault (data_checks format.layout o) ≡ Some e → Reads
+      → first_fault (data_checks format o) ≡ Some e → Reads
   unfolding content_checks
   data_fails format o e has same is h =
-      let l : layout_in f ≡ format.layout = sym (ap (λ (x : Format). x.layout) has.is) in
+      let l : format_in f ≡ format = sym has.is in
       passes_after (λ (x : Recording). x) (content_in chunks) r (format_checks f)
-      (data_checks (layout_in f) (first_body DATA chunks) ++ last_checks) has.holds
+      (data_checks (format_in f) (first_body DATA chunks) ++ last_checks) has.holds
       (passes_front (λ (x : Recording). x) (content_in chunks) r e
-      (data_checks (layout_in f) (first_body DATA chunks)) last_checks is
+      (data_checks (format_in f) (first_body DATA chunks)) last_checks is
       ((λ i. first_fault (data_checks (l i) (sym same i))) ∙ h))
 
   -- the checks of the `smpl` chunk, if all others hold
@@ -110,19 +109,19 @@ module _ (chunks : List Chunk) (r : Result Recording WaveFault) where
       → Passes (λ (x : Recording). x) r last_checks (content_in chunks) → Reads
   unfolding content_checks
   sampler_left format found has there p =
-      let l : layout_in f ≡ format.layout = sym (ap (λ (x : Format). x.layout) has.is) in
+      let l : format_in f ≡ format = sym has.is in
       passes_after (λ (x : Recording). x) (content_in chunks) r (format_checks f)
-      (data_checks (layout_in f) (first_body DATA chunks) ++ last_checks) has.holds
-      (passes_after (λ (x : Recording). x) (content_in chunks) r (data_checks (layout_in f)
+      (data_checks (format_in f) (first_body DATA chunks) ++ last_checks) has.holds
+      (passes_after (λ (x : Recording). x) (content_in chunks) r (data_checks (format_in f)
       (first_body DATA chunks)) last_checks
-      (ap (λ (x : Layout). first_fault (data_checks x (first_body DATA chunks))) l ∙ there.holds) p)
+      (ap (λ (x : Format). first_fault (data_checks x (first_body DATA chunks))) l ∙ there.holds) p)
 
 -- the number of frames
 counted : (chunks : List Chunk) (format : Format) (found : Channels) → HasFormat chunks format
     → HasData chunks format found
-    → frame_count found ≡ frame_count (channels_in (layout_in (body_in FORMAT chunks)) (body_in DATA chunks))
+    → frame_count found ≡ frame_count (channels_in (format_in (body_in FORMAT chunks)) (body_in DATA chunks))
 counted chunks format found has there =
-    ap frame_count there.is ∙ ap (λ (x : Format). frame_count (channels_in x.layout (body_in DATA chunks))) has.is
+    ap frame_count there.is ∙ ap (λ (x : Format). frame_count (channels_in x (body_in DATA chunks))) has.is
 
 pub sampler_fails : (chunks : List Chunk) (r : Result Recording WaveFault) (format : Format) (found : Channels)
     (n : ℕ) (o : Option (List ℕ)) (e : WaveFault)
@@ -147,7 +146,7 @@ unfolding content_in
 content_reads chunks format found n o sampler has there count same h is =
     let k = count ∙ counted chunks format found has there in
     let rate : format.rate ≡ (format_in (body_in FORMAT chunks)).rate = ap (λ (x : Format). x.rate) has.is in
-    let channels = there.is ∙ ap (λ (x : Format). channels_in x.layout (body_in DATA chunks)) has.is in
+    let channels = there.is ∙ ap (λ (x : Format). channels_in x (body_in DATA chunks)) has.is in
     let chunk = is ∙ ap sampler_in same in
     let read : Recording = record { channels = found; rate = format.rate; sampler = sampler } in
     let content_same : read ≡ content_in chunks = λ i. record { channels = channels i; rate = rate i; sampler = chunk i } in

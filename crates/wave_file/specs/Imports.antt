@@ -1,9 +1,7 @@
 -- The edits that append a recording to a bank's samples.
 use Rattle.std.specs.Prelude.{◌+◌, ℕ, nat_lt, if◌then◌else◌, codes, List, [], ◌∷◌, ◌++◌, take}
-use Rattle.std.specs.List.{flat_map}
 use Rattle.sf_base.specs.declared.limits.TheConstants.{SAMPLES}
 use Rattle.sf_base.specs.Names.{before_zero}
-use Rattle.sample_view.specs.Words.{words}
 use Rattle.bank_parts.specs.declared.parts.Kind.{Kind}
 use Rattle.bank_parts.specs.declared.parts.Kind.TheVariants as kind
 use Rattle.bank_parts.specs.declared.parts.Sample.{Sample}
@@ -12,27 +10,22 @@ use Rattle.edit_forms.specs.declared.edit.Edit.TheVariants.{One}
 use Rattle.edit_forms.specs.declared.points.PointStep.TheVariants.{SetKind}
 use Rattle.edit_forms.specs.declared.samples.SampleStep.TheVariants.{AddSample}
 use Rattle.edit_forms.specs.declared.step.Step.TheVariants as steps
-use Rattle.wave_file.specs.declared.frames.Frame.{Frame}
 use Rattle.wave_file.specs.declared.recording.Channels.{Channels}
-use Rattle.wave_file.specs.declared.recording.Channels.TheVariants.{Mono, Stereo}
+use Rattle.wave_file.specs.declared.recording.Channels.TheVariants.{Mono, MonoSamples, Stereo}
 use Rattle.wave_file.specs.declared.recording.Sampler.{Sampler}
 use Rattle.wave_file.specs.declared.recording.Recording.{Recording}
 
 -- ---- the points of two channels
 
-abbrev pub left_points : List Frame → List ℕ
-left_points frames = words (flat_map (λ (f : Frame). f.left) frames)
-
-abbrev pub right_points : List Frame → List ℕ
-right_points frames = words (flat_map (λ (f : Frame). f.right) frames)
-
 pub record BothSides : Type 0 where
   pub left : List ℕ
   pub right : List ℕ
 
+-- those that are not borrowed from the file; a mono recording has a left side only
 abbrev pub sides_of : Channels → BothSides
 sides_of (Mono points) = record { left = []; right = [] }
-sides_of (Stereo frames) = record { left = left_points frames; right = right_points frames }
+sides_of (MonoSamples points) = record { left = points; right = [] }
+sides_of (Stereo left right) = record { left = left; right = right }
 
 -- ---- the names
 
@@ -68,14 +61,18 @@ pair_edits n left right =
     ∷ One (steps.Points n (SetKind (kind.Left (n + 1)))) ∷ []
     else add_edit n left ∷ []
 
+abbrev pub mono_edits : ℕ → List ℕ → ℕ → Sampler → List ℕ → List Edit
+mono_edits n name rate sampler points =
+    add_edit n (sample_of rate sampler (mono_name name) points kind.Mono) ∷ []
+
 -- a mono recording becomes one sample, a stereo recording a left and a right one
 abbrev pub channel_edits : ℕ → List ℕ → ℕ → Sampler → Channels → List Edit
-channel_edits n name rate sampler (Mono points) =
-    add_edit n (sample_of rate sampler (mono_name name) points kind.Mono) ∷ []
-channel_edits n name rate sampler (Stereo frames) =
+channel_edits n name rate sampler (Mono points) = mono_edits n name rate sampler points
+channel_edits n name rate sampler (MonoSamples points) = mono_edits n name rate sampler points
+channel_edits n name rate sampler (Stereo left right) =
     pair_edits n
-    (sample_of rate sampler (side_name name (codes " L")) (left_points frames) kind.Mono)
-    (sample_of rate sampler (side_name name (codes " R")) (right_points frames) (kind.Right n))
+    (sample_of rate sampler (side_name name (codes " L")) left kind.Mono)
+    (sample_of rate sampler (side_name name (codes " R")) right (kind.Right n))
 
 -- the edits that append a recording with this name to n samples
 unfoldable pub import_edits : ℕ → List ℕ → Recording → List Edit

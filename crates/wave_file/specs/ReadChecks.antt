@@ -8,12 +8,12 @@ use Rattle.wave_file.specs.Wave.{WAVE, FORMAT, DATA}
 use Rattle.wave_file.specs.SampleWave.{SAMPLER}
 use Rattle.wave_file.specs.declared.fault.WaveFault.{WaveFault}
 use Rattle.wave_file.specs.declared.fault.WaveFault.TheVariants as fault
-use Rattle.wave_file.specs.declared.frames.SamplerLoop.{SamplerLoop}
-use Rattle.wave_file.specs.declared.recording.Layout.{Layout}
+use Rattle.wave_file.specs.declared.sampler_loop.SamplerLoop.{SamplerLoop}
+use Rattle.wave_file.specs.declared.recording.Format.{Format}
 use Rattle.wave_file.specs.declared.recording.Recording.{Recording}
 use Rattle.bank_format.specs.FaultChecks.{Check, check, first_fault}
 use Rattle.bank_format.specs.ReadChecks.{form_checks}
-use Rattle.wave_file.specs.Recordings.{channel_count_in, bits_in, is_pcm, layout_in, format_in, frame_size}
+use Rattle.wave_file.specs.Recordings.{channel_count_in, is_pcm, is_float, encoding_in, format_in, frame_size}
 use Rattle.wave_file.specs.Recordings.{channels_in, frame_count, loop_count_in, forward_loop, unity_note_in}
 use Rattle.wave_file.specs.Recordings.{sampler_in}
 
@@ -27,18 +27,18 @@ riff_checks file = form_checks WAVE fault.NotWave fault.Truncated fault.NotWave 
 unfoldable pub format_checks : List ℕ → List (Check WaveFault)
 format_checks f =
     check (nat_le 16 (length f)) fault.NoFormat
-    ∷ check (is_pcm f) fault.Compressed
-    ∷ check (bits_in f == 16) fault.SampleBits
+    ∷ check (is_pcm f || is_float f) fault.Compressed
+    ∷ check (is_some (encoding_in f)) fault.SampleBits
     ∷ check (channel_count_in f == 1 || channel_count_in f == 2) fault.ChannelCount
     ∷ []
 
 -- ---- the `data` chunk, of whole frames
 
-unfoldable pub frame_checks : Layout → List ℕ → List (Check WaveFault)
-frame_checks layout bytes = check (length bytes % frame_size layout == 0) fault.HalfFrame ∷ []
+unfoldable pub frame_checks : Format → List ℕ → List (Check WaveFault)
+frame_checks format bytes = check (length bytes % frame_size format == 0) fault.HalfFrame ∷ []
 
-unfoldable pub data_checks : Layout → Option (List ℕ) → List (Check WaveFault)
-data_checks layout body = check (is_some body) fault.NoData ∷ frame_checks layout (unwrap_or body [])
+unfoldable pub data_checks : Format → Option (List ℕ) → List (Check WaveFault)
+data_checks format body = check (is_some body) fault.NoData ∷ frame_checks format (unwrap_or body [])
 
 -- ---- the `smpl` chunk, if there is one
 
@@ -72,14 +72,14 @@ content_checks chunks =
     let f = body_in FORMAT chunks in
     let body = body_in DATA chunks in
     format_checks f
-    ++ (data_checks (layout_in f) (first_body DATA chunks)
-    ++ sampler_checks (frame_count (channels_in (layout_in f) body)) (first_body SAMPLER chunks))
+    ++ (data_checks (format_in f) (first_body DATA chunks)
+    ++ sampler_checks (frame_count (channels_in (format_in f) body)) (first_body SAMPLER chunks))
 
 unfoldable pub content_in : List Chunk → Recording
 content_in chunks =
     let f = format_in (body_in FORMAT chunks) in
     record {
-      channels = channels_in f.layout (body_in DATA chunks);
+      channels = channels_in f (body_in DATA chunks);
       rate = f.rate;
       sampler = sampler_in (first_body SAMPLER chunks);
     }

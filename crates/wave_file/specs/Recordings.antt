@@ -1,15 +1,17 @@
 -- The content of the chunks of a WAVE file.
 use Rattle.std.specs.Prelude.{◌+◌, ◌-◌, ◌*◌, ◌/◌, ◌^◌, ◌==◌, ◌&&◌, ◌||◌, if◌then◌else◌, ℕ, pos, neg_ℤ, Bool, nat_le}
-use Rattle.std.specs.Prelude.{List, [], ◌∷◌, length, take, drop, find, slice_index, bytes_eq, Option, Some, None}
+use Rattle.std.specs.Prelude.{List, [], ◌∷◌, length, take, drop, find, slice_index, bytes_eq, Option, Some, None, unwrap_or}
 use Rattle.std.specs.Option.{option_map}
 use Rattle.std.specs.Int.{w8, cast_signed}
 use Rattle.sf_base.specs.Fields.{field_at}
-use Rattle.sample_view.specs.Words.{words}
 use Rattle.hydra_records.specs.Records.{records}
+use Rattle.pcm_points.specs.declared.encoding.SampleEncoding.{SampleEncoding}
+use Rattle.pcm_points.specs.declared.encoding.SampleEncoding.TheVariants as encoding
+use Rattle.pcm_points.specs.Samples.{size_of}
+use Rattle.pcm_points.specs.Points.{channel_words}
 use Rattle.wave_file.specs.SamplerPitch.{unity_note, pitch_fraction}
 use Rattle.wave_file.specs.SampleWave.{stored_pitch}
-use Rattle.wave_file.specs.declared.frames.Frame.{Frame}
-use Rattle.wave_file.specs.declared.frames.SamplerLoop.{SamplerLoop}
+use Rattle.wave_file.specs.declared.sampler_loop.SamplerLoop.{SamplerLoop}
 use Rattle.wave_file.specs.declared.recording.Layout.{Layout}
 use Rattle.wave_file.specs.declared.recording.Layout.TheVariants as layout
 use Rattle.wave_file.specs.declared.recording.Channels.{Channels}
@@ -33,34 +35,67 @@ bits_in f = field_at 14 2 f
 unfoldable pub PCM : List ℕ
 PCM = 1 ∷ 0 ∷ 0 ∷ 0 ∷ 0 ∷ 0 ∷ 16 ∷ 0 ∷ 128 ∷ 0 ∷ 0 ∷ 170 ∷ 0 ∷ 56 ∷ 155 ∷ 113 ∷ []
 
--- integer PCM, directly or as WAVE_FORMAT_EXTENSIBLE
+-- the subformat GUID of IEEE 754 numbers
+unfoldable pub IEEE_FLOAT : List ℕ
+IEEE_FLOAT = 3 ∷ 0 ∷ 0 ∷ 0 ∷ 0 ∷ 0 ∷ 16 ∷ 0 ∷ 128 ∷ 0 ∷ 0 ∷ 170 ∷ 0 ∷ 56 ∷ 155 ∷ 113 ∷ []
+
+-- samples of this format tag, directly or by their subformat in WAVE_FORMAT_EXTENSIBLE
+abbrev pub has_tag : ℕ → List ℕ → List ℕ → Bool
+has_tag tag subformat f = tag_in f == tag || (tag_in f == 65534 && bytes_eq (take 16 (drop 24 f)) subformat)
+
 abbrev pub is_pcm : List ℕ → Bool
-is_pcm f = tag_in f == 1 || (tag_in f == 65534 && bytes_eq (take 16 (drop 24 f)) PCM)
+is_pcm f = has_tag 1 PCM f
+
+abbrev pub is_float : List ℕ → Bool
+is_float f = has_tag 3 IEEE_FLOAT f && bits_in f == 32
+
+-- integers of this many bits
+abbrev pub integers_of : ℕ → Option SampleEncoding
+integers_of bits =
+    if bits == 8 then Some encoding.Unsigned8
+    else if bits == 16 then Some encoding.Signed16
+    else if bits == 24 then Some encoding.Signed24
+    else if bits == 32 then Some encoding.Signed32 else None
+
+abbrev pub encoding_in : List ℕ → Option SampleEncoding
+encoding_in f = if is_float f then Some encoding.Float32 else integers_of (bits_in f)
 
 abbrev pub layout_in : List ℕ → Layout
 layout_in f = if channel_count_in f == 2 then layout.Stereo else layout.Mono
 
 abbrev pub format_in : List ℕ → Format
-format_in f = record { layout = layout_in f; rate = field_at 4 4 f }
+format_in f =
+    record { layout = layout_in f; encoding = unwrap_or (encoding_in f) encoding.Signed16; rate = field_at 4 4 f }
 
 -- ---- the `data` chunk
 
+abbrev pub channel_count : Layout → ℕ
+channel_count layout.Mono = 1
+channel_count layout.Stereo = 2
+
 -- the size of a frame in bytes
-abbrev pub frame_size : Layout → ℕ
-frame_size layout.Mono = 2
-frame_size layout.Stereo = 4
+abbrev pub frame_size : Format → ℕ
+frame_size format = channel_count format.layout * size_of format.encoding
 
--- the bytes of its left and of its right point
-abbrev pub frame_of : List ℕ → Frame
-frame_of bytes = record { left = take 2 bytes; right = take 2 (drop 2 bytes) }
+-- The points of a mono recording; those of 16 bits are the samples themselves, which are not converted.
+abbrev pub mono_in : SampleEncoding → List ℕ → Channels
+mono_in encoding.Signed16 points = channels.Mono points
+mono_in encoding.Unsigned8 points = channels.MonoSamples points
+mono_in encoding.Signed24 points = channels.MonoSamples points
+mono_in encoding.Signed32 points = channels.MonoSamples points
+mono_in encoding.Float32 points = channels.MonoSamples points
 
-abbrev pub channels_in : Layout → List ℕ → Channels
-channels_in layout.Mono bytes = channels.Mono (words bytes)
-channels_in layout.Stereo bytes = channels.Stereo (records 4 frame_of bytes)
+abbrev pub channels_of : Layout → SampleEncoding → List ℕ → Channels
+channels_of layout.Mono e bytes = mono_in e (channel_words e 1 0 bytes)
+channels_of layout.Stereo e bytes = channels.Stereo (channel_words e 2 0 bytes) (channel_words e 2 1 bytes)
+
+abbrev pub channels_in : Format → List ℕ → Channels
+channels_in format bytes = channels_of format.layout format.encoding bytes
 
 abbrev pub frame_count : Channels → ℕ
 frame_count (channels.Mono points) = length points
-frame_count (channels.Stereo frames) = length frames
+frame_count (channels.MonoSamples points) = length points
+frame_count (channels.Stereo left right) = length left
 
 -- ---- the `smpl` chunk: loops
 

@@ -13,12 +13,12 @@ pub enum WaveFault {
     NotWave = 53,
     #[error("a chunk passes the end of what holds it")]
     Truncated = 54,
-    /// Neither integer PCM nor WAVE_FORMAT_EXTENSIBLE with integer PCM.
-    #[error("the samples are compressed, or no whole numbers")]
+    /// Also neither of them as the subformat of WAVE_FORMAT_EXTENSIBLE.
+    #[error("the samples are neither integer PCM nor 32-bit float")]
     Compressed = 55,
     #[error("there is no format chunk of 16 bytes")]
     NoFormat = 56,
-    #[error("the samples have not 16 bits")]
+    #[error("the samples have neither 8, 16, 24 nor 32 bits")]
     SampleBits = 57,
     #[error("there is neither one channel nor two")]
     ChannelCount = 58,

@@ -4,7 +4,7 @@ ghost use Rattle.std.specs.Prelude.{◌≡◌, ◌≤◌, [], ◌∷◌, IfOk};
 ghost use Rattle.std.specs.List.{AllByRecursion};
 ghost use Rattle.sf_base.specs.Names.{IsName, IsTextByte};
 ghost use Rattle.sf_base.specs.declared.limits.TheConstants.{SAMPLES};
-ghost use Rattle.wave_file.specs.Imports.{sides_of, mono_name, side_name, sample_of, add_edit, pair_edits, import_edits};
+ghost use Rattle.wave_file.specs.Imports.{sides_of, mono_name, side_name, sample_of, add_edit, pair_edits, mono_edits, import_edits};
 
 use crate::recording::{Channels, Recording, Sampler};
 use crate::sides::Sides;
@@ -26,7 +26,7 @@ const RIGHT: &[u8; 2] = b" R";
 const OWN_LENGTH: usize = 18;
 
 /// The edits that append a recording to `samples` samples. A mono recording becomes one sample, a stereo recording a
-/// left and a right sample that are linked to each other; `sides` has its split points.
+/// left and a right sample that are linked to each other; `sides` has the points that are not borrowed from the file.
 ///
 /// The name is truncated at a zero byte and to 20 bytes; for a stereo recording to 18 bytes, followed by ` L` or ` R`.
 #[tactic(auto, unfolding(crate::specs::Imports::import_edits))]
@@ -47,15 +47,12 @@ pub fn import_edits<'a>(
         sampler,
     } = recording;
     match channels {
-        Channels::Mono(points) => {
-            let name = mono_name(name);
-            single_edit(
-                alloc,
-                samples,
-                sample_of(rate, sampler, name, points, Kind::Mono),
-            )
+        Channels::Mono(points) => mono_edits(alloc, samples, name, rate, sampler, points),
+        Channels::MonoSamples(_) => {
+            let points = sides.left(alloc);
+            mono_edits(alloc, samples, name, rate, sampler, points)
         }
-        Channels::Stereo(_) => {
+        Channels::Stereo(_, _) => {
             let left_name = side_name(name, LEFT);
             let right_name = side_name(name, RIGHT);
             let left_kind = Kind::Mono;
@@ -65,6 +62,23 @@ pub fn import_edits<'a>(
             pair_edits(alloc, samples, left, right)
         }
     }
+}
+
+// The edit that appends a mono recording to `samples` samples.
+fn mono_edits<'a>(
+    alloc: Global,
+    samples: usize,
+    name: &[u8],
+    rate: u32,
+    sampler: Sampler,
+    points: Points<'a>,
+) -> Result<Vec<Edit<'a>>, OutOfMemory>
+    requires { samples ≤ SAMPLES }
+    ensures { IfOk result (λ edits. edits.items ≡ mono_edits samples name.now rate sampler points.entry) }
+{
+    let name = mono_name(name);
+    let sample = sample_of(rate, sampler, name, points, Kind::Mono);
+    single_edit(alloc, samples, sample)
 }
 
 // The first 20 bytes, up to the first zero byte.

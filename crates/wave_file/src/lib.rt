@@ -4,25 +4,27 @@
 //! all others are skipped.
 #![tactic(auto)]
 
+mod channel_samples;
 mod encoding;
 mod fault;
 mod format;
-mod frames;
 mod importing;
 mod laws;
 mod reading;
 mod recording;
 mod sample;
 mod sampler;
+mod sampler_loop;
 mod sampler_pitch;
 mod sides;
 
+pub use channel_samples::ChannelSamples;
 pub use encoding::{WaveFile, write_wave};
 pub use fault::WaveFault;
-pub use frames::{Frame, SamplerLoop};
 pub use importing::import_edits;
 pub use laws::sample_waves_read_back;
 pub use reading::read_recording;
 pub use recording::{Channels, Pitch, Recording, Sampler};
 pub use sample::SampleWave;
+pub use sampler_loop::SamplerLoop;
 pub use sides::Sides;

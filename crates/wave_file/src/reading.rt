@@ -18,10 +18,10 @@ use std::alloc::Global;
 /// The chunks that are read.
 const IDS: &[[u8; 4]] = &[*b"fmt ", *b"data", *b"smpl"];
 
-/// Reads a WAVE file, or returns the fault of the first check that fails. The recording borrows its points from the
+/// Reads a WAVE file, or returns the fault of the first check that fails. The recording borrows its samples from the
 /// file; nothing is allocated.
 ///
-/// The samples must be 16-bit integer PCM, mono or stereo. The `smpl` chunk gives key, correction and loop: the first
+/// The samples must be integer PCM of 8, 16, 24 or 32 bits or 32-bit float, mono or stereo. The `smpl` chunk gives key, correction and loop: the first
 /// forward loop of its loops.
 pub fn read_recording<'a>(alloc: Global, file: &'a [u8]) -> Result<Recording<'a>, WaveFault>
     ensures { result ≡ recording_in file.now }
@@ -50,7 +50,7 @@ fn read_content<'a>(alloc: Global, chunks: &FirstChunks<'a>) -> Result<Recording
     ensures { Passes (λ r. r) result (content_checks chunks.now) (content_in chunks.now) }
 {
     let format = read_format(format_of(chunks))?;
-    let channels = read_data(alloc, format.layout, chunks.body_of(*b"data"))?;
+    let channels = read_data(alloc, format, chunks.body_of(*b"data"))?;
     let sampler = read_sampler(chunks.body_of(*b"smpl"), channels.frame_count())?;
     Ok(Recording {
         channels,

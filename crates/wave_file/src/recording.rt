@@ -2,8 +2,8 @@
 ghost use Rattle.std.specs.Prelude.{◌≡◌};
 ghost use Rattle.wave_file.specs.Recordings.{frame_count};
 
-use crate::frames::Frame;
-use hydra_records::Table;
+use crate::channel_samples::ChannelSamples;
+use pcm_points::SampleEncoding;
 use sample_view::Points;
 
 /// The channels of a WAVE file: mono, or left and right.
@@ -17,17 +17,20 @@ pub(crate) enum Layout {
 #[derive(Clone, Copy, Debug, PartialEq, Eq)]
 pub(crate) struct Format {
     pub(crate) layout: Layout,
+    pub(crate) encoding: SampleEncoding,
     /// Frames per second.
     pub(crate) rate: u32,
 }
 
-/// The points of a recording, borrowed from the file.
+/// The samples of a recording, borrowed from the file.
 #[derive(Drop)]
 pub enum Channels<'a> {
-    /// The points of a mono recording.
+    /// The points of a mono recording of 16 bits.
     Mono(Points<'a>),
-    /// The frames of a stereo recording.
-    Stereo(Table<'a, Frame>),
+    /// The samples of any other mono recording.
+    MonoSamples(ChannelSamples<'a>),
+    /// The left and the right samples of a stereo recording.
+    Stereo(ChannelSamples<'a>, ChannelSamples<'a>),
 }
 
 /// The pitch of a recording.
@@ -63,7 +66,8 @@ impl Channels<'_> {
     {
         match self {
             Channels::Mono(points) => points.len(),
-            Channels::Stereo(frames) => frames.len(),
+            Channels::MonoSamples(samples) => samples.len(),
+            Channels::Stereo(left, _) => left.len(),
         }
     }
 }

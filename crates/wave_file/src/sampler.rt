@@ -6,8 +6,8 @@ ghost use Rattle.wave_file.specs.Recordings.{loop_count_in, forward_loop, ends_o
 ghost use Rattle.wave_file.specs.ReadChecks.{has_loops, loop_checks, chunk_checks, sampler_checks};
 
 use crate::fault::WaveFault;
-use crate::frames::SamplerLoop;
 use crate::recording::{Pitch, Sampler};
+use crate::sampler_loop::SamplerLoop;
 use crate::sampler_pitch::{pitch_fraction, unity_note};
 use hydra_records::Table;
 use sf_base::{part_of, u32_at};

@@ -1,17 +1,16 @@
-//! The points of a stereo recording, split by channel.
+//! The points of a recording that are not borrowed from the file.
 ghost use Rattle.std.specs.Prelude.{◌≡◌, IfOk};
 ghost use Rattle.wave_file.specs.Imports.{sides_of};
 
-use crate::frames::Frame;
+use crate::channel_samples::ChannelSamples;
 use crate::recording::Channels;
-use hydra_records::Table;
 use sample_view::Points;
 use sf_base::OutOfMemory;
 use std::alloc::Global;
 use std::marker::Model;
 
-/// The points of the left and of the right channel, each in a vector. Both are empty for a mono recording, whose points
-/// are borrowed from the file.
+/// The points of the left and of the right channel, each in a vector. A mono recording has a left side only, and none if
+/// its points are borrowed from the file.
 #[derive(Drop)]
 pub struct Sides {
     left: Vec<u8>,
@@ -31,7 +30,7 @@ impl Model for Sides {
 }
 
 impl Sides {
-    /// Splits the points of these channels.
+    /// Converts the samples of these channels, split by channel.
     pub fn of(alloc: Global, channels: &Channels<'_>) -> Result<Sides, OutOfMemory>
         ensures { IfOk result (λ sides. sides ≡ sides_of channels.now) }
     {
@@ -40,20 +39,24 @@ impl Sides {
                 left: Vec::new(alloc),
                 right: Vec::new(alloc),
             }),
-            Channels::Stereo(frames) => Sides::split(alloc, frames),
+            Channels::MonoSamples(samples) => Ok(Sides {
+                left: samples.points(alloc)?,
+                right: Vec::new(alloc),
+            }),
+            Channels::Stereo(left, right) => Sides::of_pair(alloc, left, right),
         }
     }
 
-    // Splits stereo frames.
-    fn split(alloc: Global, frames: &Table<'_, Frame>) -> Result<Sides, OutOfMemory>
-        ensures { IfOk result (λ sides. sides ≡ sides_of (Channels.Stereo frames.now)) }
+    // Converts the samples of two channels.
+    fn of_pair(
+        alloc: Global,
+        left: &ChannelSamples<'_>,
+        right: &ChannelSamples<'_>,
+    ) -> Result<Sides, OutOfMemory>
+        ensures { IfOk result (λ sides. sides ≡ sides_of (Channels.Stereo left.now right.now)) }
     {
-        let mut left = Vec::new(alloc);
-        let mut right = Vec::new(alloc);
-        for frame in frames.iter() {
-            left.extend_from_slice(&frame.left)?;
-            right.extend_from_slice(&frame.right)?;
-        }
+        let left = left.points(alloc)?;
+        let right = right.points(alloc)?;
         Ok(Sides { left, right })
     }
 

@@ -1,6 +1,6 @@
 use Rattle.std.proofs.Common.{◌≡◌}
 use Rattle.std.specs.Prelude.{◌==◌, find}
-use Rattle.wave_file.specs.declared.frames.SamplerLoop.{SamplerLoop}
+use Rattle.wave_file.specs.declared.sampler_loop.SamplerLoop.{SamplerLoop}
 use Rattle.wave_file.specs.Recordings.{forward_loop}
 use Rattle.wave_file.proofs.sampler.forward_loop.Given as goal
 
