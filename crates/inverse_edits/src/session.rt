@@ -123,14 +123,16 @@ impl<'a> Session<'a> {
     pub fn next_undo(&self) -> Option<&Edit<'a>>
         ensures { MatchOption result (self.now.index ≡ 0) (λ e. IsLast (undo_edits self.now) e.now) }
     {
-        self.undo.as_slice().last()
+        let edits = &self.undo;
+        edits.as_slice().last()
     }
 
     /// The edit that a redo makes; none at the last bank.
     pub fn next_redo(&self) -> Option<&Edit<'a>>
         ensures { MatchOption result (self.now.index + 1 ≡ length self.now.banks) (λ e. slice_get self.now.edits self.now.index ≡ Some e.now) }
     {
-        self.redo.as_slice().last()
+        let edits = &self.redo;
+        edits.as_slice().last()
     }
 
     /// Returns the inverses of all edits up to the current bank, the oldest edit's first. Applied from the last to
