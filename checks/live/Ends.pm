@@ -13,30 +13,33 @@ our @EXPORT = qw(try_inputs try_outputs);
 
 my $digits = 'e803' x 250_000;
 
+# Returns a long text as a comment shows it.
+sub cut { return substr($_[0], 0, 120) . '..'; }
+
 # Inputs to sessions on the bank `tone`, and all answers.
 my @inputs = (
     ['', ''],
     ["\n\n \t\r\n# undo\n", ''],
     ['undo', "refused 39 NothingToUndo\n"],
     ["undo\r\nredo\r\n", "refused 39 NothingToUndo\nrefused 40 NothingToRedo\n"],
-    ["rename-sample 0 \"u\"\nundo\nredo\nredo", "ok\nok\nok\nrefused 40 NothingToRedo\n"],
+    ["rename-sample 0 \"u\"\nundo\nredo\nredo", "ok\nok # rename-sample 0 \"t\"\nok # rename-sample 0 \"u\"\nrefused 40 NothingToRedo\n"],
     ["quit\nundo\n", "ok\n"],
-    ["undo\0\n\0\nundo", "fault 41 Syntax\nfault 41 Syntax\nrefused 39 NothingToUndo\n"],
-    ["rename-sample 0 \"a\0b\"\nrename-sample 0 x6100\n", "fault 43 Literal\nfault 43 Literal\n"],
-    ['rename-sample 0 "u', "fault 43 Literal\n"],
-    ['rename-sample 0 x7', "fault 43 Literal\n"],
-    ["\xff\xfe\nsave \xff undo\nsave xbank undo\n", "fault 41 Syntax\nfault 41 Syntax\nfault 43 Literal\n"],
-    ["extend 0 x$digits x\nundo", "ok\nok\n"],
-    ["extend 0 x${digits}0 x\nundo", "fault 43 Literal\nrefused 39 NothingToUndo\n"],
+    ["undo\0\n\0\nundo", "fault 41 Syntax # undo?\nfault 41 Syntax # ?\nrefused 39 NothingToUndo\n"],
+    ["rename-sample 0 \"a\0b\"\nrename-sample 0 x6100\n", "fault 43 Literal # \"a?b\"\nfault 43 Literal # x6100\n"],
+    ['rename-sample 0 "u', "fault 43 Literal # \"u\n"],
+    ['rename-sample 0 x7', "fault 43 Literal # x7\n"],
+    ["\xff\xfe\nsave \xff undo\nsave xbank undo\n", "fault 41 Syntax # \xff\xfe\nfault 41 Syntax # \xff\nfault 43 Literal # xbank\n"],
+    ["extend 0 x$digits x\nundo\nredo", "ok\nok # trim 0 250000 0\nok # " . cut("extend 0 x$digits x") . "\n"],
+    ["extend 0 x${digits}0 x\nundo", 'fault 43 Literal # ' . cut("x$digits") . "\nrefused 39 NothingToUndo\n"],
     [' ' x 1_000_000, ''],
     ['#' . 'a' x 1_000_000, ''],
-    ['a' x 1_000_000 . "\nundo\n", "fault 41 Syntax\nrefused 39 NothingToUndo\n"],
-    ['"' x 1_000_000 . "\nundo\n", "fault 43 Literal\nrefused 39 NothingToUndo\n"],
-    ['undo ' x 200_000 . "\nundo\n", "fault 41 Syntax\nrefused 39 NothingToUndo\n"],
+    ['a' x 1_000_000 . "\nundo\n", 'fault 41 Syntax # ' . cut('a' x 1000) . "\nrefused 39 NothingToUndo\n"],
+    ['"' x 1_000_000 . "\nundo\n", 'fault 43 Literal # ' . cut('"' x 1000) . "\nrefused 39 NothingToUndo\n"],
+    ['undo ' x 200_000 . "\nundo\n", "fault 41 Syntax # undo\nrefused 39 NothingToUndo\n"],
     ["undo\n" x 100_000, "refused 39 NothingToUndo\n" x 100_000],
     ["note 100 0 0 60 100\nnote 100 0 1 60 100\nframes 0\n", "ok 1\nok 0\nok\n"],
-    ["note 100000000 0 0 60 100\nnote 100000001 0 0 60 100\nnote 1 0 0 128 0\n", "ok 1\nfault 47 TooLong\nfault 45 BadNote\n"],
-    ["neutral rename-sample 0 \"u\"\nneutral trim 0 1 0\nneutral undo\n", "ok\nrefused 50 NotNeutral\nfault 41 Syntax\n"],
+    ["note 100000000 0 0 60 100\nnote 100000001 0 0 60 100\nnote 1 0 0 128 0\n", "ok 1\nfault 47 TooLong # 100000001\nfault 45 BadNote # 128\n"],
+    ["neutral rename-sample 0 \"u\"\nneutral trim 0 1 0\nneutral undo\n", "ok\nrefused 50 NotNeutral\nfault 41 Syntax # undo\n"],
     ["remove-sample 0\ngroup { rename-sample 0 \"u\" } { remove-sample 0 }\n", "refused 26 InUse\nrefused 48 GroupRefused 1 26 InUse\n"],
 );
 

@@ -3,7 +3,7 @@
 use bank_validity::Limit;
 use base_outputs::{Output, OutputFault};
 use edit_refusals::{Cause, Refusal};
-use live_lines::{Answer, FilePath, RequestFault, put_answer};
+use live_lines::{Answer, Comment, FilePath, RequestFault, put_answer};
 use std::alloc::Global;
 
 /// Refusals and their texts.
@@ -53,7 +53,7 @@ fn refusals_are_reported(rt: HostRuntime) {
 #[test]
 fn faults_are_reported(rt: HostRuntime) {
     for (fault, text) in FAULTS {
-        assert!(rt; is_written_as(rt.alloc(), &Answer::Fault(fault), text));
+        assert!(rt; is_written_as(rt.alloc(), &Answer::Fault(fault, None), text));
     }
 }
 
@@ -61,6 +61,15 @@ fn faults_are_reported(rt: HostRuntime) {
 fn answers_are_written(rt: HostRuntime) {
     let alloc = rt.alloc();
     assert!(rt; is_written_as(alloc, &Answer::Done, b"ok\n"));
+    assert!(rt;
+        is_written_as(
+            alloc,
+            &Answer::Moved(Comment::of(b"trim 0 0 1")),
+            b"ok # trim 0 0 1\n"
+        )
+    );
+    let fault = Answer::Fault(RequestFault::Number, Some(Comment::of(b"-1")));
+    assert!(rt; is_written_as(alloc, &fault, b"fault 42 Number # -1\n"));
     assert!(rt; is_written_as(alloc, &Answer::Counted(0), b"ok 0\n"));
     assert!(rt; is_written_as(alloc, &Answer::Counted(12), b"ok 12\n"));
     assert!(rt; is_written_as(alloc, &Answer::Measured(32_768, 0), b"ok 32768 0\n"));

@@ -5,6 +5,8 @@
 #[cfg(test)]
 mod answers;
 #[cfg(test)]
+mod comments;
+#[cfg(test)]
 mod live_run;
 #[cfg(test)]
 mod requests;

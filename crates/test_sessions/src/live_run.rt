@@ -73,7 +73,7 @@ static ANSWERS: &[u8] = b"\
     ok\n\
     ok\n\
     ok 2\n\
-    ok\n\
+    ok # remove-preset 0\n\
     ok\n\
     ok 0\n\
     ok 0\n\
@@ -97,7 +97,7 @@ static ANSWERS: &[u8] = b"\
     refused 22 NoSuchSample\n\
     refused 50 NotNeutral\n\
     ok\n\
-    fault 41 Syntax\n\
+    fault 41 Syntax # unknown\n\
     ok\n";
 
 // 500 on the left and 1500 on the right.

@@ -6,6 +6,7 @@ use edit_forms::{Edit, SampleStep, Step, TextStep, ZoneStep};
 use edit_refusals::{Cause, Refusal};
 use edit_script::print;
 use inverse_edits::Session;
+use live_lines::Comment;
 use sf_base::{BorrowedBytes, Name20, OutOfMemory};
 use sf_reader::read;
 use sf_writer::write;
@@ -37,6 +38,14 @@ fn is_last(alloc: Global, session: &mut Session<'_>) -> bool {
     session.redo(alloc) == Err(Refusal::NothingToRedo)
 }
 
+/// Whether an edit has this line.
+fn has_line(edit: Option<&Edit<'_>>, line: &[u8]) -> bool {
+    match edit {
+        Some(edit) => Comment::of_edit(edit).bytes() == line,
+        None => false,
+    }
+}
+
 /// `tone` with another name of its sample; below, `tone` with a bank name.
 fn renamed() -> File {
     tone().patched(&[(440, b'u')])
@@ -53,8 +62,12 @@ fn undoes_and_redoes<'a>(alloc: Global, session: &mut Session<'a>, rename: Edit<
         && session.edit(alloc, rename).is_ok()
         && is_last(alloc, session)
         && is_at(alloc, session, &renamed(), back)
+        && has_line(session.next_undo(), b"rename-sample 0 \"t\"")
+        && session.next_redo().is_none()
         && session.undo(alloc).is_ok()
         && is_at(alloc, session, &tone(), b"")
+        && session.next_undo().is_none()
+        && has_line(session.next_redo(), b"rename-sample 0 \"u\"")
         && session.redo(alloc).is_ok()
         && is_at(alloc, session, &renamed(), back)
         && session.undo(alloc).is_ok()
