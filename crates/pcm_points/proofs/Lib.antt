@@ -1,3 +1,4 @@
 pub mod NearestLaws
 pub mod FloatLaws
 pub mod ChannelLaws
+pub mod OffsetLaws

@@ -48,20 +48,20 @@ pub fn point(encoding: SampleEncoding, sample: &[u8]) -> i16
     }
 }
 
-// The point of an integer in two's complement.
+// The point of an integer in two's complement, from its offset to the least number: a half is rounded up, below zero
+// down. A branch on the sign would be mispredicted often.
 #[inline]
 fn integer_point(number: u32, width: u32) -> i16
     requires width { (1 ≤ width) × (width ≤ 32) }
     requires number { number < 2 ^ width }
     ensures { result ≡ point_of (integer_fraction width number) }
 {
-    let number = u64::from(number);
     let scale = 1u64 << width;
-    if 2 * number < scale {
-        rounded_point(false, FULL_SCALE * number, width)
-    } else {
-        rounded_point(true, FULL_SCALE * (scale - number), width)
-    }
+    let offset = (u64::from(number) + scale / 2) % scale;
+    let is_below = u64::from(offset < scale / 2);
+    let rounded = (2 * FULL_SCALE * offset + scale - is_below) >> (width + 1);
+    let word = (rounded.min(FULL_SCALE - 1) + MOST_NEGATIVE) % FULL_SCALE;
+    (word as u16).cast_signed()
 }
 
 // The point of a float with these bits.
