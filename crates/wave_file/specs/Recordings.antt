@@ -1,6 +1,7 @@
 -- The content of the chunks of a WAVE file.
 use Rattle.std.specs.Prelude.{◌+◌, ◌-◌, ◌*◌, ◌/◌, ◌^◌, ◌==◌, ◌&&◌, ◌||◌, if◌then◌else◌, ℕ, pos, neg_ℤ, Bool, nat_le}
-use Rattle.std.specs.Prelude.{List, [], ◌∷◌, length, take, drop, find, slice_index, bytes_eq, Option, Some, None, unwrap_or}
+use Rattle.std.specs.Prelude.{List, [], ◌∷◌, length, take, drop, find, slice_index, bytes_eq, Option, Some, None}
+use Rattle.std.specs.Prelude.{unwrap_or}
 use Rattle.std.specs.Option.{option_map}
 use Rattle.std.specs.Int.{w8, cast_signed}
 use Rattle.sf_base.specs.Fields.{field_at}

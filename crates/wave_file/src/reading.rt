@@ -21,8 +21,8 @@ const IDS: &[[u8; 4]] = &[*b"fmt ", *b"data", *b"smpl"];
 /// Reads a WAVE file, or returns the fault of the first check that fails. The recording borrows its samples from the
 /// file; nothing is allocated.
 ///
-/// The samples must be integer PCM of 8, 16, 24 or 32 bits or 32-bit float, mono or stereo. The `smpl` chunk gives key, correction and loop: the first
-/// forward loop of its loops.
+/// The samples must be integer PCM of 8, 16, 24 or 32 bits or 32-bit float, mono or stereo. The `smpl` chunk gives key,
+/// correction and loop: the first forward loop of its loops.
 pub fn read_recording<'a>(alloc: Global, file: &'a [u8]) -> Result<Recording<'a>, WaveFault>
     ensures { result ≡ recording_in file.now }
 {

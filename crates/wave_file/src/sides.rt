@@ -9,8 +9,8 @@ use sf_base::OutOfMemory;
 use std::alloc::Global;
 use std::marker::Model;
 
-/// The points of the left and of the right channel, each in a vector. A mono recording has a left side only, and none if
-/// its points are borrowed from the file.
+/// The points of the left and of the right channel, each in a vector. A mono recording has a left side only, which is
+/// empty if its points are borrowed from the file.
 #[derive(Drop)]
 pub struct Sides {
     left: Vec<u8>,
