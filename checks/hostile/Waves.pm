@@ -41,17 +41,28 @@ sub wrong_of_sample {
 # 32-bit numbers to write over sizes, counts and frames.
 my @lies = (0, 1, 2, 3, 7, 24, 36, 43, 44, 67, 68, 69, 127, 128, 255, 0x7fff_ffff, 0x8000_0000, 0xffff_fffe, 0xffff_ffff);
 
-# Tests each prefix of the file, changes of each byte, and changes of each number that may be wrong.
+# WAVE files of other samples: 8 bits, two channels of 24 bits in the extensible format, 32 bits, and floats.
+my %others = (
+    '8 bits' => "'RIFF =38 'WAVEfmt 20 =16 01000100 =44100 =44100 01000800 'data =2 00ff",
+    '24 bits' => "'RIFF =72 'WAVEfmt 20 =40 feff0200 =44100 =264600 06001800 16001800 =3 01000000 00001000 8000 00aa00389b71
+        'data =12 7f0000 800000 80ffff ffff7f",
+    '32 bits' => "'RIFF =44 'WAVEfmt 20 =16 01000100 =44100 =176400 04002000 'data =8 00800000 00000080",
+    'floats' => "'RIFF =48 'WAVEfmt 20 =16 03000100 =44100 =176400 04002000 'data =12 0000003f 000080ff 0000c07f",
+);
+
+# Tests each prefix of a file of these samples, changes of each byte, and changes of each number that may be wrong.
 sub try_changes {
-    my ($whole) = @_;
+    my ($samples, $whole) = @_;
     for my $length (0 .. length($whole) - 1) {
-        report("$length bytes of a WAVE file", wrong_of_import(substr $whole, 0, $length));
+        report("$length bytes of a WAVE file of $samples", wrong_of_import(substr $whole, 0, $length));
         for my $byte (0, 1, 2, 3, 127, 128, 255) {
-            report("byte $length of a WAVE file is $byte", wrong_of_import(substr($whole, 0, $length) . chr($byte) . substr($whole, $length + 1)));
+            my $file = substr($whole, 0, $length) . chr($byte) . substr($whole, $length + 1);
+            report("byte $length of a WAVE file of $samples is $byte", wrong_of_import($file));
         }
         next if $length % 4 || $length + 4 > length $whole;
         for my $lie (@lies) {
-            report("number $length of a WAVE file is $lie", wrong_of_import(substr($whole, 0, $length) . pack('V', $lie) . substr($whole, $length + 4)));
+            my $file = substr($whole, 0, $length) . pack('V', $lie) . substr($whole, $length + 4);
+            report("number $length of a WAVE file of $samples is $lie", wrong_of_import($file));
         }
     }
 }
@@ -76,7 +87,8 @@ sub try_waves {
     my $run = wave('tone', 0, 'tone.wav');
     my $whole = read_bytes('tone.wav');
     return report('the WAVE file of a sample', $run->{wrong} // 'is none') if !defined $whole;
-    try_changes($whole);
+    try_changes('16 bits', $whole);
+    try_changes($_, bytes_of($others{$_})) for sort keys %others;
     try_wave_seeds($whole, 3000);
     report('WAVE files imported', $imported >= $floor ? undef : "$imported, not $floor");
 }
