@@ -6,7 +6,8 @@ use crate::note_hints::{LIVE_FIELDS, PRESSED_FIELDS, RELEASED_FIELDS, remark_on_
 use crate::remarks::Remarks;
 use crate::script_hints::remark_on_edit;
 use crate::source_line::{put_caret, show};
-use script_trials::{Span, span_at};
+use crate::word_hints::is_digits;
+use script_trials::{Span, malformed_literal, span_at};
 use std::alloc::Global;
 
 /// Shows a faulty line of a live session, and says what is wrong in it.
@@ -20,15 +21,16 @@ pub fn remark_on_live_line(alloc: Global, line: &[u8], remarks: &mut Remarks) {
         b"press" => remark_on_fields(line, &PRESSED_FIELDS, 1, remarks),
         b"release" => remark_on_fields(line, &RELEASED_FIELDS, 1, remarks),
         word => match command_of(word) {
-            Some(command) => remark_on_command(line, command, remarks),
+            Some(command) => remark_on_command(alloc, line, command, remarks),
             None => remark_on_other(alloc, line, first, remarks),
         },
     }
 }
 
 // Says what follows the word of a command.
-fn remark_on_command(line: &[u8], command: &Form, remarks: &mut Remarks) {
+fn remark_on_command(alloc: Global, line: &[u8], command: &Form, remarks: &mut Remarks) {
     if !command.operands.is_empty() {
+        remark_on_quotes(alloc, line, remarks);
         remarks.line(&[b"The form: ", command.word, b" ", command.operands, b"."]);
         return;
     }
@@ -36,6 +38,26 @@ fn remark_on_command(line: &[u8], command: &Form, remarks: &mut Remarks) {
         put_caret(line, second, remarks);
     }
     remarks.line(&[b"Nothing follows this word."]);
+}
+
+// Says what is wrong with a malformed literal in the place of a path.
+fn remark_on_quotes(alloc: Global, line: &[u8], remarks: &mut Remarks) {
+    let Some(span) = malformed_literal(alloc, line) else {
+        return;
+    };
+    let token = span.of(line);
+    put_caret(line, span, remarks);
+    if token.starts_with(b"x") {
+        remarks.line(&[
+            b"After x there are hex digits. A path that begins with x is in quotes: \"",
+            token,
+            b"\"",
+        ]);
+    } else {
+        remarks.line(&[
+            b"A text in quotes ends with a quote and a blank, and has no quote within.",
+        ]);
+    }
 }
 
 // Says what is wrong in a line that begins with the word of no command: a command that is nearer than any edit is meant.
@@ -48,6 +70,12 @@ fn remark_on_other(alloc: Global, line: &[u8], first: Span, remarks: &mut Remark
         (Some(command), _) => {
             put_caret(line, first, remarks);
             remark_on_misspelt(command, remarks);
+        }
+        (None, None) if !is_digits(word) => {
+            put_caret(line, first, remarks);
+            remarks.line(&[
+                b"No command and no edit has this name: help lists the commands, SCRIPT.md the edits.",
+            ]);
         }
         (None, _) => remark_on_edit(alloc, line, remarks),
     }

@@ -52,6 +52,8 @@ fn remark_on_token(alloc: Global, line: &[u8], span: Span, remarks: &mut Remarks
         remarks.line(&[b"Names are in straight quotes, as in: \"Church\""]);
     } else if has_joined_brace(token) {
         remarks.line(&[b"Braces have blanks around them, as in: { 0 g 48 100 }"]);
+    } else if is_odd_literal(token) && place.accepts(b"x0000") {
+        remarks.line(&[b"A point has four hex digits."]);
     } else if is_long_name(token) {
         remarks.line(&[b"A name has 20 characters at most."]);
     } else if token == b"{".as_slice() && place.accepts(b"0") {
@@ -59,6 +61,14 @@ fn remark_on_token(alloc: Global, line: &[u8], span: Span, remarks: &mut Remarks
     } else if !remark_on_word(token, remarks) {
         remark_on_expected(place, remarks);
         remark_on_amount(line, span, remarks);
+    }
+}
+
+// Whether a token is hex digits of an odd number of bytes.
+fn is_odd_literal(token: &[u8]) -> bool {
+    match token.split_first() {
+        Some((b'x', digits)) => digits.len() % 4 == 2,
+        _ => false,
     }
 }
 
