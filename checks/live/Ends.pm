@@ -148,7 +148,7 @@ sub wrong_of_shell {
 sub wrong_of_save {
     my ($save, $want) = @_;
     my $run = live('tone', "rename-sample 0 \"u\"\n$save\nundo\nundo\nsave saved.2 undo.2\n");
-    my $wrong = is_done($run) // ($run->{answers} eq "ok\n$want\nok\nrefused 39 NothingToUndo\nok\n" ? undef : 'answered ' . one_line($run->{answers}));
+    my $wrong = is_done($run) // ($run->{answers} eq "ok\n$want\nok # rename-sample 0 \"t\"\nrefused 39 NothingToUndo\nok\n" ? undef : 'answered ' . one_line($run->{answers}));
     return $wrong // (same('saved.2', 'tone') && read_bytes('undo.2') eq '' ? undef : 'the bank is another');
 }
 
