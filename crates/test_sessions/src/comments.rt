@@ -55,5 +55,5 @@ fn long_comments_are_cut(rt: HostRuntime) {
     assert!(rt; cut.bytes().len() == 122);
     assert!(rt; cut.bytes().ends_with(b"a.."));
     assert!(rt; Comment::of(&text[1..]).bytes() == &text[1..]);
-    assert!(rt; Comment::of(b"\x1bc\x7f\xc3\xbc").bytes() == b"?c?\xc3\xbc");
+    assert!(rt; Comment::of(b"\x1bc\x7f\xc3\xbc").bytes() == b"?c?\xc3\xbc".as_slice());
 }
