@@ -91,6 +91,10 @@ of_recording wave.HalfFrame = refl
 of_recording wave.ShortSampler = refl
 of_recording wave.UnityNote = refl
 of_recording wave.LoopOutside = refl
+of_recording wave.NoSuchChannel = refl
+of_recording wave.TwoChannels = refl
+of_recording wave.NotAPair = refl
+of_recording wave.SidesDiffer = refl
 
 of_output : (it : OutputFault) → IsListed (Output it)
 of_output output.SameFile = refl

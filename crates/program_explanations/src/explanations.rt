@@ -65,7 +65,7 @@ pub struct Explanations<'t>(pub &'t [Explanation]);
 const ANY_NUMBERS: PresetNumbers = PresetNumbers { bank: 0, number: 0 };
 
 /// One fault or refusal for each number, in the order of the numbers. The fields of a variant have any value.
-static ALL: [FaultCode; 65] = [
+static ALL: [FaultCode; 69] = [
     FaultCode::Reading(ReadFault::NotRiff),
     FaultCode::Reading(ReadFault::NotSfbk),
     FaultCode::Reading(ReadFault::Truncated),
@@ -131,6 +131,10 @@ static ALL: [FaultCode; 65] = [
     FaultCode::Presets(PresetFault::InUse(ANY_NUMBERS)),
     FaultCode::Presets(PresetFault::BankTooHigh(ANY_NUMBERS)),
     FaultCode::Presets(PresetFault::NoneFree(ANY_NUMBERS)),
+    FaultCode::Recording(WaveFault::NoSuchChannel),
+    FaultCode::Recording(WaveFault::TwoChannels),
+    FaultCode::Recording(WaveFault::NotAPair),
+    FaultCode::Recording(WaveFault::SidesDiffer),
 ];
 
 impl FaultCode {
@@ -459,7 +463,7 @@ fn of_recording(fault: WaveFault) -> (&'static str, &'static str) {
         ),
         WaveFault::ChannelCount => (
             "The file has neither one channel nor two.",
-            "Select two: `sox IN -b 16 OUT.wav remix 1 2`.",
+            "Give one by `--channel N`, or select two: `sox IN OUT.wav remix 1 2`.",
         ),
         WaveFault::NoData => (
             "The file has no data chunk, so no sound.",
@@ -480,6 +484,22 @@ fn of_recording(fault: WaveFault) -> (&'static str, &'static str) {
         WaveFault::LoopOutside => (
             "The loop of the sampler chunk is empty, or outside the data.",
             "Remove it: `sox IN -b 16 OUT.wav`; set key and loop by edits.",
+        ),
+        WaveFault::NoSuchChannel => (
+            "The file has fewer channels than `--channel` says.",
+            "Give a channel of it; they count from 1.",
+        ),
+        WaveFault::TwoChannels => (
+            "The recording is stereo, but the sample is mono.",
+            "Give one channel by `--channel N`.",
+        ),
+        WaveFault::NotAPair => (
+            "The sample is not one of a left and a right sample that link to each other.",
+            "Leave `--pair` out, or link two samples by `set-kind`.",
+        ),
+        WaveFault::SidesDiffer => (
+            "The samples of the pair differ in length or in rate.",
+            "Export each one without `--pair`.",
         ),
     }
 }

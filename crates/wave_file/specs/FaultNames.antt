@@ -3,7 +3,8 @@ use Rattle.std.specs.Prelude.{ℕ, List, codes}
 use Rattle.wave_file.specs.declared.fault.WaveFault.{WaveFault}
 use Rattle.wave_file.specs.declared.fault.WaveFault.TheVariants.{NotWave, Truncated, Compressed, NoFormat}
 use Rattle.wave_file.specs.declared.fault.WaveFault.TheVariants.{SampleBits, ChannelCount, NoData, HalfFrame}
-use Rattle.wave_file.specs.declared.fault.WaveFault.TheVariants.{ShortSampler, UnityNote, LoopOutside}
+use Rattle.wave_file.specs.declared.fault.WaveFault.TheVariants.{ShortSampler, UnityNote, LoopOutside, NoSuchChannel}
+use Rattle.wave_file.specs.declared.fault.WaveFault.TheVariants.{TwoChannels, NotAPair, SidesDiffer}
 
 abbrev pub number_of : WaveFault → ℕ
 number_of NotWave = 53
@@ -17,6 +18,10 @@ number_of HalfFrame = 60
 number_of ShortSampler = 61
 number_of UnityNote = 62
 number_of LoopOutside = 63
+number_of NoSuchChannel = 71
+number_of TwoChannels = 72
+number_of NotAPair = 73
+number_of SidesDiffer = 74
 
 abbrev pub name_of : WaveFault → List ℕ
 name_of NotWave = codes "NotWave"
@@ -30,3 +35,7 @@ name_of HalfFrame = codes "HalfFrame"
 name_of ShortSampler = codes "ShortSampler"
 name_of UnityNote = codes "UnityNote"
 name_of LoopOutside = codes "LoopOutside"
+name_of NoSuchChannel = codes "NoSuchChannel"
+name_of TwoChannels = codes "TwoChannels"
+name_of NotAPair = codes "NotAPair"
+name_of SidesDiffer = codes "SidesDiffer"

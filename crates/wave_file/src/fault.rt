@@ -1,4 +1,4 @@
-//! Why a WAVE file can't be read.
+//! Why a recording can't be read from a WAVE file, put in a sample's place, or written as one.
 ghost use Rattle.std.specs.Prelude.{◌≡◌};
 ghost use Rattle.wave_file.specs.declared.fault.WaveFault.TheVariants as faults;
 ghost use Rattle.wave_file.specs.FaultNames.{number_of, name_of};
@@ -6,7 +6,7 @@ ghost use Rattle.wave_file.specs.FaultNames.{number_of, name_of};
 use riff_chunks::Truncated;
 use thiserror::Error;
 
-/// The first check that a WAVE file fails.
+/// The first check that a WAVE file fails, or why its recording or a pair of samples doesn't fit.
 #[derive(Clone, Copy, Debug, PartialEq, Eq, Error)]
 pub enum WaveFault {
     #[error("the file is no RIFF file of the form WAVE")]
@@ -32,6 +32,14 @@ pub enum WaveFault {
     UnityNote = 62,
     #[error("the loop is empty or not in the data")]
     LoopOutside = 63,
+    #[error("there is no such channel")]
+    NoSuchChannel = 71,
+    #[error("the recording is stereo, and the sample is not one of a pair")]
+    TwoChannels = 72,
+    #[error("the sample is not one of a pair")]
+    NotAPair = 73,
+    #[error("the samples of the pair differ in length or rate")]
+    SidesDiffer = 74,
 }
 
 impl WaveFault {
@@ -58,6 +66,10 @@ impl WaveFault {
             WaveFault::ShortSampler => "ShortSampler",
             WaveFault::UnityNote => "UnityNote",
             WaveFault::LoopOutside => "LoopOutside",
+            WaveFault::NoSuchChannel => "NoSuchChannel",
+            WaveFault::TwoChannels => "TwoChannels",
+            WaveFault::NotAPair => "NotAPair",
+            WaveFault::SidesDiffer => "SidesDiffer",
         }
     }
 }
