@@ -1,4 +1,5 @@
 pub mod AppLaws
+mod ChannelLaws
 pub mod CommandExamples
 pub mod CommandLaws
 pub mod FaultLaws

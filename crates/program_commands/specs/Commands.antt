@@ -92,6 +92,22 @@ copy_arguments =
     Single (codes "name") ∷ Single (codes "as") ∷ dry_run_flag ∷ script_option ∷ force_flag ∷ input_path
     ∷ Member (codes "MEMBER") ∷ Number (codes "N") ∷ output_path ∷ undo_path ∷ []
 
+-- the options of reading a recording
+abbrev pub read_arguments : List Argument
+read_arguments = Single (codes "channel") ∷ Single (codes "key") ∷ Single (codes "dither") ∷ []
+
+-- the arguments of `import`
+abbrev pub import_arguments : List Argument
+import_arguments =
+    Single (codes "name") ∷ read_arguments
+    ++ force_flag ∷ input_path ∷ Path (codes "WAVE") ∷ output_path ∷ undo_path ∷ []
+
+-- the arguments of `replace`
+abbrev pub replace_arguments : List Argument
+replace_arguments =
+    read_arguments
+    ++ force_flag ∷ input_path ∷ Number (codes "S") ∷ Path (codes "WAVE") ∷ output_path ∷ undo_path ∷ []
+
 -- the commands up to `live`, each with its arguments
 abbrev pub commands_to_live : List (Text × List Argument)
 commands_to_live =
@@ -100,7 +116,7 @@ commands_to_live =
     ∷ (codes "copy", copy_arguments)
     ∷ (codes "diff", force_flag ∷ Path (codes "A") ∷ Path (codes "B") ∷ output_path ∷ [])
     ∷ (codes "explain", Word (codes "TOPIC") ∷ [])
-    ∷ (codes "import", force_flag ∷ input_path ∷ Path (codes "WAVE") ∷ output_path ∷ undo_path ∷ [])
+    ∷ (codes "import", import_arguments)
     ∷ (codes "keep", Single (codes "notes") ∷ Flag (codes "zones") ∷ Repeated (codes "preset") ∷ plan_arguments)
     ∷ (codes "live", force_flag ∷ report_flag ∷ input_path ∷ Path (codes "PCM") ∷ [])
     ∷ []
@@ -112,11 +128,12 @@ commands_from_map =
     ∷ (codes "merge", Small (codes "shift") (codes "0") ∷ second_bank_arguments)
     ∷ (codes "new", force_flag ∷ Small (codes "minor") (codes "4") ∷ output_path ∷ [])
     ∷ (codes "play", force_flag ∷ report_flag ∷ input_path ∷ Path (codes "NOTES") ∷ output_path ∷ [])
+    ∷ (codes "replace", replace_arguments)
     ∷ (codes "script", force_flag ∷ Flag (codes "no-points") ∷ input_path ∷ output_path ∷ [])
     ∷ (codes "show", Flag (codes "zones") ∷ Flag (codes "uses") ∷ input_path ∷ [])
     ∷ (codes "take", Repeated (codes "preset") ∷ second_bank_arguments)
     ∷ (codes "tidy", Flag (codes "merge") ∷ plan_arguments)
-    ∷ (codes "wave", force_flag ∷ input_path ∷ Number (codes "S") ∷ output_path ∷ [])
+    ∷ (codes "wave", Flag (codes "pair") ∷ force_flag ∷ input_path ∷ Number (codes "S") ∷ output_path ∷ [])
     ∷ []
 
 -- all commands

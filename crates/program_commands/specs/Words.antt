@@ -1,5 +1,5 @@
 -- The operands of each request, and when the words of a command ask for it.
-use Rattle.std.specs.Prelude.{◌≡◌, ◌≢◌, ◌<◌, ◌^◌, ℕ, Bool, true, false, not, List, [], ◌∷◌, ◌++◌, codes, length}
+use Rattle.std.specs.Prelude.{◌≡◌, ◌≢◌, ◌<◌, ◌^◌, ℕ, suc, Bool, true, false, not, List, [], ◌∷◌, ◌++◌, codes, length}
 use Rattle.std.specs.Prelude.{◌||◌, if◌then◌else◌, option_map, take_while}
 use Rattle.std.specs.Prelude.{◌⊎◌, MatchResult, Option, Result, Some, None, IfSome, IsSome}
 use Rattle.std.specs.Borrow.{Bor}
@@ -17,6 +17,7 @@ use Rattle.plan_presets.specs.declared.numbers.CopiedMember.{CopiedMember}
 use Rattle.plan_presets.specs.declared.numbers.CopiedMember.TheVariants as copied
 use Rattle.plan_presets.specs.declared.numbers.PresetNumbers.{PresetNumbers}
 use Rattle.plan_presets.specs.declared.numbers.TakenPreset.{TakenPreset}
+use Rattle.wave_file.specs.declared.options.ReadOptions.{ReadOptions}
 use Rattle.program_commands.specs.declared.explain.Topic.{Topic}
 use Rattle.program_commands.specs.declared.explain.Topic.TheVariants as subject
 use Rattle.program_commands.specs.declared.plans.CopyPaths.{CopyPaths}
@@ -29,15 +30,17 @@ use Rattle.program_commands.specs.declared.plans.TakePaths.{TakePaths}
 use Rattle.program_commands.specs.declared.plans.TidyPaths.{TidyPaths}
 use Rattle.program_commands.specs.declared.plans.Zones.{Zones}
 use Rattle.program_commands.specs.declared.plans.Zones.TheVariants as zones
+use Rattle.program_commands.specs.declared.recordings.ImportPaths.{ImportPaths}
+use Rattle.program_commands.specs.declared.recordings.ReplacePaths.{ReplacePaths}
 use Rattle.program_commands.specs.declared.words.Request.{Request}
 use Rattle.program_commands.specs.declared.words.Request.TheVariants.{Apply, ApplyOnly, Canon, Copy, Diff}
 use Rattle.program_commands.specs.declared.words.Request.TheVariants.{Explain, Import, Keep, Live, Map, Merge, New}
-use Rattle.program_commands.specs.declared.words.Request.TheVariants.{Play, Script, Show, Take, Tidy, Wave}
+use Rattle.program_commands.specs.declared.words.Request.TheVariants.{Play, Replace, Script, Show, Take, Tidy, Wave}
 use Rattle.program_commands.specs.declared.words.Forms.{Forms}
 use Rattle.program_commands.specs.declared.words.Forms.TheVariants.{Every, Neutral}
 
 -- an operand of a request with its name and its value: a word, the path of an input, that of an output, a path that is
--- not `-`, a name of a member, a number with its width in bits, a flag, a flag that is given, a flag that is not given,
+-- not `-`, a name of a member, a number with its width in bits, the same as the value of an option, a flag, a flag that is given, a flag that is not given,
 -- an option or operand that is not used, an option and a flag of which at most one is given, the numbers of a preset,
 -- presets, presets to copy, or a topic of `explain`
 pub data Operand : Type 0 where
@@ -47,6 +50,7 @@ pub data Operand : Type 0 where
   Path : Text → Text → Operand
   Name : Text → List ℕ → Operand
   Number : Text → ℕ → ℕ → Operand
+  Decimal : Text → ℕ → ℕ → Operand
   Flag : Text → Bool → Operand
   Set : Text → Operand
   Unset : Text → Operand
@@ -164,6 +168,45 @@ take_operands take =
 abbrev pub tidy_operands : TidyPaths → List Operand
 tidy_operands tidy = plan_operands tidy.paths ++ Flag (codes "merge") tidy.merge ∷ []
 
+-- the options of reading a recording: a channel, which counts from 1 in the words, a root key and a seed
+abbrev pub optional_channel : Option ℕ → Operand
+optional_channel (Some channel) = Decimal (codes "channel") 16 (suc channel)
+optional_channel None = Absent (codes "channel")
+
+abbrev pub optional_key : Option ℕ → Operand
+optional_key (Some key) = Decimal (codes "key") 7 key
+optional_key None = Absent (codes "key")
+
+abbrev pub optional_seed : Option ℕ → Operand
+optional_seed (Some seed) = Decimal (codes "dither") 64 seed
+optional_seed None = Absent (codes "dither")
+
+abbrev pub option_operands : ReadOptions → List Operand
+option_operands options =
+    optional_channel options.channel ∷ optional_key options.key ∷ optional_seed options.dither ∷ []
+
+-- the operands of `import`
+abbrev pub import_operands : ImportPaths → List Operand
+import_operands paths =
+    Input (codes "IN") paths.input.now
+    ∷ Input (codes "WAVE") paths.wave.now
+    ∷ Output (codes "OUT") paths.out.now
+    ∷ Output (codes "UNDO") paths.undo.now
+    ∷ optional_name (codes "name") paths.name
+    ∷ Flag (codes "force") paths.force
+    ∷ option_operands paths.options
+
+-- the operands of `replace`
+abbrev pub replace_operands : ReplacePaths → List Operand
+replace_operands paths =
+    Input (codes "IN") paths.input.now
+    ∷ Number (codes "S") 32 paths.sample
+    ∷ Input (codes "WAVE") paths.wave.now
+    ∷ Output (codes "OUT") paths.out.now
+    ∷ Output (codes "UNDO") paths.undo.now
+    ∷ Flag (codes "force") paths.force
+    ∷ option_operands paths.options
+
 -- the operand of `explain`
 abbrev pub topic_operands : Topic → List Operand
 topic_operands topic = About (codes "TOPIC") topic ∷ []
@@ -197,13 +240,7 @@ operands_of (Diff paths) =
     ∷ Flag (codes "force") paths.force
     ∷ []
 operands_of (Explain topic) = topic_operands topic
-operands_of (Import paths) =
-    Input (codes "IN") paths.input.now
-    ∷ Input (codes "WAVE") paths.wave.now
-    ∷ Output (codes "OUT") paths.out.now
-    ∷ Output (codes "UNDO") paths.undo.now
-    ∷ Flag (codes "force") paths.force
-    ∷ []
+operands_of (Import paths) = import_operands paths
 operands_of (Keep keep) = keep_operands keep
 operands_of (Live paths) =
     Input (codes "IN") paths.input.now ∷ Path (codes "PCM") paths.pcm.now ∷ Flag (codes "force") paths.force ∷ []
@@ -223,6 +260,7 @@ operands_of (Play paths) =
     ∷ Output (codes "OUT") paths.out.now
     ∷ Flag (codes "force") paths.force
     ∷ []
+operands_of (Replace paths) = replace_operands paths
 operands_of (Script paths) =
     Input (codes "IN") paths.input.now
     ∷ Output (codes "OUT") paths.out.now
@@ -237,6 +275,7 @@ operands_of (Wave paths) =
     Input (codes "IN") paths.input.now
     ∷ Number (codes "S") 32 paths.sample
     ∷ Output (codes "OUT") paths.out.now
+    ∷ Flag (codes "pair") paths.pair
     ∷ Flag (codes "force") paths.force
     ∷ []
 
@@ -255,6 +294,7 @@ command_of (Map paths) = codes "map"
 command_of (Merge merge) = codes "merge"
 command_of (New bank) = codes "new"
 command_of (Play paths) = codes "play"
+command_of (Replace paths) = codes "replace"
 command_of (Script paths) = codes "script"
 command_of (Show paths) = codes "show"
 command_of (Take take) = codes "take"
@@ -339,6 +379,7 @@ IsGiven rows (Output name path) = option_map output_named (first_of name rows) �
 IsGiven rows (Path name path) = (first_of name rows ≡ Some path) × (path ≢ standard_word)
 IsGiven rows (Name option name) = (first_of option rows ≡ Some name) × IsName name
 IsGiven rows (Number name bits n) = (text : Text) × (one_of name rows ≡ Some text) × IsDecimal bits text n
+IsGiven rows (Decimal option bits n) = (text : Text) × (first_of option rows ≡ Some text) × IsDecimal bits text n
 IsGiven rows (Flag name value) =
     (one_of name rows ≡ Some (codes "true") → value ≡ true)
     × (one_of name rows ≡ Some (codes "false") → value ≡ false)

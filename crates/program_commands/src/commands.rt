@@ -77,6 +77,25 @@ const UNDO_FORCE: Operand = Operand::Flag("force", "Writes UNDO even if a bank i
 /// The flag that lets UNDO and the script of the edits replace banks.
 const PLAN_FORCE: Operand = Operand::Flag("force", "Writes UNDO and FILE even if a bank is there");
 
+/// The options of reading a recording.
+const CHANNEL: Operand = Operand::Single(
+    "channel",
+    "N",
+    "Reads this channel, counted from 1, as mono; needed where there are more than two",
+);
+
+const KEY: Operand = Operand::Single(
+    "key",
+    "K",
+    "Sets this root key, 0 to 127, in place of the recording's",
+);
+
+const DITHER: Operand = Operand::Single(
+    "dither",
+    "SEED",
+    "Dithers samples of more than 16 bits, by random numbers from this seed",
+);
+
 /// The flag of every command.
 const EXPLAIN: Operand = Operand::Flag(
     "explain",
@@ -174,6 +193,14 @@ static COMMANDS_TO_LIVE: [Entry; 8] = [
         name: "import",
         about: "Adds a recording to a bank as its last sample, or as two for left and right",
         operands: &[
+            Operand::Single(
+                "name",
+                "NAME",
+                "Gives the sample this name; for stereo its first 18 bytes",
+            ),
+            CHANNEL,
+            KEY,
+            DITHER,
             UNDO_FORCE,
             Operand::Path("IN", "The bank to add to"),
             Operand::Path(
@@ -232,7 +259,7 @@ static COMMANDS_TO_LIVE: [Entry; 8] = [
 ];
 
 /// The commands from `map` on.
-static COMMANDS_FROM_MAP: [Entry; 9] = [
+static COMMANDS_FROM_MAP: [Entry; 10] = [
     Entry {
         name: "map",
         about: "Draws the key and velocity ranges of a preset or an instrument as an SVG picture",
@@ -291,6 +318,22 @@ static COMMANDS_FROM_MAP: [Entry; 9] = [
             Operand::Path("OUT", "Where the WAVE file is written"),
         ],
         example: "Example: sfbank play organ.sf2 notes.txt notes.wav",
+    },
+    Entry {
+        name: "replace",
+        about: "Puts a recording in the place of a sample, or of both samples of a pair",
+        operands: &[
+            CHANNEL,
+            KEY,
+            DITHER,
+            UNDO_FORCE,
+            Operand::Path("IN", "The bank to edit"),
+            Operand::Number("S", "The number that `show` lists the sample by"),
+            Operand::Path("WAVE", "The recording, a WAVE file"),
+            Operand::Path("OUT", "Where the edited bank is written; may be IN"),
+            Operand::Path("UNDO", "Where the undo script is written"),
+        ],
+        example: "Example: sfbank replace organ.sf2 0 flute.wav edited.sf2 undo.txt",
     },
     Entry {
         name: "script",
@@ -356,6 +399,10 @@ static COMMANDS_FROM_MAP: [Entry; 9] = [
         name: "wave",
         about: "Writes a sample of a bank as a WAVE file",
         operands: &[
+            Operand::Flag(
+                "pair",
+                "Writes the left and the right sample of its pair, as stereo",
+            ),
             FORCE,
             Operand::Path("IN", "The bank that has the sample"),
             Operand::Number("S", "The number that `show` lists it by"),

@@ -7,12 +7,14 @@ mod names;
 mod paths;
 mod plans;
 mod presets;
+mod recordings;
 mod words;
 
 pub use explain::{Topic, asks_for_explanations};
 pub use names::recording_name;
 pub use plans::{CopyPaths, KeepPaths, Kept, MergePaths, PlanPaths, TakePaths, TidyPaths, Zones};
+pub use recordings::{ImportPaths, ReplacePaths, WavePaths};
 pub use words::{
-    ApplyOnlyPaths, ApplyPaths, CanonPaths, DiffPaths, Forms, ImportPaths, LivePaths, MapPaths,
-    NewBank, PlayPaths, Request, ScriptPaths, ShowPaths, WavePaths, request_of,
+    ApplyOnlyPaths, ApplyPaths, CanonPaths, DiffPaths, Forms, LivePaths, MapPaths, NewBank,
+    PlayPaths, Request, ScriptPaths, ShowPaths, request_of,
 };

@@ -1,12 +1,12 @@
 //! The operands of the commands that find edits for a bank.
 ghost use Rattle.std.specs.Prelude.{◌≡◌, IfOk, codes, false, true};
 ghost use Rattle.clap.specs.Words.{first_of};
-ghost use Rattle.sf_base.specs.Names.{IsName};
 ghost use Rattle.program_commands.specs.Words.{copy_operands, keep_operands, kept_operands, member_operands};
 ghost use Rattle.program_commands.specs.Words.{merge_operands, plan_operands, rows_in, take_operands};
-ghost use Rattle.program_commands.specs.Words.{is_played, optional_name, tidy_operands, AreGiven, FindsOne, Flag};
+ghost use Rattle.program_commands.specs.Words.{is_played, tidy_operands, AreGiven, FindsOne, Flag};
 ghost use Rattle.program_commands.specs.Words.{IsGiven, NotBoth};
 
+use crate::names::read_optional_name;
 use crate::paths::{read_input, read_optional_output, read_output};
 use crate::presets::{read_optional_preset, read_values};
 use crate::words::{is_set, read_flag, read_number, read_small, read_word};
@@ -217,23 +217,6 @@ pub(crate) fn read_copy<'a>(matches: &ArgMatches<'a>) -> Option<CopyPaths<'a>>
         member: read_member(matches)?,
         name: read_optional_name(matches, "name")?,
     })
-}
-
-// Returns the name that the option gives, if it is used.
-fn read_optional_name(matches: &ArgMatches<'_>, option: &str) -> Option<Option<Name20>>
-    ensures { FindsOne result (λ name. IsGiven (rows_in matches.now) (optional_name option.now name)) }
-{
-    match read_word(matches, option) {
-        Some(text) => Some(Some(parse_name(text)?)),
-        None => Some(None),
-    }
-}
-
-// Returns the name with these bytes.
-fn parse_name(text: &str) -> Option<Name20>
-    ensures { FindsOne result (λ name. (name ≡ text.now) × IsName name) }
-{
-    Name20::from_bytes(text.as_bytes()).ok()
 }
 
 // Returns what is copied. Only a preset can get numbers.

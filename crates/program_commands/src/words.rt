@@ -13,6 +13,9 @@ use crate::plans::{
     CopyPaths, KeepPaths, MergePaths, TakePaths, TidyPaths, read_copy, read_keep, read_merge,
     read_take, read_tidy, saves_in_dry_run,
 };
+use crate::recordings::{
+    ImportPaths, ReplacePaths, WavePaths, read_import, read_replace, read_wave,
+};
 use bank_changes::Owner;
 use clap::error::ErrorKind;
 use clap::{ArgMatches, Command, Error};
@@ -48,6 +51,8 @@ pub enum Request<'a> {
     New(NewBank<'a>),
     /// Play notes on a bank into a WAVE file.
     Play(PlayPaths<'a>),
+    /// Put a recording in the place of a sample.
+    Replace(ReplacePaths<'a>),
     /// Write a script that makes a bank from an empty one.
     Script(ScriptPaths<'a>),
     /// List what a bank has.
@@ -103,17 +108,6 @@ pub struct DiffPaths<'a> {
     pub second: &'a str,
     pub out: &'a str,
     /// Whether the script may replace a bank.
-    pub force: bool,
-}
-
-/// The operands of `import`.
-#[derive(Clone, Copy)]
-pub struct ImportPaths<'a> {
-    pub input: &'a str,
-    pub wave: &'a str,
-    pub out: &'a str,
-    pub undo: &'a str,
-    /// Whether the undo script may replace a bank.
     pub force: bool,
 }
 
@@ -178,17 +172,6 @@ pub struct ShowPaths<'a> {
     pub uses: bool,
 }
 
-/// The operands of `wave`.
-#[derive(Clone, Copy)]
-pub struct WavePaths<'a> {
-    pub input: &'a str,
-    /// The sample's number.
-    pub sample: u32,
-    pub out: &'a str,
-    /// Whether the WAVE file may replace a bank.
-    pub force: bool,
-}
-
 /// Returns what the words ask for. The first word is the program's name. For `--help` and `--version` it returns an
 /// error of clap's that has the text to print.
 pub fn request_of<'a, S: AsStr>(alloc: Global, words: &'a [S]) -> Result<Request<'a>, Error>
@@ -226,11 +209,17 @@ fn no_request(matches: &ArgMatches<'_>) -> &'static str {
         Some(("copy", _)) => {
             "copy takes --name NAME of at most 20 bytes, and --as BANK:NUMBER for a preset only, such as --as 8:24"
         }
+        Some(("import", _)) => {
+            "import takes --channel from 1 on, --key from 0 to 127, --dither SEED, and --name NAME of at most 20 bytes"
+        }
         Some(("keep", _)) => {
             "keep needs either --notes NOTES, which --zones can follow, or --preset BANK:NUMBER, such as --preset 0:24"
         }
         Some(("live", _)) => {
             "live writes its answers to the standard output, so PCM can't be -: name a pipe or a file"
+        }
+        Some(("replace", _)) => {
+            "replace takes --channel from 1 on, --key from 0 to 127, and --dither SEED"
         }
         Some(("take", _)) => {
             "take needs --preset BANK:NUMBER[=BANK:NUMBER], such as --preset 0:24 or --preset 0:24=8:24"
@@ -303,6 +292,16 @@ fn request_to_copy<'a>(words: &ArgMatches<'a>) -> Option<Request<'a>>
     }
 }
 
+/// Returns the request of `import`, whose operands hold a name too.
+fn request_to_import<'a>(words: &ArgMatches<'a>) -> Option<Request<'a>>
+    ensures { FindsOne result (AsksFor (Some (codes "import", rows_in words.now))) }
+{
+    match read_import(words) {
+        Some(paths) => Some(Request::Import(paths)),
+        None => None,
+    }
+}
+
 /// Returns the request of a command other than `keep` and `take`.
 fn request_of_command<'a>(name: &str, words: &ArgMatches<'a>) -> Option<Request<'a>>
     requires not_keep { name.now ≢ codes "keep" }
@@ -315,12 +314,13 @@ fn request_of_command<'a>(name: &str, words: &ArgMatches<'a>) -> Option<Request<
         "copy" => return request_to_copy(words),
         "diff" => Request::Diff(read_diff(words)?),
         "explain" => Request::Explain(read_topic(words)?),
-        "import" => Request::Import(read_import(words)?),
+        "import" => return request_to_import(words),
         "live" => Request::Live(read_live(words)?),
         "map" => Request::Map(read_map(words)?),
         "merge" => Request::Merge(read_merge(words)?),
         "new" => Request::New(read_new(words)?),
         "play" => Request::Play(read_play(words)?),
+        "replace" => Request::Replace(read_replace(words)?),
         "script" => Request::Script(read_script(words)?),
         "show" => Request::Show(read_show(words)?),
         "tidy" => Request::Tidy(read_tidy(words)?),
@@ -388,18 +388,6 @@ fn read_diff<'a>(matches: &ArgMatches<'a>) -> Option<DiffPaths<'a>>
         first: read_input(matches, "A")?,
         second: read_input(matches, "B")?,
         out: read_output(matches, "OUT")?,
-        force: read_flag(matches, "force"),
-    })
-}
-
-fn read_import<'a>(matches: &ArgMatches<'a>) -> Option<ImportPaths<'a>>
-    ensures { FindsOne result (λ paths. AreGiven (rows_in matches.now) (operands_of (Request.Import paths))) }
-{
-    Some(ImportPaths {
-        input: read_input(matches, "IN")?,
-        wave: read_input(matches, "WAVE")?,
-        out: read_output(matches, "OUT")?,
-        undo: read_output(matches, "UNDO")?,
         force: read_flag(matches, "force"),
     })
 }
@@ -478,17 +466,6 @@ fn read_show<'a>(matches: &ArgMatches<'a>) -> Option<ShowPaths<'a>>
         input: read_input(matches, "IN")?,
         zones: read_flag(matches, "zones"),
         uses: read_flag(matches, "uses"),
-    })
-}
-
-fn read_wave<'a>(matches: &ArgMatches<'a>) -> Option<WavePaths<'a>>
-    ensures { FindsOne result (λ paths. AreGiven (rows_in matches.now) (operands_of (Request.Wave paths))) }
-{
-    Some(WavePaths {
-        input: read_input(matches, "IN")?,
-        sample: read_number(matches, "S")?,
-        out: read_output(matches, "OUT")?,
-        force: read_flag(matches, "force"),
     })
 }
 

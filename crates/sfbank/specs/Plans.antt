@@ -3,7 +3,7 @@ use Rattle.std.specs.Prelude.{◌≡◌, ◌&&◌, ◌||◌, ℕ, List, [], ◌�
 use Rattle.std.specs.Prelude.{if◌then◌else◌, codes, not, ⊤}
 use Rattle.std.specs.Borrow.{Bor}
 use Rattle.std.specs.Path.{path_file_stem}
-use Rattle.std.specs.Option.{unwrap_or}
+use Rattle.std.specs.Option.{option_map_or, unwrap_or}
 use Rattle.base_outputs.specs.declared.output_fault.OutputFault.{OutputFault}
 use Rattle.base_outputs.specs.declared.output_fault.OutputFault.TheVariants.{SameFile, HoldsBank}
 use Rattle.file_host.specs.declared.input_fault.InputFault.{InputFault}
@@ -15,10 +15,12 @@ use Rattle.show_listing.specs.declared.listing.Details.{Details}
 use Rattle.program_commands.specs.declared.explain.Topic.{Topic}
 use Rattle.program_commands.specs.declared.words.Request.{Request}
 use Rattle.program_commands.specs.declared.words.Request.TheVariants.{Apply, ApplyOnly, Canon, Copy, Diff, Explain, Import, Keep}
-use Rattle.program_commands.specs.declared.words.Request.TheVariants.{Live, Map, Merge, New, Play, Script, Show, Take}
-use Rattle.program_commands.specs.declared.words.Request.TheVariants.{Tidy, Wave}
+use Rattle.program_commands.specs.declared.words.Request.TheVariants.{Live, Map, Merge, New, Play, Replace, Script, Show}
+use Rattle.program_commands.specs.declared.words.Request.TheVariants.{Take, Tidy, Wave}
 use Rattle.program_commands.specs.declared.plans.Kept as kept
 use Rattle.program_commands.specs.declared.plans.Kept.TheVariants.{Notes, Presets}
+use Rattle.program_commands.specs.declared.recordings.ImportPaths.{ImportPaths}
+use Rattle.program_commands.specs.declared.recordings.WavePaths.{WavePaths}
 use Rattle.program_commands.specs.declared.words.LivePaths.{LivePaths}
 use Rattle.program_commands.specs.declared.plans.PlanPaths.{PlanPaths}
 use Rattle.program_commands.specs.declared.words.ShowPaths.{ShowPaths}
@@ -31,7 +33,7 @@ use Rattle.sfbank.specs.BankScripts.{script_outcome}
 use Rattle.sfbank.specs.Differences.{TwoBanks, two_banks_of}
 use Rattle.sfbank.specs.NewBanks.{new_outcome}
 use Rattle.sfbank.specs.Maps.{map_outcome}
-use Rattle.sfbank.specs.Recordings.{import_outcome, wave_outcome}
+use Rattle.sfbank.specs.Recordings.{import_outcome, pair_outcome, replace_outcome, wave_outcome}
 use Rattle.sfbank.specs.Purposes.{Purpose, copying, keeping_listed, keeping_played, merging, taking, tidying}
 
 -- the text of a path
@@ -92,6 +94,7 @@ first_input (Map paths) = Some paths.input.now
 first_input (Merge merge) = Some merge.paths.input.now
 first_input (New bank) = None
 first_input (Play paths) = Some paths.input.now
+first_input (Replace paths) = Some paths.input.now
 first_input (Script paths) = Some paths.input.now
 first_input (Show paths) = Some paths.input.now
 first_input (Take take) = Some take.paths.input.now
@@ -111,6 +114,7 @@ second_input (Import paths) = Some paths.wave.now
 second_input (Keep keep) = notes_in keep.kept
 second_input (Merge merge) = Some merge.from.now
 second_input (Play paths) = Some paths.notes.now
+second_input (Replace paths) = Some paths.wave.now
 second_input (Take take) = Some take.from.now
 second_input other = None
 
@@ -222,6 +226,14 @@ points_of left_out = if left_out then LeftOut else Kept
 abbrev pub name_in : List ℕ → List ℕ
 name_in path = unwrap_or (path_file_stem path) []
 
+-- the same, if no name is given
+abbrev pub import_name : ImportPaths → List ℕ
+import_name paths = option_map_or (λ name. name) paths.name (name_in paths.wave.now)
+
+-- a sample as a WAVE file, or the pair of which it is one
+abbrev pub export_outcome : WavePaths → List ℕ → Result (List ℕ) RunFault
+export_outcome paths file = if paths.pair then pair_outcome file paths.sample else wave_outcome file paths.sample
+
 -- ---- the plan
 
 -- what `keep` does: it keeps the presets that notes play, or those with these numbers
@@ -265,7 +277,7 @@ plan (Import p) world inputs =
     (no_bank world p.undo.now p.force
     (with_input p.input.now inputs.first
     (λ file. with_input p.wave.now inputs.second
-    (λ wave. with_both p.out.now p.undo.now (import_outcome file wave (name_in p.wave.now)))))))
+    (λ wave. with_both p.out.now p.undo.now (import_outcome p.options (import_name p) file wave))))))
 plan (Keep keep) world inputs = keep_plan keep.paths keep.kept world inputs
 plan (Live p) world inputs =
     apart world p.pcm.now (p.input.now ∷ [])
@@ -283,6 +295,13 @@ plan (Play p) world inputs =
     (no_bank world p.out.now (p.force || is_one_file world p.out.now p.input.now)
     (with_input p.input.now inputs.first
     (λ file. with_input p.notes.now inputs.second (λ notes. with_text world p.out.now (play_outcome file notes)))))
+plan (Replace p) world inputs =
+    apart world p.out.now (p.wave.now ∷ [])
+    (apart world p.undo.now (p.input.now ∷ p.wave.now ∷ p.out.now ∷ [])
+    (no_bank world p.undo.now p.force
+    (with_input p.input.now inputs.first
+    (λ file. with_input p.wave.now inputs.second
+    (λ wave. with_both p.out.now p.undo.now (replace_outcome p.options p.sample file wave))))))
 plan (Script p) world inputs =
     no_bank world p.out.now p.force
     (with_input p.input.now inputs.first (λ file. with_text world p.out.now (script_outcome (points_of p.no_points) file)))
@@ -296,4 +315,4 @@ plan (Tidy tidy) world inputs =
     (with_input tidy.paths.input.now inputs.first (λ file. with_edits tidy.paths file (tidying file tidy.merge)))
 plan (Wave p) world inputs =
     no_bank world p.out.now p.force
-    (with_input p.input.now inputs.first (λ file. with_text world p.out.now (wave_outcome file p.sample)))
+    (with_input p.input.now inputs.first (λ file. with_text world p.out.now (export_outcome p file)))

@@ -1,5 +1,5 @@
 -- The steps of a request before it does anything: checks of its outputs, and reads of its inputs.
-use Rattle.std.specs.Prelude.{◌≡◌, ◌||◌, ℕ, List, [], ◌∷◌, Option, Some, None, Result, Ok, Err, ⊤}
+use Rattle.std.specs.Prelude.{◌≡◌, ◌≤◌, ◌||◌, ℕ, List, [], ◌∷◌, length, Option, Some, None, Result, Ok, Err, ⊤}
 use Rattle.std.specs.Borrow.{Bor}
 use Rattle.base_outputs.specs.declared.output_fault.OutputFault.{OutputFault}
 use Rattle.sf_base.specs.declared.memory.Failure.{Failure}
@@ -15,8 +15,10 @@ use Rattle.program_reports.specs.declared.fault.Fault.{Fault}
 use Rattle.program_reports.specs.declared.fault.Fault.TheVariants.{File, Output, Run}
 use Rattle.program_reports.specs.declared.run_fault.RunFault.{RunFault}
 use Rattle.program_reports.specs.declared.run_fault.RunFault.TheVariants as run
+use Rattle.edit_forms.specs.declared.edit.Edit.{Edit}
 use Rattle.script_tokens.specs.Pool.{pool_bytes}
 use Rattle.wave_file.specs.declared.recording.Recording.{Recording}
+use Rattle.wave_file.specs.declared.options.ReadOptions.{ReadOptions}
 use Rattle.wave_file.specs.declared.sides.Sides.{Sides}
 use Rattle.wave_file.specs.ReadChecks.{recording_in}
 use Rattle.wave_file.specs.Imports.{sides_of}
@@ -24,7 +26,7 @@ use Rattle.program_commands.specs.declared.words.Forms.{Forms}
 use Rattle.sfbank.specs.EditRuns.{outcome_of}
 use Rattle.sfbank.specs.Outcome.{after_reading}
 use Rattle.sfbank.specs.Differences.{after_file}
-use Rattle.sfbank.specs.Recordings.{import_outcome}
+use Rattle.sfbank.specs.Recordings.{Change, recording_outcome}
 use Rattle.sfbank.specs.Purposes.{Purpose, keeping_played}
 use Rattle.script_notes.specs.Notes.{Numbers, notes_of}
 use Rattle.program_commands.specs.declared.plans.Zones.{Zones}
@@ -117,11 +119,18 @@ ReadsScript view file script (Ok x) =
     IsReadAs file (view x).0 × (pool_bytes script ≡ Ok (view x).1)
 ReadsScript view file script (Err fault) = (forms : Forms) → FailsBefore fault (outcome_of forms file script)
 
--- a bank and a recording with its sides, or the fault of any import of them
-abbrev pub ReadsImport : {X : Type 0} → (X → Parts × Recording × Sides) → List ℕ → List ℕ → Result X RunFault → Type 0
-ReadsImport view file wave (Ok x) =
-    IsReadAs file (view x).0 × (recording_in wave ≡ Ok (view x).1) × ((view x).2 ≡ sides_of (view x).1.channels)
-ReadsImport view file wave (Err fault) = (name : List ℕ) → FailsBefore fault (import_outcome file wave name)
+-- a bank and a recording with its sides, or the fault of any change by the recording
+abbrev pub ReadsRecording : {X : Type 0} → (X → Parts × Recording × Sides) → ReadOptions → List ℕ → List ℕ
+    → Result X RunFault → Type 0
+ReadsRecording view options file wave (Ok x) =
+    IsReadAs file (view x).0 × (recording_in options wave ≡ Ok (view x).1) × ((view x).2 ≡ sides_of (view x).1.channels)
+ReadsRecording view options file wave (Err fault) =
+    (change : Change) → FailsBefore fault (recording_outcome change options file wave)
+
+-- the edits of a change, of which there are few, or its fault
+abbrev pub IsChange : {X : Type 0} → (X → List Edit) → Result (List Edit) RunFault → Result X RunFault → Type 0
+IsChange view change (Ok x) = (change ≡ Ok (view x)) × (length (view x) ≤ 10)
+IsChange view change (Err fault) = FailsBefore fault change
 
 -- two banks, the second to copy presets of, or the fault of any plan for them
 abbrev pub ReadsBoth : {X : Type 0} → (X → Parts × Parts) → List ℕ → List ℕ → Result X RunFault → Type 0

@@ -10,7 +10,6 @@ mod copied_members;
 mod diff;
 mod edit;
 mod edited_bank;
-mod import;
 mod laws;
 mod map;
 mod new;
@@ -20,6 +19,7 @@ mod play;
 mod played_notes;
 mod program;
 mod reading;
+mod recorded;
 mod script;
 mod short;
 mod show;
@@ -31,7 +31,6 @@ pub use canon::canon_run;
 pub use diff::diff_run;
 pub use edit::{edit_run, edit_run_with_progress, neutral_run};
 pub use file_host::Which;
-pub use import::import_run;
 pub use laws::{
     kept_notes_render_same, remade_banks_render_same, saved_scripts_lead, saved_undo_restores,
     scripts_distinguish_banks, undo_restores_files,
@@ -45,8 +44,10 @@ pub use play::{play_run, play_run_with_progress};
 pub use program::{run, run_with_arguments};
 pub use program_commands::Zones;
 pub use program_reports::{ProgressMeter, Prompted, RunFault, fault_text};
+pub use recorded::{import_run, replace_run};
 pub use script::script_run;
 pub use script_of_bank::SamplePoints;
 pub use show::{show_details_run, show_run};
 pub use show_listing::Details;
-pub use wave::wave_run;
+pub use wave::{pair_run, wave_run};
+pub use wave_file::ReadOptions;

@@ -19,6 +19,8 @@ mod new;
 mod outputs;
 mod planned;
 mod play;
+mod recorded;
+mod replace;
 mod script;
 mod show;
 mod take;
@@ -46,6 +48,7 @@ use play::play;
 use program_commands::{Request, asks_for_explanations, request_of};
 use program_hints::Remarks;
 use program_reports::{Fault, KnowsError, Watched, report};
+use replace::replace;
 use script::script;
 use show::show;
 use std::alloc::{AllocError, Global};
@@ -188,6 +191,7 @@ fn serve<'a, H: Host, I: Read, O: Write + KnowsError, P: Progress>(
         Request::Merge(operands) => merge(host, alloc, operands, output),
         Request::New(bank) => new(host, alloc, bank, output),
         Request::Play(paths) => play(host, alloc, paths, output, remarks, progress),
+        Request::Replace(paths) => replace(host, alloc, paths),
         Request::Script(paths) => script(host, alloc, paths, output),
         Request::Show(paths) => show(host, alloc, paths, output),
         Request::Take(operands) => take(host, alloc, operands, output),

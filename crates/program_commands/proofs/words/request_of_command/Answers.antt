@@ -6,12 +6,12 @@ use Rattle.program_commands.proofs.words.request_of_command.Goals as goal
 use Rattle.program_commands.proofs.words.request_of_command.Goals.{in-canon+in_ok-read_canon-in-canon}
 use Rattle.program_commands.proofs.words.request_of_command.Goals.{in-diff+in_ok-read_diff-in-diff}
 use Rattle.program_commands.proofs.words.request_of_command.Goals.{in-explain+in_ok-read_topic-in-explain}
-use Rattle.program_commands.proofs.words.request_of_command.Goals.{in-import+in_ok-read_import-in-import}
 use Rattle.program_commands.proofs.words.request_of_command.Goals.{in-live+in_ok-read_live-in-live}
 use Rattle.program_commands.proofs.words.request_of_command.Goals.{in-map+in_ok-read_map-in-map}
 use Rattle.program_commands.proofs.words.request_of_command.Goals.{in-merge+in_ok-read_merge-in-merge}
 use Rattle.program_commands.proofs.words.request_of_command.Goals.{in-new+in_ok-read_new-in-new}
 use Rattle.program_commands.proofs.words.request_of_command.Goals.{in-play+in_ok-read_play-in-play}
+use Rattle.program_commands.proofs.words.request_of_command.Goals.{in-replace+in_ok-read_replace-in-replace}
 use Rattle.program_commands.proofs.words.request_of_command.Goals.{in-script+in_ok-read_script-in-script}
 use Rattle.program_commands.proofs.words.request_of_command.Goals.{in-show+in_ok-read_show-in-show}
 use Rattle.program_commands.proofs.words.request_of_command.Goals.{in-tidy+in_ok-read_tidy-in-tidy}
@@ -36,8 +36,6 @@ returns c = let rows = rows_in c.args.words.now in (
         asks rows w.result-is w.in-diff.is w.in_ok-read_diff-in-diff.ensures.0
     | in-explain+in_ok-read_topic-in-explain w ↦
         asks rows w.result-is w.in-explain.is w.in_ok-read_topic-in-explain.ensures.0
-    | in-import+in_ok-read_import-in-import w ↦
-        asks rows w.result-is w.in-import.is w.in_ok-read_import-in-import.ensures.0
     | in-live+in_ok-read_live-in-live w ↦
         asks rows w.result-is w.in-live.is w.in_ok-read_live-in-live.ensures.0
     | in-map+in_ok-read_map-in-map w ↦
@@ -48,6 +46,8 @@ returns c = let rows = rows_in c.args.words.now in (
         asks rows w.result-is w.in-new.is w.in_ok-read_new-in-new.ensures.0
     | in-play+in_ok-read_play-in-play w ↦
         asks rows w.result-is w.in-play.is w.in_ok-read_play-in-play.ensures.0
+    | in-replace+in_ok-read_replace-in-replace w ↦
+        asks rows w.result-is w.in-replace.is w.in_ok-read_replace-in-replace.ensures.0
     | in-script+in_ok-read_script-in-script w ↦
         asks rows w.result-is w.in-script.is w.in_ok-read_script-in-script.ensures.0
     | in-show+in_ok-read_show-in-show w ↦

@@ -2,7 +2,7 @@ use Rattle.std.proofs.Common.{codes}
 use Rattle.program_commands.specs.Words.{AreGiven, IsGiven, Number, operands_of, rows_in}
 use Rattle.program_commands.specs.declared.words.Request.TheVariants.{Wave}
 use Rattle.program_commands.proofs.GetterLaws.{none_found}
-use Rattle.program_commands.proofs.words.read_wave.Goals as goal
+use Rattle.program_commands.proofs.recordings.read_wave.Goals as goal
 
 pub returns-in_err-read_number : goal.returns-in_err-read_number
 returns-in_err-read_number c =
