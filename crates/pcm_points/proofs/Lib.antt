@@ -2,3 +2,4 @@ pub mod NearestLaws
 pub mod FloatLaws
 pub mod ChannelLaws
 pub mod OffsetLaws
+pub mod DitherLaws

@@ -1,5 +1,5 @@
 -- Rounding to the nearest whole number.
-use Rattle.std.proofs.Common.{◌≡◌, ◌≤◌, ◌<◌, ◌+◌, ◌*◌, ◌^◌, ℕ, Bool, true, false, cond, ltb, refl, arith}
+use Rattle.std.proofs.Common.{◌≡◌, ◌≤◌, ◌<◌, ◌+◌, ◌*◌, ◌^◌, ℕ, Bool, true, false, cond, ltb, refl, ap, sym, ◌∙◌, arith}
 use Rattle.std.proofs.lemmas.Nat.{pow_pos}
 use Rattle.std.proofs.Math.Nat.{le-div_iff_mul-le, div-mul-le_self, lt-div-mul-add, mul-div-mul_left, div-eq_of_lt}
 use Rattle.std.proofs.Math.Nat.{mul_comm, mul_assoc, add-mul}
@@ -35,6 +35,13 @@ nearest-higher n d k some =
     let below : 2 * (d * k) ≡ k * (2 * d) = omega (arith, mul_comm k (2 * d), mul_assoc 2 d k) in
     rw (above, below) (mul-div-mul_left (2 * n + d) (2 * d) some)
 
+-- A whole number is its own nearest.
+pub nearest-exact : (n d : ℕ) → 0 < d → nearest (n * d) d ≡ n
+nearest-exact n d some =
+    let one : nearest (n * d) (1 * d) ≡ nearest n 1 = nearest-higher n 1 d some in
+    let unit : 1 * d ≡ d = omega arith in
+    ap (nearest (n * d)) (sym unit) ∙ one ∙ omega arith
+
 -- Less than half is nearest to 0.
 pub nearest-none : (n d : ℕ) → 2 * n < d → nearest n d ≡ 0
 nearest-none n d h = div-eq_of_lt (omega (arith, h))
@@ -44,7 +51,7 @@ nearest-none n d h = div-eq_of_lt (omega (arith, h))
 abbrev Rounds : Fraction → Type 0
 Rounds f =
     (r : ℕ) × IsNearest f.numerator f.denominator r
-    × (point_of f ≡ with_sign f.is_negative (min r (most f.is_negative)))
+    × (point_of f ≡ with_sign f.is_negative (min r (most 16 f.is_negative)))
 
 rounds : (f : Fraction) → 0 < f.denominator → Rounds f
 rounds f some = (nearest f.numerator f.denominator, is_nearest f.numerator f.denominator some, refl)

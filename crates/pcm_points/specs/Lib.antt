@@ -1,3 +1,4 @@
 pub mod Samples
 pub mod Points
+pub mod Dither
 pub mod Laws

@@ -1,5 +1,5 @@
 -- The 16-bit points of samples.
-use Rattle.std.specs.Prelude.{◌+◌, ◌*◌, ◌/◌, if◌then◌else◌, ℕ, ℤ, pos, neg_ℤ, Bool, min, List, take, drop}
+use Rattle.std.specs.Prelude.{◌+◌, ◌-◌, ◌*◌, ◌/◌, ◌^◌, if◌then◌else◌, ℕ, ℤ, pos, neg_ℤ, Bool, min, List, take, drop}
 use Rattle.std.specs.Int.{w16, cast_unsigned}
 use Rattle.hydra_records.specs.Records.{records}
 use Rattle.pcm_points.specs.declared.encoding.SampleEncoding.{SampleEncoding}
@@ -11,16 +11,19 @@ use Rattle.pcm_points.specs.Samples.{Fraction, size_of, fraction}
 abbrev pub nearest : ℕ → ℕ → ℕ
 nearest n d = (2 * n + d) / (2 * d)
 
--- the magnitudes of 16-bit numbers
-abbrev pub most : Bool → ℕ
-most is_negative = if is_negative then 32768 else 32767
+-- the greatest magnitudes of numbers of `width` bits
+abbrev pub most : ℕ → Bool → ℕ
+most width is_negative = if is_negative then 2 ^ (width - 1) else 2 ^ (width - 1) - 1
 
 abbrev pub with_sign : Bool → ℕ → ℤ
 with_sign is_negative n = if is_negative then neg_ℤ (pos n) else pos n
 
--- the nearest whole number, halves away from zero, clipped to 16 bits
+-- the nearest whole number, halves away from zero, clipped to `width` bits
+abbrev pub rounded : ℕ → Fraction → ℤ
+rounded width f = with_sign f.is_negative (min (nearest f.numerator f.denominator) (most width f.is_negative))
+
 abbrev pub point_of : Fraction → ℤ
-point_of f = with_sign f.is_negative (min (nearest f.numerator f.denominator) (most f.is_negative))
+point_of f = rounded 16 f
 
 abbrev pub point : SampleEncoding → List ℕ → ℤ
 point encoding sample = point_of (fraction encoding sample)
@@ -35,8 +38,13 @@ point_word encoding sample = cast_unsigned w16 (point encoding sample)
 abbrev pub sample_in : ℕ → ℕ → List ℕ → List ℕ
 sample_in size channel frame = take size (drop (channel * size) frame)
 
--- The points of one channel, as unsigned words, in all whole frames of the bytes.
+-- A function of each sample of one channel, in all whole frames of the bytes.
+abbrev pub channel_samples : {X : Type 0} → (List ℕ → X) → SampleEncoding → ℕ → ℕ → List ℕ → List X
+channel_samples of_sample encoding channels channel bytes =
+    records (channels * size_of encoding)
+    (λ frame. of_sample (sample_in (size_of encoding) channel frame)) bytes
+
+-- The points of one channel, as unsigned words.
 abbrev pub channel_words : SampleEncoding → ℕ → ℕ → List ℕ → List ℕ
 channel_words encoding channels channel bytes =
-    records (channels * size_of encoding)
-    (λ frame. point_word encoding (sample_in (size_of encoding) channel frame)) bytes
+    channel_samples (point_word encoding) encoding channels channel bytes

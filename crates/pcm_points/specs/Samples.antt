@@ -12,6 +12,10 @@ pub record Fraction : Type 0 where
   pub numerator : ℕ
   pub denominator : ℕ
 
+-- in units of 2^-bits points
+abbrev pub finer : ℕ → Fraction → Fraction
+finer bits f = record f { numerator = f.numerator * 2 ^ bits }
+
 -- the bytes of a sample
 abbrev pub size_of : SampleEncoding → ℕ
 size_of Unsigned8 = 1

@@ -1,14 +1,16 @@
 //! The point of one sample.
 ghost use Rattle.std.specs.Prelude.{◌≡◌, ◌+◌, ◌*◌, ◌<◌, ◌≤◌, ◌^◌, length};
-ghost use Rattle.pcm_points.specs.Samples.{size_of, integer_fraction, exponent_of, fraction_of, is_nan, significand_of, float_fraction};
-ghost use Rattle.pcm_points.specs.Points.{point_of, point};
+ghost use Rattle.pcm_points.specs.Samples.{size_of, integer_fraction, exponent_of, fraction_of, is_nan, significand_of};
+ghost use Rattle.pcm_points.specs.Samples.{float_fraction, finer};
+ghost use Rattle.pcm_points.specs.Points.{rounded, point_of, point};
 
 use crate::encoding::SampleEncoding;
 use byteorder::{ByteOrder, LittleEndian};
 
-/// The greatest magnitude of a positive and of a negative point.
-const MOST: u64 = 32_767;
+/// The bits of a point.
+pub(crate) const POINT_BITS: u32 = 16;
 
+/// The greatest magnitude of a negative point.
 const MOST_NEGATIVE: u64 = 32_768;
 
 /// Points in the full scale of a signed number, from its least to its greatest.
@@ -65,9 +67,19 @@ fn integer_point(number: u32, width: u32) -> i16
 }
 
 // The point of a float with these bits.
-#[tactic(auto, using(crate::proofs::FloatLaws::nan_point, crate::proofs::FloatLaws::large_point))]
+#[inline]
 fn float_point(bits: u32) -> i16
     ensures { result ≡ point_of (float_fraction bits) }
+{
+    float_number(bits, 0) as i16
+}
+
+// The number of a float with these bits, in units of 2^-`extra` points.
+#[inline]
+#[tactic(auto, using(crate::proofs::FloatLaws::nan_number, crate::proofs::FloatLaws::large_number))]
+pub(crate) fn float_number(bits: u32, extra: u32) -> i32
+    requires { extra ≤ 16 }
+    ensures { result ≡ rounded (16 + extra) (finer extra (float_fraction bits)) }
 {
     if is_nan(bits) {
         return 0;
@@ -75,10 +87,15 @@ fn float_point(bits: u32) -> i16
     let is_negative = bits >= SIGN_BIT;
     let exponent = exponent_of(bits);
     if exponent >= EXPONENT_OF_ONE {
-        return rounded_point(is_negative, MOST_NEGATIVE, 0);
+        return rounded(is_negative, MOST_NEGATIVE << extra, 0, POINT_BITS + extra);
     }
-    let shift = (EXPONENT_OF_POINTS - exponent.max(1)).min(MOST_SHIFT);
-    rounded_point(is_negative, u64::from(significand_of(bits)), shift)
+    let shift = (EXPONENT_OF_POINTS - exponent.max(1)).min(MOST_SHIFT + extra);
+    rounded(
+        is_negative,
+        u64::from(significand_of(bits)) << extra,
+        shift,
+        POINT_BITS + extra,
+    )
 }
 
 // Whether a float is NaN.
@@ -116,21 +133,23 @@ fn significand_of(bits: u32) -> u32
     }
 }
 
-// The nearest point to `numerator` / 2^`shift`, or to its negative.
+// The nearest number of `width` bits to `numerator` / 2^`shift`, or to its negative.
 #[inline]
-fn rounded_point(is_negative: bool, numerator: u64, shift: u32) -> i16
+pub(crate) fn rounded(is_negative: bool, numerator: u64, shift: u32, width: u32) -> i32
     requires numerator { numerator < 2 ^ 60 }
-    requires shift { shift ≤ 32 }
-    ensures { result ≡ point_of (record {
+    requires shift { shift ≤ 60 }
+    requires width { (1 ≤ width) × (width ≤ 32) }
+    ensures { result ≡ rounded width (record {
       is_negative = is_negative;
       numerator = numerator;
       denominator = 2 ^ shift;
     }) }
 {
     let magnitude = (2 * numerator + (1 << shift)) >> (shift + 1);
+    let most_negative = 1u64 << (width - 1);
     if is_negative {
-        -(magnitude.min(MOST_NEGATIVE) as i32) as i16
+        -(magnitude.min(most_negative) as i64) as i32
     } else {
-        magnitude.min(MOST) as i16
+        magnitude.min(most_negative - 1) as i32
     }
 }

@@ -2,7 +2,7 @@ use Rattle.std.proofs.Common.{◌≡◌, ◌<◌, ◌+◌, ◌-◌, ◌*◌, ◌
 use Rattle.std.proofs.Common.{mul-pos, arith}
 use Rattle.pcm_points.specs.Points.{point_word}
 use Rattle.pcm_points.proofs.ChannelLaws.{no_frame, after_frame, fewer_frames}
-use Rattle.pcm_points.proofs.channel.channel_points.Goals as goal
+use Rattle.pcm_points.proofs.channel.nearest_points.Goals as goal
 
 pub loop-rest-preserved : goal.loop-rest-preserved
 loop-rest-preserved c =
