@@ -37,7 +37,7 @@ use Rattle.wave_file.specs.declared.recording.Pitch.{Pitch}
 use Rattle.bank_format.specs.FaultChecks.{first_fault}
 use Rattle.wave_file.specs.Recordings.{format_in, channels_in, frame_count, forward_loop, ends_of}
 use Rattle.wave_file.specs.Recordings.{unity_note_in, fraction_in, data_in, pitch_of_stored, is_stored, stored_in, pitch_of}
-use Rattle.wave_file.specs.Recordings.{sampler_in}
+use Rattle.wave_file.specs.Recordings.{as_stored, sampler_in}
 use Rattle.wave_file.specs.ReadChecks.{riff_checks, format_checks, frame_checks, data_checks, has_loops, loop_checks}
 use Rattle.wave_file.specs.ReadChecks.{chunk_checks, sampler_checks, content_checks, content_in, window_checks, steps}
 use Rattle.wave_file.specs.ReadChecks.{unless_broken, recording_in}
@@ -181,18 +181,18 @@ loop_count_small : (looped : Option (ℕ × ℕ)) → loop_count looped ≤ 1
 loop_count_small None = omega arith
 loop_count_small (Some looped) = omega arith
 
-format_holds : (rate : ℕ) → first_fault (format_checks (mono_format rate)) ≡ None
+format_holds : (rate : ℕ) → first_fault (format_checks None (mono_format rate)) ≡ None
 unfolding format_checks mono_format
 format_holds rate = refl
 
 abbrev written_format : ℕ → Format
-written_format rate = record { layout = layout.Mono; encoding = Signed16; rate = rate }
+written_format rate = record { layout = layout.Mono 1 0; encoding = Signed16; rate = rate }
 
-format_back : (rate : ℕ) → rate < 2 ^ 32 → format_in (mono_format rate) ≡ written_format rate
+format_back : (rate : ℕ) → rate < 2 ^ 32 → format_in None (mono_format rate) ≡ written_format rate
 unfolding mono_format
 format_back rate lt =
     let e = little_number-reads_back 4 rate (drop 8 (mono_format rate)) lt in
-    λ i. record { layout = layout.Mono; encoding = Signed16; rate = e i }
+    λ i. record { layout = layout.Mono 1 0; encoding = Signed16; rate = e i }
 
 module _ (s : Sample) (f : FitsSample s) (l : IsLoop (length s.points) s.looped) (most : length s.points ≤ POINTS) where
   form_small : length (WAVE ++ encode (sample_chunks s)) < 2 ^ 32
@@ -258,31 +258,31 @@ module _ (s : Sample) (f : FitsSample s) (l : IsLoop (length s.points) s.looped)
       eq-eqb _ _ (let a = length-word_bytes s.points in omega (arith, a)) in
       rw even refl
 
-  format_is : format_in (body_in FORMAT (sample_chunks s)) ≡ written_format s.rate
-  format_is = ap format_in format_found ∙ format_back s.rate f.rate
+  format_is : format_in None (body_in FORMAT (sample_chunks s)) ≡ written_format s.rate
+  format_is = ap (format_in None) format_found ∙ format_back s.rate f.rate
 
-  channels_are : channels_in (format_in (body_in FORMAT (sample_chunks s))) (body_in DATA (sample_chunks s))
+  channels_are : channels_in (format_in None (body_in FORMAT (sample_chunks s))) (body_in DATA (sample_chunks s))
       ≡ Mono s.points
   channels_are = (λ i. channels_in (format_is i) (unwrap_or (data_found i) [])) ∙ channels_back
 
-  content_holds : first_fault (content_checks (sample_chunks s)) ≡ None
+  content_holds : first_fault (content_checks as_stored (sample_chunks s)) ≡ None
   unfolding content_checks
   content_holds =
       let counted : frame_count
-      (channels_in (format_in (body_in FORMAT (sample_chunks s))) (body_in DATA (sample_chunks s)))
+      (channels_in (format_in None (body_in FORMAT (sample_chunks s))) (body_in DATA (sample_chunks s)))
       ≡ length s.points =
       ap frame_count channels_are in
-      then_none (format_checks (body_in FORMAT (sample_chunks s))) _
-      (ap (λ (x : List ℕ). first_fault (format_checks x)) format_found ∙ format_holds s.rate)
-      (then_none (data_checks (format_in (body_in FORMAT (sample_chunks s)))
+      then_none (format_checks None (body_in FORMAT (sample_chunks s))) _
+      (ap (λ (x : List ℕ). first_fault (format_checks None x)) format_found ∙ format_holds s.rate)
+      (then_none (data_checks (format_in None (body_in FORMAT (sample_chunks s)))
       (first_body DATA (sample_chunks s))) _ ((λ i. first_fault (data_checks (format_is i) (data_found i))) ∙
       data_holds)
       ((λ i. first_fault (sampler_checks (counted i) (sampler_found i))) ∙ sampler_is_sample.holds))
 
-  content_is : content_in (sample_chunks s) ≡ recorded s
+  content_is : content_in as_stored (sample_chunks s) ≡ recorded s
   unfolding content_in
   content_is =
-      let rate : (format_in (body_in FORMAT (sample_chunks s))).rate ≡ s.rate =
+      let rate : (format_in None (body_in FORMAT (sample_chunks s))).rate ≡ s.rate =
       ap (λ (x : Format). x.rate) format_is in
       let sampler_is : sampler_in (first_body SAMPLER (sample_chunks s)) ≡ (recorded s).sampler =
       ap sampler_in sampler_found ∙ sampler_is_sample.is in
@@ -290,20 +290,21 @@ module _ (s : Sample) (f : FitsSample s) (l : IsLoop (length s.points) s.looped)
 
   -- ---- all together
 
-  window_holds : first_fault (window_checks (encode (sample_chunks s))) ≡ None
+  window_holds : first_fault (window_checks as_stored (encode (sample_chunks s))) ≡ None
   unfolding window_checks
   window_holds =
       let walked : is_whole (walk (encode (sample_chunks s))) ≡ true = is_whole-encode (sample_chunks s) chunks_fit in
-      rw walked (ap (λ (cs : List Chunk). first_fault (content_checks cs)) chunks_are ∙ content_holds)
+      rw walked (ap (λ (cs : List Chunk). first_fault (content_checks as_stored cs)) chunks_are ∙ content_holds)
 
-  reads_back : recording_in (sample_wave s) ≡ Ok (recorded s)
+  reads_back : recording_in as_stored (sample_wave s) ≡ Ok (recorded s)
   unfolding recording_in steps
   reads_back =
-      let holds : first_fault (steps (sample_wave s)) ≡ None =
-      then_none (riff_checks (sample_wave s)) (window_checks (window (sample_wave s))) riff_holds
-      (ap (λ (w : List ℕ). first_fault (window_checks w)) window_is ∙ window_holds) in
-      let is : content_in (chunks_in (walk (window (sample_wave s)))) ≡ recorded s =
-      ap (λ (w : List ℕ). content_in (chunks_in (walk w))) window_is ∙ ap content_in chunks_are ∙ content_is in
+      let holds : first_fault (steps as_stored (sample_wave s)) ≡ None =
+      then_none (riff_checks (sample_wave s)) (window_checks as_stored (window (sample_wave s))) riff_holds
+      (ap (λ (w : List ℕ). first_fault (window_checks as_stored w)) window_is ∙ window_holds) in
+      let is : content_in as_stored (chunks_in (walk (window (sample_wave s)))) ≡ recorded s =
+      ap (λ (w : List ℕ). content_in as_stored (chunks_in (walk w))) window_is
+      ∙ ap (content_in as_stored) chunks_are ∙ content_is in
       (λ i. unless_broken (holds i) (is i))
 
 pub waves_read_back : WavesReadBack

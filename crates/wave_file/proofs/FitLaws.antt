@@ -36,6 +36,7 @@ use Rattle.wave_file.specs.Wave.{FORMAT, DATA}
 use Rattle.wave_file.specs.SampleWave.{SAMPLER}
 use Rattle.wave_file.specs.declared.fault.WaveFault.{WaveFault}
 use Rattle.wave_file.specs.declared.sampler_loop.SamplerLoop.{SamplerLoop}
+use Rattle.wave_file.specs.declared.options.ReadOptions.{ReadOptions}
 use Rattle.wave_file.specs.declared.recording.Layout.{Layout}
 use Rattle.wave_file.specs.declared.recording.Layout.TheVariants as layout
 use Rattle.wave_file.specs.declared.recording.Channels.{Channels}
@@ -46,7 +47,7 @@ use Rattle.wave_file.specs.declared.recording.Recording.{Recording}
 use Rattle.bank_format.specs.FaultChecks.{first_fault}
 use Rattle.wave_file.specs.Recordings.{format_in, mono_in, channels_of, forward_loop, ends_of, unity_note_in}
 use Rattle.wave_file.specs.Recordings.{fraction_in, data_in, pitch_of_stored, is_stored, stored_in, cents_in, nearest}
-use Rattle.wave_file.specs.Recordings.{pitch_of, sampler_in}
+use Rattle.wave_file.specs.Recordings.{FitsKey, pitch_of, sampler_in, with_key}
 use Rattle.wave_file.specs.ReadChecks.{riff_checks, format_checks, data_checks, has_loops, is_inside, loop_checks}
 use Rattle.wave_file.specs.ReadChecks.{chunk_checks, sampler_checks, content_checks, content_in, window_checks, steps}
 use Rattle.wave_file.specs.ReadChecks.{unless_broken, recording_in}
@@ -74,15 +75,20 @@ pub record FitsRecording (r : Recording) : Type 0 where
 
 -- ---- channels
 
-mono_fits : (e : SampleEncoding) (points : List ℕ) → AreWords points → FitChannels (mono_in e points)
-mono_fits Unsigned8 points p = p
-mono_fits Signed16 points p = p
-mono_fits Signed24 points p = p
-mono_fits Signed32 points p = p
-mono_fits Float32 points p = p
+mono_fits : (e : SampleEncoding) (n : ℕ) (points : List ℕ) → AreWords points → FitChannels (mono_in e n points)
+mono_fits Unsigned8 n points p = p
+mono_fits Signed16 n points p = either (eqb n 1)
+  where
+    either : (b : Bool) → FitChannels (cond b (Mono points) (MonoSamples points))
+    either true = p
+    either false = p
+mono_fits Signed24 n points p = p
+mono_fits Signed32 n points p = p
+mono_fits Float32 n points p = p
 
 channels_fit : (l : Layout) (e : SampleEncoding) (bytes : List ℕ) → FitChannels (channels_of l e bytes)
-channels_fit layout.Mono e bytes = mono_fits e (channel_words e 1 0 bytes) (words_fit e 1 0 bytes)
+channels_fit (layout.Mono n channel) e bytes =
+    mono_fits e n (channel_words e n channel bytes) (words_fit e n channel bytes)
 channels_fit layout.Stereo e bytes = (words_fit e 2 0 bytes, words_fit e 2 1 bytes)
 
 -- ---- the pitch
@@ -142,43 +148,52 @@ sampler_fits n (Some s) b h =
     let note = split_none (leb (unity_note_in s) 127) _ _ whole.1 in
     record { pitch = pitch_fits s b (leb-true _ _ note.0); looped = loop_fits n (forward_loop s) note.1 }
 
+key_fits : (key : Option ℕ) (s : Sampler) → FitsKey key → FitsSampler s → FitsSampler (with_key key s)
+key_fits None s k f = f
+key_fits (Some key) s k f =
+    record { pitch = record { key = k; correction = record { sfits = omega arith } }; looped = f.looped }
+
 -- ---- together
 
-content_fits : (chunks : List Chunk) → AllByRecursion OfBytes chunks → first_fault (content_checks chunks) ≡ None
-    → FitsRecording (content_in chunks)
+content_fits : (options : ReadOptions) (chunks : List Chunk) → FitsKey options.key → AllByRecursion OfBytes chunks
+    → first_fault (content_checks options chunks) ≡ None → FitsRecording (content_in options chunks)
 unfolding content_checks content_in
-content_fits chunks b h =
+content_fits options chunks k b h =
     let f = body_in FORMAT chunks in
-    let past_format = both_none (format_checks f) _ h in
-    let past_data = both_none (data_checks (format_in f) (first_body DATA chunks)) _ past_format.1 in
+    let format = format_in options.channel f in
+    let past_format = both_none (format_checks options.channel f) _ h in
+    let past_data = both_none (data_checks format (first_body DATA chunks)) _ past_format.1 in
+    let found = sampler_fits _ (first_body SAMPLER chunks) (body_bytes SAMPLER chunks b) past_data.1 in
     record {
-      channels = channels_fit (format_in f).layout (format_in f).encoding (body_in DATA chunks);
+      channels = channels_fit format.layout format.encoding (body_in DATA chunks);
       rate = field_at-lt 4 4 f (body_bytes FORMAT chunks b);
-      sampler = sampler_fits _ (first_body SAMPLER chunks) (body_bytes SAMPLER chunks b) past_data.1;
+      sampler = key_fits options.key (sampler_in (first_body SAMPLER chunks)) k found;
     }
 
 -- a WAVE file that fails no check
-pub record IsRead (wave : List ℕ) (r : Recording) : Type 0 where
-  pub holds : first_fault (steps wave) ≡ None
-  pub is : content_in (chunks_in (walk (window wave))) ≡ r
+pub record IsRead (options : ReadOptions) (wave : List ℕ) (r : Recording) : Type 0 where
+  pub holds : first_fault (steps options wave) ≡ None
+  pub is : content_in options (chunks_in (walk (window wave))) ≡ r
 
-pub is_read : (wave : List ℕ) (r : Recording) → recording_in wave ≡ Ok r → IsRead wave r
+pub is_read : (options : ReadOptions) (wave : List ℕ) (r : Recording) → recording_in options wave ≡ Ok r
+    → IsRead options wave r
 unfolding recording_in
-is_read wave r h = by_what (first_fault (steps wave)) refl h
+is_read options wave r h = by_what (first_fault (steps options wave)) refl h
   where
-    by_what : (o : Option WaveFault) → first_fault (steps wave) ≡ o
-        → unless_broken o (content_in (chunks_in (walk (window wave)))) ≡ Ok r → IsRead wave r
+    by_what : (o : Option WaveFault) → first_fault (steps options wave) ≡ o
+        → unless_broken o (content_in options (chunks_in (walk (window wave)))) ≡ Ok r → IsRead options wave r
     by_what None e k = record { holds = e; is = cc }
     by_what (Some f) e k = absurd cc
 
-pub recording_fits : (wave : List ℕ) (r : Recording) → AreBytes wave → recording_in wave ≡ Ok r → FitsRecording r
+pub recording_fits : (options : ReadOptions) (wave : List ℕ) (r : Recording) → FitsKey options.key → AreBytes wave
+    → recording_in options wave ≡ Ok r → FitsRecording r
 unfolding steps window_checks
-recording_fits wave r b h =
-    let read = is_read wave r h in
-    let past_riff = both_none (riff_checks wave) (window_checks (window wave)) read.holds in
+recording_fits options wave r k b h =
+    let read = is_read options wave r h in
+    let past_riff = both_none (riff_checks wave) (window_checks options (window wave)) read.holds in
     let walked = split_none _ _ _ past_riff.1 in
     rw (← read.is)
-    (content_fits (chunks_in (walk (window wave))) (walk_bytes (window wave) (window_bytes wave b)) walked.1)
+    (content_fits options (chunks_in (walk (window wave))) k (walk_bytes (window wave) (window_bytes wave b)) walked.1)
 
 -- ---- the edits of an import
 

@@ -7,6 +7,7 @@ use Rattle.bank_parts.specs.Fits.{FitsSample}
 use Rattle.wave_file.specs.SampleWave.{sample_wave}
 use Rattle.wave_file.specs.declared.recording.Channels.TheVariants.{Mono}
 use Rattle.wave_file.specs.declared.recording.Recording.{Recording}
+use Rattle.wave_file.specs.Recordings.{as_stored}
 use Rattle.wave_file.specs.ReadChecks.{recording_in}
 
 -- a mono recording with the points, the rate, the key, the correction and the loop of a sample
@@ -17,8 +18,8 @@ recorded s = record {
   sampler = record { pitch = record { key = s.key; correction = s.correction }; looped = s.looped };
 }
 
--- The WAVE file of a sample that a bank can have reads back as that sample.
+-- The WAVE file of a sample that a bank can have reads back as that sample, without options.
 abbrev pub WavesReadBack : Type 0
 WavesReadBack =
     (s : Sample) → FitsSample s → IsLoop (length s.points) s.looped → length s.points ≤ POINTS
-    → recording_in (sample_wave s) ≡ Ok (recorded s)
+    → recording_in as_stored (sample_wave s) ≡ Ok (recorded s)

@@ -9,13 +9,14 @@ use Rattle.wave_file.specs.SampleWave.{SAMPLER}
 use Rattle.wave_file.specs.declared.fault.WaveFault.{WaveFault}
 use Rattle.wave_file.specs.declared.fault.WaveFault.TheVariants as fault
 use Rattle.wave_file.specs.declared.sampler_loop.SamplerLoop.{SamplerLoop}
+use Rattle.wave_file.specs.declared.options.ReadOptions.{ReadOptions}
 use Rattle.wave_file.specs.declared.recording.Format.{Format}
 use Rattle.wave_file.specs.declared.recording.Recording.{Recording}
 use Rattle.bank_format.specs.FaultChecks.{Check, check, first_fault}
 use Rattle.bank_format.specs.ReadChecks.{form_checks}
 use Rattle.wave_file.specs.Recordings.{channel_count_in, is_pcm, is_float, encoding_in, format_in, frame_size}
 use Rattle.wave_file.specs.Recordings.{channels_in, frame_count, loop_count_in, forward_loop, unity_note_in}
-use Rattle.wave_file.specs.Recordings.{sampler_in}
+use Rattle.wave_file.specs.Recordings.{sampler_in, with_key}
 
 -- ---- the RIFF chunk, whose form type is WAVE
 
@@ -24,13 +25,17 @@ riff_checks file = form_checks WAVE fault.NotWave fault.Truncated fault.NotWave 
 
 -- ---- the `fmt ` chunk
 
-unfoldable pub format_checks : List ℕ → List (Check WaveFault)
-format_checks f =
+-- the given channel is one of n; without one there are one or two
+abbrev pub channel_checks : Option ℕ → ℕ → List (Check WaveFault)
+channel_checks (Some channel) n = check (nat_lt channel n) fault.NoSuchChannel ∷ []
+channel_checks None n = check (n == 1 || n == 2) fault.ChannelCount ∷ []
+
+unfoldable pub format_checks : Option ℕ → List ℕ → List (Check WaveFault)
+format_checks channel f =
     check (nat_le 16 (length f)) fault.NoFormat
     ∷ check (is_pcm f || is_float f) fault.Compressed
     ∷ check (is_some (encoding_in f)) fault.SampleBits
-    ∷ check (channel_count_in f == 1 || channel_count_in f == 2) fault.ChannelCount
-    ∷ []
+    ∷ channel_checks channel (channel_count_in f)
 
 -- ---- the `data` chunk, of whole frames
 
@@ -67,28 +72,29 @@ sampler_checks frames (Some s) = chunk_checks frames s
 -- ---- together
 
 -- the first chunk of each id
-unfoldable pub content_checks : List Chunk → List (Check WaveFault)
-content_checks chunks =
+unfoldable pub content_checks : ReadOptions → List Chunk → List (Check WaveFault)
+content_checks options chunks =
     let f = body_in FORMAT chunks in
+    let format = format_in options.channel f in
     let body = body_in DATA chunks in
-    format_checks f
-    ++ (data_checks (format_in f) (first_body DATA chunks)
-    ++ sampler_checks (frame_count (channels_in (format_in f) body)) (first_body SAMPLER chunks))
+    format_checks options.channel f
+    ++ (data_checks format (first_body DATA chunks)
+    ++ sampler_checks (frame_count (channels_in format body)) (first_body SAMPLER chunks))
 
-unfoldable pub content_in : List Chunk → Recording
-content_in chunks =
-    let f = format_in (body_in FORMAT chunks) in
+unfoldable pub content_in : ReadOptions → List Chunk → Recording
+content_in options chunks =
+    let f = format_in options.channel (body_in FORMAT chunks) in
     record {
       channels = channels_in f (body_in DATA chunks);
       rate = f.rate;
-      sampler = sampler_in (first_body SAMPLER chunks);
+      sampler = with_key options.key (sampler_in (first_body SAMPLER chunks));
     }
 
-unfoldable pub window_checks : List ℕ → List (Check WaveFault)
-window_checks w = check (is_whole (walk w)) fault.Truncated ∷ content_checks (chunks_in (walk w))
+unfoldable pub window_checks : ReadOptions → List ℕ → List (Check WaveFault)
+window_checks options w = check (is_whole (walk w)) fault.Truncated ∷ content_checks options (chunks_in (walk w))
 
-unfoldable pub steps : List ℕ → List (Check WaveFault)
-steps file = riff_checks file ++ window_checks (window file)
+unfoldable pub steps : ReadOptions → List ℕ → List (Check WaveFault)
+steps options file = riff_checks file ++ window_checks options (window file)
 
 -- a value, or the fault of a failed check
 abbrev pub unless_broken : {X : Type 0} → Option WaveFault → X → Result X WaveFault
@@ -96,5 +102,6 @@ unless_broken None value = Ok value
 unless_broken (Some fault) value = Err fault
 
 -- The recording of a WAVE file, or the fault of the first check that fails.
-unfoldable pub recording_in : List ℕ → Result Recording WaveFault
-recording_in file = unless_broken (first_fault (steps file)) (content_in (chunks_in (walk (window file))))
+unfoldable pub recording_in : ReadOptions → List ℕ → Result Recording WaveFault
+recording_in options file =
+    unless_broken (first_fault (steps options file)) (content_in options (chunks_in (walk (window file))))

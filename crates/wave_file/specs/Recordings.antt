@@ -1,7 +1,7 @@
 -- The content of the chunks of a WAVE file.
-use Rattle.std.specs.Prelude.{◌+◌, ◌-◌, ◌*◌, ◌/◌, ◌^◌, ◌==◌, ◌&&◌, ◌||◌, if◌then◌else◌, ℕ, pos, neg_ℤ, Bool, nat_le}
-use Rattle.std.specs.Prelude.{List, [], ◌∷◌, length, take, drop, find, slice_index, bytes_eq, Option, Some, None}
-use Rattle.std.specs.Prelude.{unwrap_or}
+use Rattle.std.specs.Prelude.{◌<◌, ◌+◌, ◌-◌, ◌*◌, ◌/◌, ◌^◌, ◌==◌, ◌&&◌, ◌||◌, if◌then◌else◌, ℕ, pos, neg_ℤ, Bool}
+use Rattle.std.specs.Prelude.{nat_le, List, [], ◌∷◌, length, take, drop, find, slice_index, bytes_eq, Option, Some}
+use Rattle.std.specs.Prelude.{None, unwrap_or}
 use Rattle.std.specs.Option.{option_map}
 use Rattle.std.specs.Int.{w8, cast_signed}
 use Rattle.sf_base.specs.Fields.{field_at}
@@ -13,6 +13,7 @@ use Rattle.pcm_points.specs.Points.{channel_words}
 use Rattle.wave_file.specs.SamplerPitch.{unity_note, pitch_fraction}
 use Rattle.wave_file.specs.SampleWave.{stored_pitch}
 use Rattle.wave_file.specs.declared.sampler_loop.SamplerLoop.{SamplerLoop}
+use Rattle.wave_file.specs.declared.options.ReadOptions.{ReadOptions}
 use Rattle.wave_file.specs.declared.recording.Layout.{Layout}
 use Rattle.wave_file.specs.declared.recording.Layout.TheVariants as layout
 use Rattle.wave_file.specs.declared.recording.Channels.{Channels}
@@ -20,6 +21,17 @@ use Rattle.wave_file.specs.declared.recording.Channels.TheVariants as channels
 use Rattle.wave_file.specs.declared.recording.Format.{Format}
 use Rattle.wave_file.specs.declared.recording.Pitch.{Pitch}
 use Rattle.wave_file.specs.declared.recording.Sampler.{Sampler}
+
+-- ---- the options
+
+-- all channels, and the key of the file
+abbrev pub as_stored : ReadOptions
+as_stored = record { channel = None; key = None; dither = None }
+
+-- a key that is a byte
+abbrev pub FitsKey : Option ℕ → Type 0
+FitsKey None = Unit {0}
+FitsKey (Some key) = key < 2 ^ 8
 
 -- ---- the `fmt ` chunk
 
@@ -61,33 +73,45 @@ integers_of bits =
 abbrev pub encoding_in : List ℕ → Option SampleEncoding
 encoding_in f = if is_float f then Some encoding.Float32 else integers_of (bits_in f)
 
-abbrev pub layout_in : List ℕ → Layout
-layout_in f = if channel_count_in f == 2 then layout.Stereo else layout.Mono
+-- the given channel of n, or else all of one or two
+abbrev pub layout_of : Option ℕ → ℕ → Layout
+layout_of (Some channel) n = layout.Mono n channel
+layout_of None n = if n == 2 then layout.Stereo else layout.Mono n 0
 
-abbrev pub format_in : List ℕ → Format
-format_in f =
-    record { layout = layout_in f; encoding = unwrap_or (encoding_in f) encoding.Signed16; rate = field_at 4 4 f }
+-- the format, with the given channel
+abbrev pub format_in : Option ℕ → List ℕ → Format
+format_in channel f = record {
+  layout = layout_of channel (channel_count_in f);
+  encoding = unwrap_or (encoding_in f) encoding.Signed16;
+  rate = field_at 4 4 f;
+}
 
 -- ---- the `data` chunk
 
 abbrev pub channel_count : Layout → ℕ
-channel_count layout.Mono = 1
+channel_count (layout.Mono n channel) = n
 channel_count layout.Stereo = 2
+
+-- the channel that is read exists
+abbrev pub HasChannel : Layout → Type 0
+HasChannel (layout.Mono n channel) = channel < n
+HasChannel layout.Stereo = Unit {0}
 
 -- the size of a frame in bytes
 abbrev pub frame_size : Format → ℕ
 frame_size format = channel_count format.layout * size_of format.encoding
 
--- The points of a mono recording; those of 16 bits are the samples themselves, which are not converted.
-abbrev pub mono_in : SampleEncoding → List ℕ → Channels
-mono_in encoding.Signed16 points = channels.Mono points
-mono_in encoding.Unsigned8 points = channels.MonoSamples points
-mono_in encoding.Signed24 points = channels.MonoSamples points
-mono_in encoding.Signed32 points = channels.MonoSamples points
-mono_in encoding.Float32 points = channels.MonoSamples points
+-- The points of one of n channels; those of 16 bits and a single channel are the samples themselves, which are not
+-- converted.
+abbrev pub mono_in : SampleEncoding → ℕ → List ℕ → Channels
+mono_in encoding.Signed16 n points = if n == 1 then channels.Mono points else channels.MonoSamples points
+mono_in encoding.Unsigned8 n points = channels.MonoSamples points
+mono_in encoding.Signed24 n points = channels.MonoSamples points
+mono_in encoding.Signed32 n points = channels.MonoSamples points
+mono_in encoding.Float32 n points = channels.MonoSamples points
 
 abbrev pub channels_of : Layout → SampleEncoding → List ℕ → Channels
-channels_of layout.Mono e bytes = mono_in e (channel_words e 1 0 bytes)
+channels_of (layout.Mono n channel) e bytes = mono_in e n (channel_words e n channel bytes)
 channels_of layout.Stereo e bytes = channels.Stereo (channel_words e 2 0 bytes) (channel_words e 2 1 bytes)
 
 abbrev pub channels_in : Format → List ℕ → Channels
@@ -168,3 +192,8 @@ pitch_in s = pitch_of (stored_in s) s
 abbrev pub sampler_in : Option (List ℕ) → Sampler
 sampler_in None = record { pitch = record { key = 60; correction = pos 0 }; looped = None }
 sampler_in (Some s) = record { pitch = pitch_in s; looped = option_map ends_of (forward_loop s) }
+
+-- a given key, with no correction, in place of that of the chunk
+abbrev pub with_key : Option ℕ → Sampler → Sampler
+with_key (Some key) s = record { pitch = record { key = key; correction = pos 0 }; looped = s.looped }
+with_key None s = s

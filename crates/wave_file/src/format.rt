@@ -1,11 +1,11 @@
 //! The `fmt ` and `data` chunks of a WAVE file.
-ghost use Rattle.std.specs.Prelude.{◌≡◌, ◌<◌, ◌≤◌, ◌%◌, [], length, unwrap_or};
+ghost use Rattle.std.specs.Prelude.{◌≡◌, ◌<◌, ◌≤◌, ◌*◌, ◌%◌, [], length, unwrap_or, IfOk};
 ghost use Rattle.std.specs.Option.{option_copied};
 ghost use Rattle.bank_format.specs.FaultChecks.{Passes};
 ghost use Rattle.pcm_points.specs.Points.{channel_words};
 ghost use Rattle.pcm_points.specs.Samples.{size_of};
-ghost use Rattle.wave_file.specs.Recordings.{has_tag, is_pcm, is_float, encoding_in, format_in, frame_size, mono_in, channels_in};
-ghost use Rattle.wave_file.specs.ReadChecks.{format_checks, data_checks, frame_checks};
+ghost use Rattle.wave_file.specs.Recordings.{has_tag, is_pcm, is_float, encoding_in, layout_of, format_in, HasChannel, frame_size, mono_in, channels_in};
+ghost use Rattle.wave_file.specs.ReadChecks.{format_checks, channel_checks, data_checks, frame_checks};
 
 use crate::channel_samples::ChannelSamples;
 use crate::fault::WaveFault;
@@ -36,10 +36,12 @@ const PCM_SUBFORMAT: [u8; 16] = [1, 0, 0, 0, 0, 0, 16, 0, 128, 0, 0, 170, 0, 56,
 /// The subformat GUID of IEEE 754 numbers.
 const FLOAT_SUBFORMAT: [u8; 16] = [3, 0, 0, 0, 0, 0, 16, 0, 128, 0, 0, 170, 0, 56, 155, 113];
 
-/// Reads the `fmt ` chunk, which must be integer PCM of 8, 16, 24 or 32 bits or 32-bit float, of one or two channels.
+/// Reads the `fmt ` chunk, which must be integer PCM of 8, 16, 24 or 32 bits or 32-bit float. The given channel must
+/// exist; without one there must be one or two.
 #[tactic(auto, unfolding(crate::specs::ReadChecks::format_checks))]
-pub(crate) fn read_format(format: &[u8]) -> Result<Format, WaveFault>
-    ensures { Passes (λ f. f) result (format_checks format.now) (format_in format.now) }
+pub(crate) fn read_format(channel: Option<u16>, format: &[u8]) -> Result<Format, WaveFault>
+    ensures reads { Passes (λ f. f) result (format_checks channel format.now) (format_in channel format.now) }
+    ensures channel { IfOk result (λ f. HasChannel f.layout) }
 {
     if format.len() < FORMAT_SIZE {
         return Err(WaveFault::NoFormat);
@@ -50,18 +52,33 @@ pub(crate) fn read_format(format: &[u8]) -> Result<Format, WaveFault>
     let Some(encoding) = encoding_in(format) else {
         return Err(WaveFault::SampleBits);
     };
+    let layout = read_layout(channel, u16_at(format, 2))?;
     let rate = u32_at(format, 4);
-    match u16_at(format, 2) {
-        1 => Ok(Format {
-            layout: Layout::Mono,
-            encoding,
-            rate,
+    Ok(Format {
+        layout,
+        encoding,
+        rate,
+    })
+}
+
+// The given channel, or else all of one or two, in a file of this many channels.
+fn read_layout(channel: Option<u16>, channels: u16) -> Result<Layout, WaveFault>
+    ensures reads { Passes (λ l. l) result (channel_checks channel channels) (layout_of channel channels) }
+    ensures channel { IfOk result HasChannel }
+{
+    if let Some(channel) = channel {
+        return if channel < channels {
+            Ok(Layout::Mono { channels, channel })
+        } else {
+            Err(WaveFault::NoSuchChannel)
+        };
+    }
+    match channels {
+        1 => Ok(Layout::Mono {
+            channels,
+            channel: 0,
         }),
-        2 => Ok(Format {
-            layout: Layout::Stereo,
-            encoding,
-            rate,
-        }),
+        2 => Ok(Layout::Stereo),
         _ => Err(WaveFault::ChannelCount),
     }
 }
@@ -119,6 +136,7 @@ pub(crate) fn read_data<'a>(
     format: Format,
     body: Option<&'a [u8]>,
 ) -> Result<Channels<'a>, WaveFault>
+    requires { HasChannel format.layout }
     ensures { Passes (λ c. c) result (data_checks format (option_copied body.entry))
         (channels_in format (unwrap_or (option_copied body.entry) [])) }
 {
@@ -135,6 +153,7 @@ fn read_channels<'a>(
     format: Format,
     bytes: &'a [u8],
 ) -> Result<Channels<'a>, WaveFault>
+    requires { HasChannel format.layout }
     ensures { Passes (λ c. c) result (frame_checks format bytes.now) (channels_in format bytes.now) }
 {
     if bytes.len() % frame_size(format) != 0 {
@@ -142,7 +161,13 @@ fn read_channels<'a>(
     }
     let encoding = format.encoding;
     match format.layout {
-        Layout::Mono => Ok(mono_in(alloc, encoding, bytes)),
+        Layout::Mono { channels, channel } => Ok(mono_in(
+            alloc,
+            encoding,
+            usize::from(channels),
+            usize::from(channel),
+            bytes,
+        )),
         Layout::Stereo => Ok(Channels::Stereo(
             ChannelSamples::of(bytes, encoding, 2, 0),
             ChannelSamples::of(bytes, encoding, 2, 1),
@@ -152,22 +177,33 @@ fn read_channels<'a>(
 
 // The size of a frame, in bytes.
 fn frame_size(format: Format) -> usize
+    requires { HasChannel format.layout }
     ensures value { result ≡ frame_size format }
     ensures some { 0 < result }
 {
     match format.layout {
-        Layout::Mono => format.encoding.size(),
+        Layout::Mono { channels, .. } => usize::from(channels) * format.encoding.size(),
         Layout::Stereo => 2 * format.encoding.size(),
     }
 }
 
-// The samples of a mono recording. Those of 16 bits are its points.
-fn mono_in<'a>(alloc: Global, encoding: SampleEncoding, bytes: &'a [u8]) -> Channels<'a>
-    requires { length bytes.now % size_of encoding ≡ 0 }
-    ensures { result ≡ mono_in encoding (channel_words encoding 1 0 bytes.now) }
+// The samples of one channel. Those of 16 bits and a single channel are its points.
+fn mono_in<'a>(
+    alloc: Global,
+    encoding: SampleEncoding,
+    channels: usize,
+    channel: usize,
+    bytes: &'a [u8],
+) -> Channels<'a>
+    requires whole { length bytes.now % (channels * size_of encoding) ≡ 0 }
+    requires channel { channel < channels }
+    requires count { channels ≤ 65535 }
+    ensures { result ≡ mono_in encoding channels (channel_words encoding channels channel bytes.now) }
 {
     match encoding {
-        SampleEncoding::Signed16 => Channels::Mono(Points::of_slice(alloc, bytes).unwrap()),
-        _ => Channels::MonoSamples(ChannelSamples::of(bytes, encoding, 1, 0)),
+        SampleEncoding::Signed16 if channels == 1 => {
+            Channels::Mono(Points::of_slice(alloc, bytes).unwrap())
+        }
+        _ => Channels::MonoSamples(ChannelSamples::of(bytes, encoding, channels, channel)),
     }
 }

@@ -1,4 +1,6 @@
 //! How a recording is read.
+ghost use Rattle.std.specs.Prelude.{◌≡◌};
+ghost use Rattle.wave_file.specs.Recordings.{as_stored};
 
 /// How a recording is read.
 #[derive(Clone, Copy, Debug, PartialEq, Eq)]
@@ -9,4 +11,17 @@ pub struct ReadOptions {
     pub key: Option<u8>,
     /// The seed of the dither of samples of more than 16 bits; without it they are rounded.
     pub dither: Option<u64>,
+}
+
+impl ReadOptions {
+    /// All channels, the key of the file, and no dither.
+    pub fn as_stored() -> ReadOptions
+        ensures { result ≡ as_stored }
+    {
+        ReadOptions {
+            channel: None,
+            key: None,
+            dither: None,
+        }
+    }
 }

@@ -6,10 +6,10 @@ use crate::channel_samples::ChannelSamples;
 use pcm_points::SampleEncoding;
 use sample_view::Points;
 
-/// The channels of a WAVE file: mono, or left and right.
+/// The channels that are read: one of a number of channels, or left and right.
 #[derive(Clone, Copy, Debug, PartialEq, Eq)]
 pub(crate) enum Layout {
-    Mono,
+    Mono { channels: u16, channel: u16 },
     Stereo,
 }
 
@@ -25,9 +25,9 @@ pub(crate) struct Format {
 /// The samples of a recording, borrowed from the file.
 #[derive(Drop)]
 pub enum Channels<'a> {
-    /// The points of a mono recording of 16 bits.
+    /// The points of a recording of 16 bits and a single channel.
     Mono(Points<'a>),
-    /// The samples of any other mono recording.
+    /// The samples of one channel of any other recording.
     MonoSamples(ChannelSamples<'a>),
     /// The left and the right samples of a stereo recording.
     Stereo(ChannelSamples<'a>, ChannelSamples<'a>),

@@ -2,7 +2,7 @@
 ghost use Rattle.std.specs.Prelude.{◌≡◌, ◌+◌, ◌*◌, ◌≤◌, length};
 ghost use Rattle.std.specs.Option.{option_copied, option_map};
 ghost use Rattle.bank_format.specs.FaultChecks.{Passes};
-ghost use Rattle.wave_file.specs.Recordings.{loop_count_in, forward_loop, ends_of, unity_note_in, data_in, is_stored, stored_in, cents_in, nearest, pitch_in, sampler_in};
+ghost use Rattle.wave_file.specs.Recordings.{loop_count_in, forward_loop, ends_of, unity_note_in, data_in, is_stored, stored_in, cents_in, nearest, pitch_in, sampler_in, with_key};
 ghost use Rattle.wave_file.specs.ReadChecks.{has_loops, loop_checks, chunk_checks, sampler_checks};
 
 use crate::fault::WaveFault;
@@ -41,6 +41,19 @@ pub(crate) fn read_sampler(chunk: Option<&[u8]>, frames: usize) -> Result<Sample
             looped: None,
         }),
         Some(chunk) => read_chunk(chunk, frames),
+    }
+}
+
+/// With this key and no correction, if there is one.
+pub(crate) fn with_key(key: Option<u8>, sampler: Sampler) -> Sampler
+    ensures { result ≡ with_key key sampler }
+{
+    match key {
+        Some(key) => Sampler {
+            pitch: Pitch { key, correction: 0 },
+            looped: sampler.looped,
+        },
+        None => sampler,
     }
 }
 
