@@ -3,6 +3,7 @@ ghost use Rattle.std.specs.Prelude.{◌≡◌, ◌+◌, ◌*◌, ◌/◌, ◌%�
 ghost use Rattle.base_outputs.specs.Output.{Puts};
 ghost use Rattle.sample_view.specs.Words.{words};
 ghost use Rattle.pair_waves.specs.Frames.{interleaved};
+ghost use Rattle.pair_waves.specs.declared.frames.TheConstants.{BLOCK_SIZE};
 
 use arrayvec::ArrayVec;
 use base_outputs::Output;
@@ -75,7 +76,7 @@ fn put_run<W: Write>(left: &[u8], right: &[u8], output: &mut Output<'_, W>)
 fn fill_block(left: &[u8], right: &[u8], block: &mut ArrayVec<u8, BLOCK_SIZE>)
     requires same { length right.now ≡ length left.now }
     requires even { length left.now % 2 ≡ 0 }
-    requires room { 2 * length left.now ≤ 8192 }
+    requires room { 2 * length left.now ≤ BLOCK_SIZE }
     ensures { block.new.items ≡ interleaved (words left.now) (words right.now) }
 {
     block.clear();

@@ -2,6 +2,8 @@
 #![tactic(auto)]
 
 mod frames;
+mod laws;
 mod pair_wave;
 
+pub use laws::pairs_read_back;
 pub use pair_wave::PairWave;
