@@ -27,6 +27,6 @@ pub use laws::sample_waves_read_back;
 pub use options::ReadOptions;
 pub use reading::read_recording;
 pub use recording::{Channels, Pitch, Recording, Sampler};
-pub use sample::SampleWave;
+pub use sample::{SampleWave, put_sampler, sampler_size};
 pub use sampler_loop::SamplerLoop;
 pub use sides::Sides;

@@ -85,8 +85,8 @@ fn put_mono_format<W: Write>(rate: u32, output: &mut Output<'_, W>)
     output.put(&[2, 0, 16, 0]);
 }
 
-// Puts the `smpl` chunk.
-fn put_sampler<W: Write>(sample: &Sample<'_>, output: &mut Output<'_, W>)
+/// Puts the `smpl` chunk of a sample: its key, its correction and its loop.
+pub fn put_sampler<W: Write>(sample: &Sample<'_>, output: &mut Output<'_, W>)
     ensures { Puts W.contents output.old output.new (chunk SAMPLER (sampler sample.now)) }
 {
     output.head(*b"smpl", sampler_size(sample));
@@ -95,8 +95,8 @@ fn put_sampler<W: Write>(sample: &Sample<'_>, output: &mut Output<'_, W>)
     put_stored_pitch(sample, output);
 }
 
-// The size of the body of the `smpl` chunk, in bytes.
-fn sampler_size(sample: &Sample<'_>) -> u32
+/// The size of the body of the `smpl` chunk of a sample, in bytes: 44, or 68 with a loop.
+pub fn sampler_size(sample: &Sample<'_>) -> u32
     ensures value { result ≡ length (sampler sample.now) }
     ensures bound { result ≤ 68 }
 {

@@ -1,0 +1,4 @@
+pub mod FrameLaws
+pub mod SideLaws
+pub mod PairLaws
+pub mod BackLaws
