@@ -16,6 +16,7 @@ use Rattle.show_listing.specs.Listing.{listing}
 use Rattle.show_listing.specs.Details.{detailed_listing}
 use Rattle.show_zone_map.specs.Picture.{picture}
 use Rattle.wave_file.specs.SampleWave.{sample_wave}
+use Rattle.wave_file.specs.declared.options.ReadOptions.{ReadOptions}
 use Rattle.wave_file.specs.ReadChecks.{recording_in}
 use Rattle.program_commands.specs.declared.words.ShowPaths.{ShowPaths}
 use Rattle.program_reports.specs.declared.run_fault.RunFault.{RunFault}
@@ -24,7 +25,8 @@ use Rattle.sfbank.specs.Outcome.{bank_in, counts_in, after_notes, canon_outcome,
 use Rattle.sfbank.specs.Outcome.{show_details_outcome, play_outcome}
 use Rattle.sfbank.specs.BankScripts.{script_outcome}
 use Rattle.sfbank.specs.Maps.{has_owner, if_there, map_outcome}
-use Rattle.sfbank.specs.Recordings.{wave_of, wave_outcome, after_recording, import_outcome}
+use Rattle.sfbank.specs.Recordings.{wave_of, wave_outcome, pair_outcome, pair_wave_of, Change, after_recording}
+use Rattle.sfbank.specs.Recordings.{recording_outcome}
 use Rattle.sfbank.specs.Written.{FailsBefore}
 use Rattle.sfbank.specs.Plans.{details_of, listing_outcome}
 use Rattle.sfbank.specs.Steps.{ReadsBank}
@@ -71,11 +73,19 @@ pub wave_fails : {X : Type 0} (view : X → Parts × Counts) (fault : RunFault) 
 unfolding wave_outcome
 wave_fails view fault file number h = bank_fails view fault file (wave_of (slice_get (bank_in file).samples number)) h
 
-pub import_fails : {X : Type 0} (view : X → Parts × Counts) (fault : RunFault) (file wave name : List ℕ)
-    → ReadsBank view file (Err fault) → FailsBefore fault (import_outcome file wave name)
-unfolding import_outcome
-import_fails view fault file wave name h =
-    bank_fails view fault file (after_recording (bank_in file) name (recording_in wave)) h
+pub pair_fails : {X : Type 0} (view : X → Parts × Counts) (fault : RunFault) (file : List ℕ) (number : ℕ)
+    → ReadsBank view file (Err fault) → FailsBefore fault (pair_outcome file number)
+unfolding pair_outcome
+pair_fails view fault file number h =
+    bank_fails view fault file
+    (pair_wave_of (bank_in file).samples number (slice_get (bank_in file).samples number)) h
+
+pub recording_fails : {X : Type 0} (view : X → Parts × Counts) (change : Change) (options : ReadOptions) (fault : RunFault)
+    (file wave : List ℕ)
+    → ReadsBank view file (Err fault) → FailsBefore fault (recording_outcome change options file wave)
+unfolding recording_outcome
+recording_fails view change options fault file wave h =
+    bank_fails view fault file (after_recording (bank_in file) change (recording_in options wave)) h
 
 -- ---- a bank
 

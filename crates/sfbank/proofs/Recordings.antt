@@ -1,6 +1,7 @@
--- Runs that export a sample as a WAVE file, and runs that import a WAVE file.
+-- Runs that export samples as a WAVE file, and runs that bring a WAVE file into a bank.
 use Rattle.std.proofs.Common.{◌≡◌, ◌≤◌, ℕ, List, length, Option, Some, None, Result, Ok, Err}
-use Rattle.std.proofs.Common.{refl, sym, ap, ◌∙◌, arith}
+use Rattle.std.proofs.Common.{◌<◌, ◌^◌, refl, sym, ap, subst, ◌∙◌, arith}
+use Rattle.std.specs.Result.{result_map_both}
 use Rattle.std.specs.Prelude.{slice_get}
 use Rattle.std.proofs.KnownBytes.{Keeps-refl}
 use Rattle.sf_base.specs.declared.limits.TheConstants.{POINTS}
@@ -25,16 +26,27 @@ use Rattle.edit_script.proofs.LineLaws.{printed_is_read}
 use Rattle.wave_file.specs.SampleWave.{sample_wave}
 use Rattle.wave_file.specs.declared.fault.WaveFault.{WaveFault}
 use Rattle.wave_file.specs.declared.recording.Recording.{Recording}
+use Rattle.wave_file.specs.declared.options.ReadOptions.{ReadOptions}
+use Rattle.wave_file.specs.Recordings.{FitsKey}
 use Rattle.wave_file.specs.ReadChecks.{recording_in}
 use Rattle.wave_file.specs.Imports.{import_edits}
-use Rattle.wave_file.proofs.FitLaws.{recording_fits, imports_fit}
+use Rattle.wave_file.proofs.FitLaws.{FitsRecording, recording_fits, imports_fit}
+use Rattle.bank_edits.specs.Runs.{after_all}
+use Rattle.sample_replacements.specs.declared.fault.ReplaceFault.{ReplaceFault}
+use Rattle.sample_replacements.specs.Replacements.{replacement_edits, replaced}
+use Rattle.sample_replacements.proofs.FitLaws.{replacements_fit}
+use Rattle.sample_replacements.proofs.KeepLaws.{replacing_keeps}
+use Rattle.sfbank.specs.declared.recorded.Destination.{Destination}
+use Rattle.sfbank.specs.declared.recorded.Destination.TheVariants.{End, Place}
 use Rattle.program_reports.specs.declared.run_fault.RunFault.{RunFault}
 use Rattle.program_reports.specs.declared.run_fault.RunFault.TheVariants as run
 use Rattle.file_host.specs.declared.faults.Which.TheVariants.{Out}
 use Rattle.program_reports.specs.RunFaults.{in_run}
-use Rattle.sfbank.specs.Outcome.{Done, after_script, after_reading, bank_in, outcome}
-use Rattle.sfbank.specs.Recordings.{wave_of, wave_outcome, edits_into, after_recording, import_outcome, IsScripted}
-use Rattle.sfbank.specs.Recordings.{IsImportUndone}
+use Rattle.sfbank.specs.Outcome.{Done, RefusedLine, after_script, after_reading, bank_in, both_texts, edits_of}
+use Rattle.sfbank.specs.Outcome.{first_refused, outcome, unless_refused}
+use Rattle.sfbank.specs.Recordings.{wave_of, wave_outcome, pair_outcome, pair_wave_of, Change, after_edits}
+use Rattle.sfbank.specs.Recordings.{after_recording, appended, change_of, fault_of_replacement, put_in_place, recording_outcome}
+use Rattle.sfbank.specs.Recordings.{FitsDestination, IsScripted, IsRecordingUndone, IsReplaced}
 use Rattle.sfbank.specs.Written.{IsWritten, RunsOneText, FailsBefore}
 use Rattle.sfbank.proofs.OneText.{not_read, runs_one_text}
 use Rattle.sfbank.proofs.Restores.{restores, edits_numbered}
@@ -75,75 +87,146 @@ pub few_points : (b : Parts) (number : ℕ) (s : Sample) → IsValid b → Some 
 few_points b number s v h =
     let some = among b.samples number s (sym h) in let most = v.limits.points in omega (arith, some, most)
 
--- ---- an import
+-- ---- a pair of samples as a WAVE file
 
-pub import_on : (file wave name : List ℕ) (b : Parts) (counts : Counts) → ReadsAs file b counts
-    → import_outcome file wave name ≡ after_recording b name (recording_in wave)
-unfolding import_outcome
-import_on file wave name b counts r =
-    ap (λ (o : Option ReadFault). after_reading o (after_recording (bank_in file) name (recording_in wave))) r.0
-    ∙ ap (λ (c : Content). after_recording c.bank name (recording_in wave)) r.1
+pub pair_on : (file : List ℕ) (number : ℕ) (b : Parts) (counts : Counts) → ReadsAs file b counts
+    → pair_outcome file number ≡ pair_wave_of b.samples number (slice_get b.samples number)
+unfolding pair_outcome
+pair_on file number b counts r =
+    ap (λ (o : Option ReadFault). after_reading o
+    (pair_wave_of (bank_in file).samples number (slice_get (bank_in file).samples number))) r.0
+    ∙ ap (λ (c : Content). pair_wave_of c.bank.samples number (slice_get c.bank.samples number)) r.1
+
+-- there is no pair for the bank, so none for the file
+pub pair_not_found : (file : List ℕ) (number : ℕ) (b : Parts) (counts : Counts) (fault : RunFault) → ReadsAs file b counts
+    → FailsBefore fault (pair_wave_of b.samples number (slice_get b.samples number))
+    → FailsBefore fault (pair_outcome file number)
+pair_not_found file number b counts fault r h =
+    subst (FailsBefore fault) (sym (pair_on file number b counts r)) h
+
+-- ---- a recording in a bank
+
+pub recording_on : (change : Change) (options : ReadOptions) (file wave : List ℕ) (b : Parts) (counts : Counts)
+    → ReadsAs file b counts
+    → recording_outcome change options file wave ≡ after_recording b change (recording_in options wave)
+unfolding recording_outcome
+recording_on change options file wave b counts r =
+    ap (λ (o : Option ReadFault). after_reading o (after_recording (bank_in file) change (recording_in options wave))) r.0
+    ∙ ap (λ (c : Content). after_recording c.bank change (recording_in options wave)) r.1
 
 -- the WAVE file has a fault
-pub no_recording : (file wave name : List ℕ) (b : Parts) (counts : Counts) (fault : WaveFault)
-    → ReadsAs file b counts → Err fault ≡ recording_in wave
-    → FailsBefore (run.Recording fault) (import_outcome file wave name)
-no_recording file wave name b counts fault r h =
-    import_on file wave name b counts r ∙ ap (after_recording b name) (sym h)
+pub no_recording : (change : Change) (options : ReadOptions) (file wave : List ℕ) (b : Parts) (counts : Counts)
+    (fault : WaveFault)
+    → ReadsAs file b counts → Err fault ≡ recording_in options wave
+    → FailsBefore (run.Recording fault) (recording_outcome change options file wave)
+no_recording change options file wave b counts fault r h =
+    recording_on change options file wave b counts r ∙ ap (after_recording b change) (sym h)
 
--- the edits of importing what was read
-pub import_edited : (file wave name : List ℕ) (b : Parts) (counts : Counts) (r : Recording) (n : ℕ)
-    (edits : List Edit)
-    → ReadsAs file b counts → Ok r ≡ recording_in wave → n ≡ length b.samples
-    → edits ≡ import_edits n name r → import_outcome file wave name ≡ after_script b (Ok (numbered 1 edits))
-import_edited file wave name b counts r n edits reads h count e =
-    import_on file wave name b counts reads
-    ∙ ap (after_recording b name) (sym h)
-    ∙ ap (λ (k : ℕ). after_script b (Ok (numbered 1 (import_edits k name r)))) (sym count)
-    ∙ ap (λ (es : List Edit). after_script b (Ok (numbered 1 es))) (sym e)
+-- the edits of what was read
+pub recording_edited : (change : Change) (options : ReadOptions) (file wave : List ℕ) (b : Parts) (counts : Counts)
+    (r : Recording)
+    → ReadsAs file b counts → recording_in options wave ≡ Ok r
+    → recording_outcome change options file wave ≡ after_edits b (change b r)
+recording_edited change options file wave b counts r reads h =
+    recording_on change options file wave b counts reads ∙ ap (after_recording b change) h
 
--- ---- the script of an import
+-- ---- the script of the edits
 
-abbrev lines_of : List ℕ → List ℕ → Recording → List Edit
-lines_of file name r = edits_into (bank_in file) name r
+-- the edits of a change are in range
+abbrev pub EditsFit : Change → Type 0
+EditsFit change =
+    (b : Parts) (r : Recording) (edits : List Edit) → IsValid b → FitsRecording r → change b r ≡ Ok edits → AllFit edits
 
-edits_fit : (file wave name : List ℕ) (r : Recording) → AreBytes file → AreBytes wave → AreBytes name
-    → fault_of file ≡ None → recording_in wave ≡ Ok r → AllFit (lines_of file name r)
-edits_fit file wave name r bytes wave_bytes name_bytes read h =
-    let v : IsValid (bank_in file) = read_valid file bytes read in
-    imports_fit (length (bank_in file).samples) name r v.limits.samples name_bytes (recording_fits wave r wave_bytes h)
+ok_inverse : (result : Result (List Edit) ReplaceFault) (edits : List Edit)
+    → result_map_both (λ (es : List Edit). es) fault_of_replacement result ≡ Ok edits → result ≡ Ok edits
+ok_inverse (Ok es) edits h = cc
+ok_inverse (Err fault) edits h = absurd cc
 
-pub scripted : (file wave name : List ℕ) → AreBytes file → AreBytes wave → AreBytes name → IsScripted file wave name
-unfolding import_outcome outcome
-scripted file wave name bytes wave_bytes name_bytes r h = by_what (fault_of file) refl
+pub appended_fits : (name : List ℕ) → AreBytes name → EditsFit (appended name)
+appended_fits name bytes b r edits v f h =
+    let is : import_edits (length b.samples) name r ≡ edits = cc in
+    subst AllFit is (imports_fit (length b.samples) name r v.limits.samples bytes f)
+
+pub in_place_fits : (number : ℕ) → number < 2 ^ 32 → EditsFit (put_in_place number)
+in_place_fits number small b r edits v f h =
+    replacements_fit b number r edits small v f (ok_inverse (replacement_edits b number r) edits h)
+
+pub destination_fits : (d : Destination) → FitsDestination d → EditsFit (change_of d)
+destination_fits (End name) bytes = appended_fits name.now bytes
+destination_fits (Place number) small = in_place_fits number small
+
+edits_fit : (change : Change) (options : ReadOptions) (file wave : List ℕ) (r : Recording) (edits : List Edit)
+    → EditsFit change → FitsKey options.key → AreBytes file → AreBytes wave → fault_of file ≡ None
+    → recording_in options wave ≡ Ok r → change (bank_in file) r ≡ Ok edits → AllFit edits
+edits_fit change options file wave r edits fit key bytes wave_bytes read h e =
+    fit (bank_in file) r edits (read_valid file bytes read) (recording_fits options wave r key wave_bytes h) e
+
+pub scripted : (change : Change) (options : ReadOptions) (file wave : List ℕ) → EditsFit change → FitsKey options.key
+    → AreBytes file → AreBytes wave → IsScripted change options file wave
+unfolding recording_outcome outcome
+scripted change options file wave fit key bytes wave_bytes r edits h e = by_what (fault_of file) refl
   where
     by_what : (o : Option ReadFault) → fault_of file ≡ o
-        → after_reading o (after_recording (bank_in file) name (recording_in wave))
-        ≡ after_reading o (after_script (bank_in file) (script_of (texts_of (lines_of file name r))))
-    by_what (Some f) e = refl
-    by_what None e =
-        ap (after_recording (bank_in file) name) h
+        → after_reading o (after_recording (bank_in file) change (recording_in options wave))
+        ≡ after_reading o (after_script (bank_in file) (script_of (texts_of edits)))
+    by_what (Some f) is = refl
+    by_what None is =
+        ap (after_recording (bank_in file) change) h
+        ∙ ap (after_edits (bank_in file)) e
         ∙ sym
         (ap (after_script (bank_in file))
-        (printed_is_read (lines_of file name r) (edits_fit file wave name r bytes wave_bytes name_bytes e h)))
+        (printed_is_read edits (edits_fit change options file wave r edits fit key bytes wave_bytes is h e)))
 
 -- a run that succeeds has read its file
 done_read : (o : Option ReadFault) (x : Result Done RunFault) (done : Done) → after_reading o x ≡ Ok done → o ≡ None
 done_read None x done h = refl
 done_read (Some f) x done h = absurd cc
 
-pub import_read : (file wave name : List ℕ) (done : Done) → import_outcome file wave name ≡ Ok done → fault_of file ≡ None
-unfolding import_outcome
-import_read file wave name done h =
-    done_read (fault_of file) (after_recording (bank_in file) name (recording_in wave)) done h
+pub recording_read : (change : Change) (options : ReadOptions) (file wave : List ℕ) (done : Done)
+    → recording_outcome change options file wave ≡ Ok done → fault_of file ≡ None
+unfolding recording_outcome
+recording_read change options file wave done h =
+    done_read (fault_of file) (after_recording (bank_in file) change (recording_in options wave)) done h
 
-pub import_restores : (file wave name : List ℕ) → AreBytes file → AreBytes wave → AreBytes name
-    → IsImportUndone file wave name
-unfolding import_outcome
-import_restores file wave name bytes wave_bytes name_bytes done r h recording_is =
-    let es = lines_of file name r in
-    let read = import_read file wave name done h in
-    let parses = printed_is_read es (edits_fit file wave name r bytes wave_bytes name_bytes read recording_is) in
-    let run_it = sym (scripted file wave name bytes wave_bytes name_bytes r recording_is) ∙ h in
+pub recording_restores : (change : Change) (options : ReadOptions) (file wave : List ℕ) → EditsFit change
+    → FitsKey options.key → AreBytes file → AreBytes wave → IsRecordingUndone change options file wave
+recording_restores change options file wave fit key bytes wave_bytes done r es h recording_is e =
+    let read = recording_read change options file wave done h in
+    let parses =
+    printed_is_read es (edits_fit change options file wave r es fit key bytes wave_bytes read recording_is e) in
+    let run_it = sym (scripted change options file wave fit key bytes wave_bytes r es recording_is e) ∙ h in
     restores file (texts_of es) bytes done (numbered 1 es) run_it parses
     ∙ ap (λ (xs : List Edit). Ok (record { out = canon (bank_in file); undo = texts_of xs })) (edits_numbered 1 es)
+
+-- ---- a replacement
+
+-- the file of a script's edits that were all accepted
+written_after : (b : Parts) (es : List Edit) (done : Done) → after_script b (Ok (numbered 1 es)) ≡ Ok done
+    → done.out ≡ canon (after_all b es)
+written_after b es done h = by_what (first_refused b (numbered 1 es)) h
+  where
+    by_what : (o : Option RefusedLine) → unless_refused o (both_texts b (edits_of (numbered 1 es))) ≡ Ok done
+        → done.out ≡ canon (after_all b es)
+    by_what None is =
+        let same : both_texts b (edits_of (numbered 1 es)) ≡ done = cc in
+        ap (λ (d : Done). d.out) (sym same) ∙ ap (λ (xs : List Edit). canon (after_all b xs)) (edits_numbered 1 es)
+    by_what (Some refused) is = absurd cc
+
+replaced_after : (b : Parts) (number : ℕ) (r : Recording) (done : Done) (result : Result (List Edit) ReplaceFault)
+    → replacement_edits b number r ≡ result
+    → after_edits b (result_map_both (λ (es : List Edit). es) fault_of_replacement result) ≡ Ok done
+    → done.out ≡ canon (replaced b number r)
+replaced_after b number r done (Ok es) is h =
+    written_after b es done h ∙ ap canon (replacing_keeps b number r es is)
+replaced_after b number r done (Err fault) is h = absurd cc
+
+pub replace_keeps : (options : ReadOptions) (number : ℕ) (file wave : List ℕ) → IsReplaced options number file wave
+unfolding recording_outcome
+replace_keeps options number file wave done r h recording_is =
+    let b = bank_in file in
+    let read = recording_read (put_in_place number) options file wave done h in
+    let run_it : after_edits b (put_in_place number b r) ≡ Ok done =
+    sym (ap (after_recording b (put_in_place number)) recording_is)
+    ∙ sym (ap (λ (o : Option ReadFault). after_reading o (after_recording b (put_in_place number) (recording_in options wave))) read)
+    ∙ h in
+    replaced_after b number r done (replacement_edits b number r) refl run_it

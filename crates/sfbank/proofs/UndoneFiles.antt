@@ -14,7 +14,7 @@ use Rattle.file_host.specs.World.{most_bytes}
 use Rattle.file_host.specs.Checks.{is_one_of, is_bank_at}
 use Rattle.file_host.proofs.FileLaws.{put_at, put_beside}
 use Rattle.program_commands.specs.declared.words.ApplyPaths.{ApplyPaths}
-use Rattle.program_commands.specs.declared.words.ImportPaths.{ImportPaths}
+use Rattle.program_commands.specs.declared.words.Request.{Request}
 use Rattle.live_sessions.specs.Saved.{saved_of}
 use Rattle.inverse_edits.specs.Histories.{undo_edits}
 use Rattle.program_commands.specs.declared.words.Forms.{Forms}
@@ -22,15 +22,16 @@ use Rattle.program_commands.specs.declared.words.Forms.TheVariants.{Every, Neutr
 use Rattle.program_reports.specs.declared.run_fault.RunFault.{RunFault}
 use Rattle.sfbank.specs.Outcome.{Done, bank_in, edits_of, outcome, play_outcome}
 use Rattle.sfbank.specs.EditRuns.{after_lines, outcome_of}
-use Rattle.sfbank.specs.Plans.{Why, Rejected, SavesBoth, Known, name_in, unless, with_both}
-use Rattle.sfbank.specs.UndoneFiles.{IsApplied, IsImported, ArePlaced, RunsOn, IsRestored}
+use Rattle.sfbank.specs.declared.program.recorded.RecordingWork.{RecordingWork}
+use Rattle.sfbank.specs.Plans.{Inputs, Why, Rejected, SavesBoth, Known, unless, with_both}
+use Rattle.sfbank.specs.UndoneFiles.{IsApplied, IsRecorded, ArePlaced, RunsOn, IsRestored}
 use Rattle.sfbank.specs.UndoneFiles.{UndoRestoresFiles, UndoRemovesRecordings, UndoRestoresPlans, UndoEndsSessions}
 use Rattle.sfbank.specs.Purposes.{promise_of}
 use Rattle.sfbank.specs.SavedBanks.{SavedUndoRestores}
-use Rattle.sfbank.specs.Recordings.{import_outcome, edits_into}
+use Rattle.sfbank.specs.Recordings.{change_of, recording_outcome}
 use Rattle.sfbank.proofs.Neutral.{of_every, of_neutral, neutrally_restores}
 use Rattle.sfbank.proofs.Restores.{restores, reading_done}
-use Rattle.sfbank.proofs.Recordings.{import_read, import_restores}
+use Rattle.sfbank.proofs.Recordings.{destination_fits, recording_read, recording_restores}
 use Rattle.sfbank.proofs.PlannedEdits.{no_fault, plan_is_undone}
 use Rattle.sfbank.proofs.RenderLaws.{played_on_canon}
 
@@ -184,33 +185,39 @@ every_gives second out undo old left now new file script done back saved placed 
     sym (of_every done.out done.undo) ∙ (λ i. outcome_of (sym every i) done.out done.undo)
     ∙ second_gives second out undo old left now new file script done back saved placed h
 
--- the outcome of an import that was done
-imported_outcome : (p : ImportPaths) (old new : World) (file wave : List ℕ) (done : Done)
-    → IsImported p old new file wave done → import_outcome file wave (name_in p.wave.now) ≡ Ok done
-imported_outcome p old new file wave done h =
-    let result = import_outcome file wave (name_in p.wave.now) in
-    let out = is_one_of old p.out.now (p.wave.now ∷ []) in
-    let undo = is_one_of old p.undo.now (p.input.now ∷ p.wave.now ∷ p.out.now ∷ []) in
+-- the outcome of a recording that was brought into a bank
+recorded_outcome : (work : RecordingWork) (request : Request) (old new : World) (file wave : List ℕ) (done : Done)
+    → IsRecorded work request old new file wave done
+    → recording_outcome (change_of work.destination) work.options file wave ≡ Ok done
+recorded_outcome work request old new file wave done h =
+    let p = work.paths in
+    let result = recording_outcome (change_of work.destination) work.options file wave in
+    let out = is_one_of old p.out.now (p.other.now ∷ []) in
+    let undo = is_one_of old p.undo.now (p.input.now ∷ p.other.now ∷ p.out.now ∷ []) in
     let bank = not p.force && is_bank_at old p.undo.now in
     let rest = with_both p.out.now p.undo.now result in
     let no_bank = unless bank (Rejected p.undo.now HoldsBank) rest in
     let apart = unless undo (Rejected p.undo.now SameFile) no_bank in
+    let inputs : Inputs = record { first = Ok file; second = Ok wave } in
     both_done p.out.now p.undo.now result done
     (unless_done bank (Rejected p.undo.now HoldsBank) rest _
     (unless_done undo (Rejected p.undo.now SameFile) no_bank _
-    (unless_done out (Rejected p.out.now SameFile) apart _ h.planned)))
+    (unless_done out (Rejected p.out.now SameFile) apart _ (sym (h.records.plans old inputs) ∙ h.planned))))
 
 pub undo_removes_recordings : UndoRemovesRecordings
-undo_removes_recordings first second old left now new file wave other_file other_script done back r bytes
-    wave_bytes name_bytes records a placed every h =
-    let name = name_in first.wave.now in
-    let was : import_outcome file wave name ≡ Ok done = imported_outcome first old left file wave done a in
+undo_removes_recordings work request second old left now new file wave other_file other_script done back r edits bytes
+    wave_bytes fits key records changes a placed every h =
+    let p = work.paths in
+    let change = change_of work.destination in
+    let was = recorded_outcome work request old left file wave done a in
     let gives =
-    every_gives second first.out.now first.undo.now old left now new other_file other_script done back a.files placed every h
+    every_gives second p.out.now p.undo.now old left now new other_file other_script done back a.files placed every h
     in
-    restored second now new file (texts_of (edits_into (bank_in file) name r)) other_file other_script back bytes
-    (import_read file wave name done was) h.done
-    (ok_same back _ (outcome done.out done.undo) gives (import_restores file wave name bytes wave_bytes name_bytes done r was records))
+    restored second now new file (texts_of edits) other_file other_script back bytes
+    (recording_read change work.options file wave done was) h.done
+    (ok_same back _ (outcome done.out done.undo) gives
+    (recording_restores change work.options file wave (destination_fits work.destination fits) key bytes wave_bytes done r
+    edits was records changes))
 
 pub undo_restores_plans : UndoRestoresPlans
 undo_restores_plans purpose out undo second old left now new file other_file other_script done back found bytes saved placed

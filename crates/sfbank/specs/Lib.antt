@@ -19,6 +19,8 @@ pub mod BankScripts
 pub mod SavedBanks
 pub mod Differences
 pub mod Recordings
+pub mod PairSteps
+pub mod RecordingPlans
 pub mod Maps
 pub mod Purposes
 pub mod PlannedEdits

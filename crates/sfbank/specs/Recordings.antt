@@ -1,9 +1,10 @@
 -- Exports samples as a WAVE file, and brings a WAVE file into a bank.
-use Rattle.std.specs.Prelude.{◌≡◌, ◌==◌, if◌then◌else◌, ◌&&◌, ℕ, List, length, slice_get, Option, Some, None}
+use Rattle.std.specs.Prelude.{◌≡◌, ◌<◌, ◌^◌, ◌==◌, if◌then◌else◌, ◌&&◌, ℕ, List, length, slice_get, Option, Some, None}
 use Rattle.std.specs.Prelude.{Result, Ok, Err, Bool}
 use Rattle.std.specs.Result.{result_map_both}
 use Rattle.bank_parts.specs.declared.parts.Parts.{Parts}
 use Rattle.bank_parts.specs.declared.parts.Sample.{Sample}
+use Rattle.hydra_records.specs.Records.{AreBytes}
 use Rattle.bank_format.specs.Canon.{canon}
 use Rattle.bank_format.specs.ReadChecks.{fault_of}
 use Rattle.edit_forms.specs.declared.edit.Edit.{Edit}
@@ -83,6 +84,11 @@ fault_of_replacement replacing.OutOfMemory = run.Memory
 -- it is put in the place of a sample
 abbrev pub put_in_place : ℕ → Change
 put_in_place number b r = result_map_both (λ edits. edits) fault_of_replacement (replacement_edits b number r)
+
+-- a name of bytes, or a number of a sample in range
+abbrev pub FitsDestination : Destination → Type 0
+FitsDestination (End name) = AreBytes name.now
+FitsDestination (Place number) = number < 2 ^ 32
 
 -- the change for a destination
 abbrev pub change_of : Destination → Change

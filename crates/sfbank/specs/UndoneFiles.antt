@@ -4,6 +4,7 @@ use Rattle.hydra_records.specs.Records.{AreBytes}
 use Rattle.bank_parts.specs.declared.parts.Parts.{Parts}
 use Rattle.bank_format.specs.Canon.{canon}
 use Rattle.bank_format.specs.ReadChecks.{fault_of}
+use Rattle.edit_forms.specs.declared.edit.Edit.{Edit}
 use Rattle.edit_script.specs.declared.parsing.Line.{Line}
 use Rattle.edit_script.specs.Script.{script_of}
 use Rattle.edit_script.specs.Printing.{texts_of}
@@ -13,16 +14,19 @@ use Rattle.live_sessions.specs.Saved.{saved_of}
 use Rattle.live_sessions.specs.Steps.{started_with}
 use Rattle.live_sessions.specs.Turns.{Turn, AreTurns}
 use Rattle.wave_file.specs.declared.recording.Recording.{Recording}
+use Rattle.wave_file.specs.Recordings.{FitsKey}
 use Rattle.wave_file.specs.ReadChecks.{recording_in}
 use Rattle.program_commands.specs.declared.words.ApplyPaths.{ApplyPaths}
 use Rattle.program_commands.specs.declared.words.Forms.TheVariants.{Every}
-use Rattle.program_commands.specs.declared.words.ImportPaths.{ImportPaths}
-use Rattle.program_commands.specs.declared.words.Request.TheVariants.{Apply, Import}
+use Rattle.program_commands.specs.declared.words.Request.{Request}
+use Rattle.program_commands.specs.declared.words.Request.TheVariants.{Apply}
 use Rattle.sfbank.specs.Outcome.{Done, bank_in, edits_of, play_outcome}
-use Rattle.sfbank.specs.Recordings.{edits_into}
+use Rattle.sfbank.specs.declared.program.recorded.RecordingWork.{RecordingWork}
+use Rattle.sfbank.specs.Recordings.{FitsDestination, change_of}
+use Rattle.sfbank.specs.RecordingPlans.{RecordsBy}
 use Rattle.sfbank.specs.Purposes.{Purpose, promise_of}
 use Rattle.sfbank.specs.PlannedEdits.{IsPlanned}
-use Rattle.sfbank.specs.Plans.{SavesBoth, Known, name_in, plan}
+use Rattle.sfbank.specs.Plans.{SavesBoth, Known, plan}
 
 -- `apply` of these paths was done on files: it read two files, planned to save two texts, and saved them.
 pub record IsApplied (paths : ApplyPaths) (old new : World) (file script : List ℕ) (done : Done) : Type 0 where
@@ -32,13 +36,15 @@ pub record IsApplied (paths : ApplyPaths) (old new : World) (file script : List 
       ≡ Ok (SavesBoth paths.out.now paths.undo.now (Known done))
   pub files : new ≡ with_pair paths.undo.now done.undo paths.out.now done.out old
 
--- the same of `import`
-pub record IsImported (paths : ImportPaths) (old new : World) (file wave : List ℕ) (done : Done) : Type 0 where
-  pub read : file_at old paths.input.now ≡ Ok file
-  pub read_wave : file_at old paths.wave.now ≡ Ok wave
-  pub planned : plan (Import paths) old (record { first = Ok file; second = Ok wave })
-      ≡ Ok (SavesBoth paths.out.now paths.undo.now (Known done))
-  pub files : new ≡ with_pair paths.undo.now done.undo paths.out.now done.out old
+-- the same of a request that brings a recording into a bank, `import` or `replace`
+pub record IsRecorded (work : RecordingWork) (request : Request) (old new : World) (file wave : List ℕ) (done : Done)
+    : Type 0 where
+  pub records : RecordsBy work request
+  pub read : file_at old work.paths.input.now ≡ Ok file
+  pub read_wave : file_at old work.paths.other.now ≡ Ok wave
+  pub planned : plan request old (record { first = Ok file; second = Ok wave })
+      ≡ Ok (SavesBoth work.paths.out.now work.paths.undo.now (Known done))
+  pub files : new ≡ with_pair work.paths.undo.now done.undo work.paths.out.now done.out old
 
 -- A bank and its undo script are regular files, or will be, at two places.
 pub record ArePlaced (world : World) (out undo : List ℕ) : Type 0 where
@@ -74,16 +80,17 @@ UndoRestoresFiles =
     → RunsOn second first.out.now first.undo.now left now new other_file other_script back
     → IsRestored second now new file (texts_of (edits_of lines)) back
 
--- the same for an imported recording
+-- the same for a recording that was brought into a bank
 abbrev pub UndoRemovesRecordings : Type 0
 UndoRemovesRecordings =
-    (first : ImportPaths) (second : ApplyPaths) (old left now new : World) (file wave other_file other_script : List ℕ)
-    (done back : Done) (r : Recording)
-    → AreBytes file → AreBytes wave → AreBytes (name_in first.wave.now) → recording_in wave ≡ Ok r
-    → IsImported first old left file wave done
-    → ArePlaced old first.out.now first.undo.now → second.forms ≡ Every
-    → RunsOn second first.out.now first.undo.now left now new other_file other_script back
-    → IsRestored second now new file (texts_of (edits_into (bank_in file) (name_in first.wave.now) r)) back
+    (work : RecordingWork) (request : Request) (second : ApplyPaths) (old left now new : World)
+    (file wave other_file other_script : List ℕ) (done back : Done) (r : Recording) (edits : List Edit)
+    → AreBytes file → AreBytes wave → FitsDestination work.destination → FitsKey work.options.key
+    → recording_in work.options wave ≡ Ok r → change_of work.destination (bank_in file) r ≡ Ok edits
+    → IsRecorded work request old left file wave done
+    → ArePlaced old work.paths.out.now work.paths.undo.now → second.forms ≡ Every
+    → RunsOn second work.paths.out.now work.paths.undo.now left now new other_file other_script back
+    → IsRestored second now new file (texts_of edits) back
 
 -- the same for edits that were found: they are on the last undo script
 abbrev pub UndoRestoresPlans : Type 0

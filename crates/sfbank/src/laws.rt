@@ -28,7 +28,7 @@ pub fn kept_notes_render_same()
 pub fn undo_restores_files()
     // They were saved by `apply`, in the same mode: the last undo script has the edits of the first script.
     ensures apply { UndoRestoresFiles }
-    // They were saved by `import`: the last undo script has the edits that add the recording.
+    // They were saved by `import` or `replace`: the last undo script has the edits of the recording.
     ensures import { UndoRemovesRecordings }
     // They were saved by a command that found edits: the last undo script has these edits.
     ensures plans { UndoRestoresPlans }

@@ -1,28 +1,7 @@
 use Rattle.std.proofs.Common.{refl}
 use Rattle.program_commands.specs.declared.words.Request.TheVariants.{Import}
-use Rattle.sfbank.specs.Recordings.{import_outcome}
-use Rattle.sfbank.specs.Plans.{name_in, with_both}
-use Rattle.sfbank.specs.Steps.{edit_part}
-use Rattle.sfbank.proofs.PlanLaws.{after_two, checks_fail, two_go_on, two_fail}
 use Rattle.sfbank.proofs.program.import.import.Goals as goal
 
-pub returns-in-Ok-read_two : goal.returns-in-Ok-read_two
-returns-in-Ok-read_two g c printed =
-    let p = c.args.paths in
-    two_go_on (Import p) (edit_part (record { input = p.input; other = p.wave; out = p.out; undo = p.undo; force = p.force })) (λ w a b. with_both p.out.now p.undo.now (import_outcome a b (name_in p.wave.now))) p.input.now p.wave.now _
-    (g.H.Host.world c.reject_outputs.new.host) _ _ _ _ c.save_larger.result tt c.in-Ok-read_two.file.items
-    c.in-Ok-read_two.wave.items (λ w i. refl) (λ w r s h k. (h, k)) c.in-Ok.ensures c.in-Ok-read_two.ensures
-    (rw (c.as_slice.ensures.value, c.as_slice-in-Ok-read_two.ensures.value) at (c.save_larger.ensures printed))
-
-pub returns-in-Err-read_two : goal.returns-in-Err-read_two
-returns-in-Err-read_two g c printed =
-    let p = c.args.paths in
-    two_fail (Import p) (edit_part (record { input = p.input; other = p.wave; out = p.out; undo = p.undo; force = p.force })) (λ w a b. with_both p.out.now p.undo.now (import_outcome a b (name_in p.wave.now))) p.input.now p.wave.now _
-    (g.H.Host.world c.reject_outputs.new.host) _ _ _ c.in-Err-read_two.fault tt (λ w i. refl) (λ w r s h k. (h, k)) c.in-Ok.ensures
-    c.in-Err-read_two.ensures
-
-pub returns-in-Err : goal.returns-in-Err
-returns-in-Err g c printed =
-    let p = c.args.paths in
-    checks_fail (Import p) (edit_part (record { input = p.input; other = p.wave; out = p.out; undo = p.undo; force = p.force })) (after_two p.input.now p.wave.now (λ w a b. with_both p.out.now p.undo.now (import_outcome a b (name_in p.wave.now)))) p.input.now p.wave.now _ _ _ _
-    c.in-Err.fault (λ w i. refl) (λ w r s h k. (h, k)) c.in-Err.ensures
+pub returns : goal.returns
+returns g c printed =
+    c.record.ensures (Import c.args.paths) printed (record { plans = λ w i. refl; inputs = λ w r s h k. (h, k) })

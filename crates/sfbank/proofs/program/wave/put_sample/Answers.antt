@@ -6,7 +6,7 @@ use Rattle.sfbank.specs.Recordings.{wave_outcome}
 use Rattle.sfbank.proofs.Recordings.{few_points}
 use Rattle.sfbank.proofs.OutcomeLaws.{text_put, text_fails}
 use Rattle.sfbank.proofs.CommandLaws.{wave_fails, wave_text, no_wave}
-use Rattle.sfbank.proofs.program.wave.put_wave.Goals as goal
+use Rattle.sfbank.proofs.program.wave.put_sample.Goals as goal
 
 pub new-requires : goal.new-requires
 new-requires g c =
