@@ -14,7 +14,7 @@ ZSH = $(DESTDIR)$(PREFIX)/share/zsh/site-functions
 FISH = $(DESTDIR)$(PREFIX)/share/fish/vendor_completions.d
 DOC = $(DESTDIR)$(PREFIX)/share/doc/sfbank
 # The pages for users, and their pictures.
-PAGES = README.md docs/FAULTS.md docs/FORMAT.md docs/LISTING.md docs/LIVE.md docs/NOTES.md docs/SCRIPT.md \
+PAGES = README.md docs/FAULTS.md docs/FORMAT.md docs/LISTING.md docs/LIVE.md docs/NOTES.md docs/RECORDINGS.md docs/SCRIPT.md \
   docs/SOUND.md docs/TUTORIAL.md docs/ocarina.svg docs/organ.svg docs/plucks.svg
 
 build:

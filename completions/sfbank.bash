@@ -5,15 +5,18 @@ _sfbank_options() {
   case $1 in
     apply) echo --force --neutral --no-undo --explain --help ;;
     copy) echo --as --dry-run --force --name --script --explain --help ;;
-    diff | import | map | wave) echo --force --explain --help ;;
+    diff | map) echo --force --explain --help ;;
+    import) echo --channel --dither --force --key --name --explain --help ;;
     keep) echo --dry-run --force --notes --preset --script --zones --explain --help ;;
     live | play) echo --force --report --explain --help ;;
     merge) echo --dry-run --force --script --shift --explain --help ;;
     new) echo --force --minor --explain --help ;;
+    replace) echo --channel --dither --force --key --explain --help ;;
     script) echo --force --no-points --explain --help ;;
     show) echo --zones --uses --explain --help ;;
     take) echo --dry-run --force --preset --script --explain --help ;;
     tidy) echo --dry-run --force --merge --script --explain --help ;;
+    wave) echo --force --pair --explain --help ;;
     canon | explain) echo --explain --help ;;
     '') echo --help --version ;;
   esac
@@ -34,6 +37,7 @@ _sfbank_endings() {
     merge | take) echo sf2 sf2 sf2 txt ;;
     new | show) echo sf2 ;;
     play) echo sf2 txt wav ;;
+    replace) echo sf2 - wav sf2 txt ;;
     script) echo sf2 txt ;;
     wave) echo sf2 - wav ;;
   esac
@@ -45,7 +49,7 @@ _sfbank_given() {
   local i
   for ((i = 1; i < COMP_CWORD; i++)); do
     case ${COMP_WORDS[i]} in
-      --as | --minor | --name | --notes | --preset | --script | --shift)
+      --as | --channel | --dither | --key | --minor | --name | --notes | --preset | --script | --shift)
         [ "${COMP_WORDS[i + 1]}" = = ] && ((i++))
         ((i++))
         while [[ ${COMP_WORDS[i + 1]} == [:=] ]]; do ((i += 2)); done
@@ -76,13 +80,13 @@ _sfbank_files() {
 _sfbank() {
   local word=${COMP_WORDS[COMP_CWORD]} before=${COMP_WORDS[COMP_CWORD - 1]}
   local given endings
-  local commands="apply canon copy diff explain help import keep live map merge new play script show take tidy wave"
+  local commands="apply canon copy diff explain help import keep live map merge new play replace script show take tidy wave"
   COMPREPLY=()
   mapfile -t given < <(_sfbank_given)
   read -ra endings < <(_sfbank_endings "${given[0]}")
   if [[ $before == --@(notes|script) || $before == = && ${COMP_WORDS[COMP_CWORD - 2]} == --@(notes|script) ]]; then
     _sfbank_files txt "${word#=}"
-  elif [[ $before == --@(as|minor|name|preset|shift) || $before == [:=] || $word == [:=] ]]; then
+  elif [[ $before == --@(as|channel|dither|key|minor|name|preset|shift) || $before == [:=] || $word == [:=] ]]; then
     return
   elif [[ $word == -* ]]; then
     mapfile -t COMPREPLY < <(compgen -W "$(_sfbank_options "${given[0]}")" -- "$word")

@@ -54,6 +54,8 @@ function __sfbank_files
             set endings sf2
         case play
             set endings sf2 txt wav
+        case replace
+            set endings sf2 - wav sf2 txt
         case script
             set endings sf2 txt
         case wave
@@ -70,7 +72,7 @@ function __sfbank_files
     end
 end
 
-set -l commands apply canon copy diff explain import keep live map merge new play script show take tidy wave
+set -l commands apply canon copy diff explain import keep live map merge new play replace script show take tidy wave
 
 complete -c sfbank -f
 complete -c sfbank -n __sfbank_is_bare -a apply -d 'Run a script of edits on a bank, and write its undo script'
@@ -90,6 +92,7 @@ complete -c sfbank -n __sfbank_is_bare -a script -d 'Write a script that makes t
 complete -c sfbank -n __sfbank_is_bare -a show -d 'List what a bank has, and what was dropped or repaired in reading it'
 complete -c sfbank -n __sfbank_is_bare -a take -d 'Copy presets of another bank into a bank, with what they need'
 complete -c sfbank -n __sfbank_is_bare -a tidy -d 'Remove what a bank does not use, and change no sound'
+complete -c sfbank -n __sfbank_is_bare -a replace -d 'Put a recording in the place of a sample, or of a pair'
 complete -c sfbank -n __sfbank_is_bare -a wave -d 'Write a sample of a bank as a WAVE file'
 complete -c sfbank -n 'test "$(__sfbank_given)" = help' -a "$commands"
 complete -c sfbank -n "__sfbank_is $commands" -k -a '(__sfbank_files)'
@@ -102,6 +105,11 @@ complete -c sfbank -n '__sfbank_is apply' -l no-undo -d 'Write no undo script; U
 complete -c sfbank -n '__sfbank_is copy' -l force -d 'Write UNDO and FILE even if a bank is there'
 complete -c sfbank -n '__sfbank_is diff' -l force -d 'Write OUT even if a bank is there'
 complete -c sfbank -n '__sfbank_is import' -l force -d 'Write UNDO even if a bank is there'
+complete -c sfbank -n '__sfbank_is import' -l name -x -d 'Give the sample this name'
+complete -c sfbank -n '__sfbank_is import replace' -l channel -x -d 'Read this channel, counted from 1, as mono'
+complete -c sfbank -n '__sfbank_is import replace' -l key -x -d 'Set this root key'
+complete -c sfbank -n '__sfbank_is import replace' -l dither -x -d 'Dither, by random numbers from this seed'
+complete -c sfbank -n '__sfbank_is replace' -l force -d 'Write UNDO even if a bank is there'
 complete -c sfbank -n '__sfbank_is keep' -l force -d 'Write UNDO and FILE even if a bank is there'
 complete -c sfbank -n '__sfbank_is live' -l force -d 'Write PCM, and UNDO of each save, even if a bank is there'
 complete -c sfbank -n '__sfbank_is live' -l report -d 'Report silent notes, the peak and clipping at the end'
@@ -114,6 +122,7 @@ complete -c sfbank -n '__sfbank_is script' -l force -d 'Write OUT even if a bank
 complete -c sfbank -n '__sfbank_is take' -l force -d 'Write UNDO and FILE even if a bank is there'
 complete -c sfbank -n '__sfbank_is tidy' -l force -d 'Write UNDO and FILE even if a bank is there'
 complete -c sfbank -n '__sfbank_is wave' -l force -d 'Write OUT even if a bank is there'
+complete -c sfbank -n '__sfbank_is wave' -l pair -d 'Write the left and the right sample of its pair'
 complete -c sfbank -n '__sfbank_is apply' -l neutral -d 'Accept only edits of the thirteen neutral forms'
 complete -c sfbank -n '__sfbank_is copy' -l dry-run -d 'Print the script of edits, and save nothing'
 complete -c sfbank -n '__sfbank_is copy' -l script -r -k -a '(__fish_complete_suffix .txt)' -d 'Save the edits too'
