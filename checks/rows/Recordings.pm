@@ -22,8 +22,20 @@ sub wave_bytes {
     return $wave =~ /^words\b(.*)/ ? bytes_of($1) : changed($file, $wave);
 }
 
-sub wave_run { my ($bank, $sample) = @_; return run_command(['wave', $bank, $sample, 'out.wav'], 'out.wav'); }
-sub import_run { my ($name) = @_; return run_command(['import', 'tone', $name, 'out', 'undo'], 'out', 'undo'); }
+sub wave_run {
+    my ($bank, $sample, @options) = @_;
+    return run_command(['wave', @options, $bank, $sample, 'out.wav'], 'out.wav');
+}
+
+sub import_run {
+    my ($name, @options) = @_;
+    return run_command(['import', @options, 'tone', $name, 'out', 'undo'], 'out', 'undo');
+}
+
+sub replace_run {
+    my ($bank, $sample, @options) = @_;
+    return run_command(['replace', @options, $bank, $sample, 'in.wav', 'out', 'undo'], 'out', 'undo');
+}
 
 sub try_wave {
     my ($script, $changes) = @_;
@@ -31,20 +43,44 @@ sub try_wave {
     report("the WAVE file of tone behind $script", $wrong // (read_bytes('out.wav') eq wave_bytes($changes) ? undef : 'is another'));
 }
 
-# Tests an import that must do what the script does and have this undo script.
+# Tests an import with options, which must do what the script does and have this undo script.
 sub try_import {
-    my ($name, $wave, $script, $undo) = @_;
+    my ($options, $name, $wave, $script, $undo) = @_;
     write_bytes($name, wave_bytes($wave));
-    my $wrong = Rows::is_done(apply_text('tone', unescaped($script), 'edited', 'undo.edited')) // Rows::is_done(import_run($name));
+    my $wrong = Rows::is_done(apply_text('tone', unescaped($script), 'edited', 'undo.edited'));
+    $wrong //= Rows::is_done(import_run($name, split ' ', $options));
     $wrong //= same('out', 'edited') ? undef : 'another bank';
     $wrong //= read_bytes('undo') eq unescaped($undo) ? undone('tone') : 'another undo text: ' . read_bytes('undo');
-    report("the import of $name", $wrong);
+    report("the import$options of $name", $wrong);
 }
 
 sub try_fault {
-    my ($wave, $line) = @_;
+    my ($options, $wave, $line) = @_;
     write_bytes('in.wav', wave_bytes($wave));
-    report("the import of $wave", tells(import_run('in.wav'), $line));
+    report("the import$options of $wave", tells(import_run('in.wav', split ' ', $options), $line));
+}
+
+# Tests a replacement in `tone` after a script, which must do what another script does, and be undone; or have this line.
+sub try_replacement {
+    my ($sample, $options, $before, $wave, $script) = @_;
+    write_bytes('in.wav', wave_bytes($wave));
+    my $wrong = Rows::is_done(apply_text('tone', unescaped($before), 'first', 'undo'));
+    my $run = replace_run('first', $sample, split ' ', $options);
+    return report("a replacement$options by $wave", $wrong // tells($run, $script)) if $script =~ /^sfbank:/;
+    $wrong //= Rows::is_done($run) // undone('first');
+    write_bytes('made', read_bytes('out'));
+    $wrong //= Rows::is_done(apply_text('first', unescaped($script), 'edited', 'undo.edited'));
+    report("a replacement$options by $wave", $wrong // (same('made', 'edited') ? undef : 'another bank'));
+}
+
+# Tests the WAVE file of the pair of sample 0 of `tone` after a script: these bytes or this line.
+sub try_pair {
+    my ($sample, $script, $wave) = @_;
+    my $wrong = Rows::is_done(apply_text('tone', unescaped($script), 'paired', 'undo'));
+    my $run = wave_run('paired', $sample, '--pair');
+    return report("the pair behind $script", $wrong // tells($run, $wave)) if $wave =~ /^sfbank:/;
+    $wrong //= Rows::is_done($run) // (read_bytes('out.wav') eq wave_bytes($wave) ? undef : 'is another');
+    report("the pair behind $script", $wrong);
 }
 
 sub try_row {
@@ -52,7 +88,10 @@ sub try_row {
     return $file = bytes_of($parts[0]) if $what eq 'file';
     return try_wave(@parts) if $what eq 'wave';
     return report($what, tells(wave_run('tone', $1), $parts[0])) if $what =~ /^wave (\d+)$/;
-    return @parts > 2 ? try_import(@parts) : try_fault(@parts);
+    return try_replacement($1, $2, @parts) if $what =~ /^replace (\d+)(.*)$/;
+    return try_pair($1, @parts) if $what =~ /^pair (\d+)$/;
+    my ($options) = $what =~ /^import(.*)$/;
+    return @parts > 2 ? try_import($options, @parts) : try_fault($options, @parts);
 }
 
 sub try_recordings {

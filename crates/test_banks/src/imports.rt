@@ -1,6 +1,6 @@
-//! A test of `import_run` with a zero byte in the file name, which no real file has.
+//! Tests of runs with WAVE files. A zero byte in a file name, which no real file has, ends the name of a sample.
 
-use sfbank::{edit_run, import_run};
+use sfbank::{ReadOptions, canon_run, edit_run, import_run, pair_run, replace_run};
 use std::alloc::Global;
 use test_inputs::{File, tone};
 
@@ -21,7 +21,8 @@ fn imports(alloc: Global, wave: &File, name: &[u8], script: &[u8], back: &[u8]) 
     let mut undo = Vec::new(alloc);
     let mut edited = Vec::new(alloc);
     let mut edited_undo = Vec::new(alloc);
-    import_run(alloc, tone.bytes(), wave.bytes(), name, &mut out, &mut undo).is_ok()
+    let options = ReadOptions::as_stored();
+    import_run(alloc, tone.bytes(), wave.bytes(), options, name, &mut out, &mut undo).is_ok()
         && edit_run(alloc, tone.bytes(), script, &mut edited, &mut edited_undo).is_ok()
         && out.as_slice() == edited.as_slice()
         && undo.as_slice() == back
@@ -39,4 +40,28 @@ fn a_name_is_truncated(rt: HostRuntime) {
             b"remove-sample 1\n"
         )
     );
+}
+
+#[test]
+fn a_sample_is_replaced_by_itself(rt: HostRuntime) {
+    let tone = tone();
+    let wave = tone_wave();
+    let mut canonical = Vec::new(rt.alloc());
+    let mut out = Vec::new(rt.alloc());
+    let mut undo = Vec::new(rt.alloc());
+    let options = ReadOptions::as_stored();
+    let replaced = replace_run(rt.alloc(), tone.bytes(), wave.bytes(), options, 0, &mut out, &mut undo);
+    assert!(rt; canon_run(rt.alloc(), tone.bytes(), &mut canonical).is_ok());
+    assert!(rt; replaced.is_ok() && out.as_slice() == canonical.as_slice());
+}
+
+#[test]
+fn a_pair_is_written(rt: HostRuntime) {
+    let tone = tone();
+    let script = b"add-sample 1 \"r\" 44100 60 0 right 0 noloop x010002000300\nset-kind 0 left 1\n";
+    let mut paired = Vec::new(rt.alloc());
+    let mut undo = Vec::new(rt.alloc());
+    let mut wave = Vec::new(rt.alloc());
+    assert!(rt; edit_run(rt.alloc(), tone.bytes(), script, &mut paired, &mut undo).is_ok());
+    assert!(rt; pair_run(rt.alloc(), paired.as_slice(), 1, &mut wave).is_ok() && wave.len() == 132);
 }
