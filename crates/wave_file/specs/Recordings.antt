@@ -9,7 +9,7 @@ use Rattle.hydra_records.specs.Records.{records}
 use Rattle.pcm_points.specs.declared.encoding.SampleEncoding.{SampleEncoding}
 use Rattle.pcm_points.specs.declared.encoding.SampleEncoding.TheVariants as encoding
 use Rattle.pcm_points.specs.Samples.{size_of}
-use Rattle.pcm_points.specs.Points.{channel_words}
+use Rattle.pcm_points.specs.Dither.{reduced_words}
 use Rattle.wave_file.specs.SamplerPitch.{unity_note, pitch_fraction}
 use Rattle.wave_file.specs.SampleWave.{stored_pitch}
 use Rattle.wave_file.specs.declared.sampler_loop.SamplerLoop.{SamplerLoop}
@@ -110,12 +110,14 @@ mono_in encoding.Signed24 n points = channels.MonoSamples points
 mono_in encoding.Signed32 n points = channels.MonoSamples points
 mono_in encoding.Float32 n points = channels.MonoSamples points
 
-abbrev pub channels_of : Layout → SampleEncoding → List ℕ → Channels
-channels_of (layout.Mono n channel) e bytes = mono_in e n (channel_words e n channel bytes)
-channels_of layout.Stereo e bytes = channels.Stereo (channel_words e 2 0 bytes) (channel_words e 2 1 bytes)
+-- with the dither of a seed, if one is given
+abbrev pub channels_of : Option ℕ → Layout → SampleEncoding → List ℕ → Channels
+channels_of dither (layout.Mono n channel) e bytes = mono_in e n (reduced_words dither e n channel bytes)
+channels_of dither layout.Stereo e bytes =
+    channels.Stereo (reduced_words dither e 2 0 bytes) (reduced_words dither e 2 1 bytes)
 
-abbrev pub channels_in : Format → List ℕ → Channels
-channels_in format bytes = channels_of format.layout format.encoding bytes
+abbrev pub channels_in : Option ℕ → Format → List ℕ → Channels
+channels_in dither format bytes = channels_of dither format.layout format.encoding bytes
 
 abbrev pub frame_count : Channels → ℕ
 frame_count (channels.Mono points) = length points

@@ -1,7 +1,7 @@
 //! The samples of one channel.
 ghost use Rattle.std.specs.Prelude.{◌≡◌, ◌%◌, ◌<◌, ◌≤◌, length, IfOk};
 ghost use Rattle.sample_view.specs.Words.{words};
-ghost use Rattle.pcm_points.specs.Points.{channel_words};
+ghost use Rattle.pcm_points.specs.Dither.{reduced_words};
 
 use pcm_points::{SampleEncoding, channel_points};
 use sf_base::OutOfMemory;
@@ -15,36 +15,39 @@ pub struct ChannelSamples<'a> {
     encoding: SampleEncoding,
     channels: usize,
     channel: usize,
+    dither: Option<u64>,
 }
 
 impl<'a> Model for ChannelSamples<'a> {
     ghost use Rattle.std.specs.Prelude.{◌<◌, ◌≤◌, ℕ, List};
-    ghost use Rattle.pcm_points.specs.Points.{channel_words};
+    ghost use Rattle.pcm_points.specs.Dither.{reduced_words};
 
     ghost Value = { List ℕ };
 
-    ghost view = { λ s. channel_words s.encoding s.channels s.channel s.frames.now };
+    ghost view = { λ s. reduced_words s.dither s.encoding s.channels s.channel s.frames.now };
 
     ghost invariant = { λ s. (s.channel < s.channels) × (s.channels ≤ 65535) };
 }
 
 impl<'a> ChannelSamples<'a> {
-    /// The samples of one of these channels.
+    /// The samples of one of these channels, with the dither of a seed.
     pub(crate) fn of(
         frames: &'a [u8],
         encoding: SampleEncoding,
         channels: usize,
         channel: usize,
+        dither: Option<u64>,
     ) -> ChannelSamples<'a>
         requires channel { channel < channels }
         requires count { channels ≤ 65535 }
-        ensures { result ≡ channel_words encoding channels channel frames.now }
+        ensures { result ≡ reduced_words dither encoding channels channel frames.now }
     {
         ChannelSamples {
             frames,
             encoding,
             channels,
             channel,
+            dither,
         }
     }
 
@@ -66,6 +69,7 @@ impl<'a> ChannelSamples<'a> {
             self.encoding,
             self.channels,
             self.channel,
+            self.dither,
         )
     }
 }

@@ -2,7 +2,7 @@
 ghost use Rattle.std.specs.Prelude.{◌≡◌, ◌<◌, ◌≤◌, ◌*◌, ◌%◌, [], length, unwrap_or, IfOk};
 ghost use Rattle.std.specs.Option.{option_copied};
 ghost use Rattle.bank_format.specs.FaultChecks.{Passes};
-ghost use Rattle.pcm_points.specs.Points.{channel_words};
+ghost use Rattle.pcm_points.specs.Dither.{reduced_words};
 ghost use Rattle.pcm_points.specs.Samples.{size_of};
 ghost use Rattle.wave_file.specs.Recordings.{has_tag, is_pcm, is_float, encoding_in, layout_of, format_in, HasChannel, frame_size, mono_in, channels_in};
 ghost use Rattle.wave_file.specs.ReadChecks.{format_checks, channel_checks, data_checks, frame_checks};
@@ -134,14 +134,15 @@ fn has_tag(tag: u16, subformat: &[u8; 16], format: &[u8]) -> bool
 pub(crate) fn read_data<'a>(
     alloc: Global,
     format: Format,
+    dither: Option<u64>,
     body: Option<&'a [u8]>,
 ) -> Result<Channels<'a>, WaveFault>
     requires { HasChannel format.layout }
     ensures { Passes (λ c. c) result (data_checks format (option_copied body.entry))
-        (channels_in format (unwrap_or (option_copied body.entry) [])) }
+        (channels_in dither format (unwrap_or (option_copied body.entry) [])) }
 {
     match body {
-        Some(bytes) => read_channels(alloc, format, bytes),
+        Some(bytes) => read_channels(alloc, format, dither, bytes),
         None => Err(WaveFault::NoData),
     }
 }
@@ -151,10 +152,11 @@ pub(crate) fn read_data<'a>(
 fn read_channels<'a>(
     alloc: Global,
     format: Format,
+    dither: Option<u64>,
     bytes: &'a [u8],
 ) -> Result<Channels<'a>, WaveFault>
     requires { HasChannel format.layout }
-    ensures { Passes (λ c. c) result (frame_checks format bytes.now) (channels_in format bytes.now) }
+    ensures { Passes (λ c. c) result (frame_checks format bytes.now) (channels_in dither format bytes.now) }
 {
     if bytes.len() % frame_size(format) != 0 {
         return Err(WaveFault::HalfFrame);
@@ -166,11 +168,12 @@ fn read_channels<'a>(
             encoding,
             usize::from(channels),
             usize::from(channel),
+            dither,
             bytes,
         )),
         Layout::Stereo => Ok(Channels::Stereo(
-            ChannelSamples::of(bytes, encoding, 2, 0),
-            ChannelSamples::of(bytes, encoding, 2, 1),
+            ChannelSamples::of(bytes, encoding, 2, 0, dither),
+            ChannelSamples::of(bytes, encoding, 2, 1, dither),
         )),
     }
 }
@@ -193,17 +196,18 @@ fn mono_in<'a>(
     encoding: SampleEncoding,
     channels: usize,
     channel: usize,
+    dither: Option<u64>,
     bytes: &'a [u8],
 ) -> Channels<'a>
     requires whole { length bytes.now % (channels * size_of encoding) ≡ 0 }
     requires channel { channel < channels }
     requires count { channels ≤ 65535 }
-    ensures { result ≡ mono_in encoding channels (channel_words encoding channels channel bytes.now) }
+    ensures { result ≡ mono_in encoding channels (reduced_words dither encoding channels channel bytes.now) }
 {
     match encoding {
         SampleEncoding::Signed16 if channels == 1 => {
             Channels::Mono(Points::of_slice(alloc, bytes).unwrap())
         }
-        _ => Channels::MonoSamples(ChannelSamples::of(bytes, encoding, channels, channel)),
+        _ => Channels::MonoSamples(ChannelSamples::of(bytes, encoding, channels, channel, dither)),
     }
 }
