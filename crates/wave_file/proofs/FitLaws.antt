@@ -1,7 +1,7 @@
 -- The fields of a recording read from bytes are in range, and so are the edits of its import.
 use Rattle.std.proofs.Common.{◌≡◌, ◌≤◌, ◌<◌, ◌+◌, ◌-◌, ◌^◌, ℕ, zero, suc, pos, neg_ℤ, Bool, true, false, cond, leb}
-use Rattle.std.proofs.Common.{ltb, eqb, ◌&&◌, ◌||◌, List, [], ◌∷◌, length, take, get_or, codes, Option, Some}
-use Rattle.std.proofs.Common.{None, Ok, FitsSigned, refl, inl, inr, arith}
+use Rattle.std.proofs.Common.{ltb, eqb, ◌&&◌, ◌||◌, List, [], ◌∷◌, ◌++◌, length, take, drop, get_or, codes, Option}
+use Rattle.std.proofs.Common.{Some, None, Ok, FitsSigned, refl, inl, inr, arith}
 use Rattle.std.specs.Prelude.{unwrap_or}
 use Rattle.std.specs.Option.{option_map}
 use Rattle.std.specs.Int.{w8}
@@ -18,7 +18,7 @@ use Rattle.pcm_points.specs.declared.encoding.SampleEncoding.TheVariants.{Float3
 use Rattle.pcm_points.specs.Points.{channel_words}
 use Rattle.pcm_points.proofs.ChannelLaws.{words_fit}
 use Rattle.riff_chunks.specs.Walk.{Chunk, walk}
-use Rattle.riff_chunks.specs.Finding.{chunks_in, first_body}
+use Rattle.riff_chunks.specs.Finding.{chunks_in, is_whole, first_body}
 use Rattle.hydra_records.specs.Records.{AreBytes}
 use Rattle.hydra_records.proofs.Fields.{field_at-lt}
 use Rattle.bank_parts.specs.declared.parts.Kind.{Kind}
@@ -26,14 +26,17 @@ use Rattle.bank_parts.specs.declared.parts.Kind.TheVariants as kind
 use Rattle.bank_parts.specs.declared.parts.Sample.{Sample}
 use Rattle.bank_parts.specs.Fits.{FitsSample, FitsKind, FitsLoop}
 use Rattle.bank_format.specs.Chunks.{window, body_in}
+use Rattle.bank_format.proofs.AllLaws.{all-append}
 use Rattle.bank_format.proofs.CheckLaws.{split_none, both_none}
-use Rattle.bank_format.proofs.ReadBytes.{OfBytes, take_bytes, drop_bytes, walk_bytes, body_bytes, window_bytes}
+use Rattle.bank_format.proofs.ReadBytes as whole
+use Rattle.bank_format.proofs.ReadBytes.{OfBytes, take_bytes, drop_bytes, walk_bytes, body_bytes}
 use Rattle.edit_forms.specs.declared.edit.Edit.TheVariants.{One}
 use Rattle.edit_forms.specs.declared.points.PointStep.TheVariants.{SetKind}
 use Rattle.edit_forms.specs.declared.step.Step.TheVariants.{Points}
 use Rattle.edit_forms.specs.Fits.{FitsEdit}
 use Rattle.wave_file.specs.Wave.{FORMAT, DATA}
-use Rattle.wave_file.specs.SampleWave.{SAMPLER}
+use Rattle.wave_file.specs.SampleWave.{SAMPLER, made}
+use Rattle.wave_file.specs.Streams.{is_streamed, wave_window, rest_of, wave_chunks}
 use Rattle.wave_file.specs.declared.fault.WaveFault.{WaveFault}
 use Rattle.wave_file.specs.declared.sampler_loop.SamplerLoop.{SamplerLoop}
 use Rattle.wave_file.specs.declared.options.ReadOptions.{ReadOptions}
@@ -170,10 +173,41 @@ content_fits options chunks k b h =
       sampler = key_fits options.key (sampler_in (first_body SAMPLER chunks)) k found;
     }
 
+-- ---- the window
+
+window_bytes : (file : List ℕ) → AreBytes file → AreBytes (wave_window file)
+unfolding wave_window
+window_bytes file b = either (is_streamed file)
+  where
+    either : (t : Bool) → AreBytes (cond t (drop 12 file) (window file))
+    either true = drop_bytes 12 file b
+    either false = whole.window_bytes file b
+
+and_last : (cs : List Chunk) (c : Chunk) → AllByRecursion OfBytes cs → OfBytes c
+    → AllByRecursion OfBytes (cs ++ c ∷ [])
+and_last cs c all last = all-append OfBytes cs (c ∷ []) all (last, tt)
+
+chunks_bytes : (w : List ℕ) → AreBytes w → AllByRecursion OfBytes (wave_chunks w)
+unfolding wave_chunks rest_of
+chunks_bytes w b = either (is_whole (walk w))
+  where
+    found : AllByRecursion OfBytes (chunks_in (walk w))
+    found = walk_bytes w b
+
+    either : (t : Bool)
+        → AllByRecursion OfBytes
+        (cond t (chunks_in (walk w)) (chunks_in (walk w) ++ made DATA (drop 8 (rest_of w)) ∷ []))
+    either true = found
+    either false =
+        and_last (chunks_in (walk w)) (made DATA (drop 8 (rest_of w))) found
+        (drop_bytes 8 (rest_of w) (drop_bytes _ w b))
+
+-- ---- the file
+
 -- a WAVE file that fails no check
 pub record IsRead (options : ReadOptions) (wave : List ℕ) (r : Recording) : Type 0 where
   pub holds : first_fault (steps options wave) ≡ None
-  pub is : content_in options (chunks_in (walk (window wave))) ≡ r
+  pub is : content_in options (wave_chunks (wave_window wave)) ≡ r
 
 pub is_read : (options : ReadOptions) (wave : List ℕ) (r : Recording) → recording_in options wave ≡ Ok r
     → IsRead options wave r
@@ -181,7 +215,7 @@ unfolding recording_in
 is_read options wave r h = by_what (first_fault (steps options wave)) refl h
   where
     by_what : (o : Option WaveFault) → first_fault (steps options wave) ≡ o
-        → unless_broken o (content_in options (chunks_in (walk (window wave)))) ≡ Ok r → IsRead options wave r
+        → unless_broken o (content_in options (wave_chunks (wave_window wave))) ≡ Ok r → IsRead options wave r
     by_what None e k = record { holds = e; is = cc }
     by_what (Some f) e k = absurd cc
 
@@ -190,10 +224,11 @@ pub recording_fits : (options : ReadOptions) (wave : List ℕ) (r : Recording) �
 unfolding steps window_checks
 recording_fits options wave r k b h =
     let read = is_read options wave r h in
-    let past_riff = both_none (riff_checks wave) (window_checks options (window wave)) read.holds in
+    let past_riff = both_none (riff_checks wave) (window_checks options (wave_window wave)) read.holds in
     let walked = split_none _ _ _ past_riff.1 in
     rw (← read.is)
-    (content_fits options (chunks_in (walk (window wave))) k (walk_bytes (window wave) (window_bytes wave b)) walked.1)
+    (content_fits options (wave_chunks (wave_window wave)) k (chunks_bytes (wave_window wave) (window_bytes wave b))
+    walked.1)
 
 -- ---- the edits of an import
 

@@ -1,5 +1,6 @@
 pub mod PieceLaws
 pub mod SampleLaws
+pub mod KeptLaws
 pub mod ReadLaws
 pub mod ImportLaws
 pub mod FitLaws

@@ -1,12 +1,13 @@
 -- The parts of the reader make the reading of the whole file.
-use Rattle.std.proofs.Common.{◌≡◌, ℕ, List, [], ◌++◌, Option, Some, None, Result, Ok, Err, sym, ap, ◌∙◌}
+use Rattle.std.proofs.Common.{◌≡◌, ℕ, List, [], ◌++◌, Option, Some, None, Result, Ok, Err, sym, ap, subst, ◌∙◌}
 use Rattle.std.specs.Prelude.{unwrap_or}
 use Rattle.std.specs.Result.{IsErrAnd}
-use Rattle.riff_chunks.specs.Walk.{Chunk, walk}
-use Rattle.riff_chunks.specs.Finding.{chunks_in, first_body}
-use Rattle.bank_format.specs.Chunks.{window, body_in}
+use Rattle.riff_chunks.specs.Walk.{Chunk}
+use Rattle.riff_chunks.specs.Finding.{first_body}
+use Rattle.bank_format.specs.Chunks.{body_in}
 use Rattle.wave_file.specs.Wave.{FORMAT, DATA}
 use Rattle.wave_file.specs.SampleWave.{SAMPLER}
+use Rattle.wave_file.specs.Streams.{wave_window, wave_chunks}
 use Rattle.wave_file.specs.declared.fault.WaveFault.{WaveFault}
 use Rattle.wave_file.specs.declared.options.ReadOptions.{ReadOptions}
 use Rattle.wave_file.specs.declared.recording.Format.{Format}
@@ -16,11 +17,12 @@ use Rattle.wave_file.specs.declared.recording.Recording.{Recording}
 use Rattle.bank_format.specs.FaultChecks.{Check, first_fault, Passes}
 use Rattle.wave_file.specs.Recordings.{format_in, channels_in, frame_count, sampler_in, with_key}
 use Rattle.wave_file.specs.ReadChecks.{riff_checks, format_checks, data_checks, sampler_checks, content_checks}
+use Rattle.wave_file.specs.ReadChecks.{walk_checks}
 use Rattle.wave_file.specs.ReadChecks.{window_checks, content_in, steps, unless_broken, recording_in}
 use Rattle.bank_format.proofs.CheckLaws.{first_fault-append, first_fault-front, passes_by, passes_front, passes_after}
 
 abbrev window_recording : ReadOptions → List ℕ → Recording
-window_recording options w = content_in options (chunks_in (walk w))
+window_recording options w = content_in options (wave_chunks w)
 
 -- the RIFF chunk has a fault
 pub riff_fails : (options : ReadOptions) (file : List ℕ) (r : Result Recording WaveFault) (f : WaveFault)
@@ -31,27 +33,48 @@ riff_fails options file (Ok x) f is h = absurd is
 riff_fails options file (Err e) f is h =
     ap (λ (x : WaveFault). Err x) is
     ∙ sym
-    (ap (λ (o : Option WaveFault). unless_broken o (window_recording options (window file)))
-    (first_fault-front (riff_checks file) (window_checks options (window file)) f h))
+    (ap (λ (o : Option WaveFault). unless_broken o (window_recording options (wave_window file)))
+    (first_fault-front (riff_checks file) (window_checks options (wave_window file)) f h))
 
 -- the result of reading the window is that of the file
 pub window_result : (options : ReadOptions) (file w : List ℕ) (r : Result Recording WaveFault)
-    → first_fault (riff_checks file) ≡ None → w ≡ window file
+    → first_fault (riff_checks file) ≡ None → w ≡ wave_window file
     → Passes (λ (x : Recording). x) r (window_checks options w) (window_recording options w)
     → r ≡ recording_in options file
 unfolding recording_in steps
 window_result options file w (Ok x) h e p =
     let whole : first_fault (steps options file) ≡ None =
-    first_fault-append (riff_checks file) (window_checks options (window file)) h
+    first_fault-append (riff_checks file) (window_checks options (wave_window file)) h
     ∙ ap (λ (v : List ℕ). first_fault (window_checks options v)) (sym e) ∙ p.0 in
     ap (λ (y : Recording). Ok y) p.1
     ∙ ap (λ (v : List ℕ). Ok (window_recording options v)) e
-    ∙ sym (ap (λ (o : Option WaveFault). unless_broken o (window_recording options (window file))) whole)
+    ∙ sym (ap (λ (o : Option WaveFault). unless_broken o (window_recording options (wave_window file))) whole)
 window_result options file w (Err f) h e p =
     let whole : first_fault (steps options file) ≡ Some f =
-    first_fault-append (riff_checks file) (window_checks options (window file)) h
+    first_fault-append (riff_checks file) (window_checks options (wave_window file)) h
     ∙ ap (λ (v : List ℕ). first_fault (window_checks options v)) (sym e) ∙ p in
-    sym (ap (λ (o : Option WaveFault). unless_broken o (window_recording options (window file))) whole)
+    sym (ap (λ (o : Option WaveFault). unless_broken o (window_recording options (wave_window file))) whole)
+
+-- a body that does not fit
+pub chunks_fail : (options : ReadOptions) (w : List ℕ) (r : Result Recording WaveFault) (f : WaveFault)
+    → IsErrAnd r (λ e. e ≡ f) → first_fault (walk_checks w) ≡ Some f
+    → Passes (λ (x : Recording). x) r (window_checks options w) (window_recording options w)
+unfolding window_checks
+chunks_fail options w r f is h =
+    passes_front (λ (x : Recording). x) (window_recording options w) r f (walk_checks w)
+    (content_checks options (wave_chunks w)) is h
+
+-- the result of reading the chunks is that of the window
+pub chunks_result : (options : ReadOptions) (w : List ℕ) (chunks : List Chunk) (r : Result Recording WaveFault)
+    → first_fault (walk_checks w) ≡ None → chunks ≡ wave_chunks w
+    → Passes (λ (x : Recording). x) r (content_checks options chunks) (content_in options chunks)
+    → Passes (λ (x : Recording). x) r (window_checks options w) (window_recording options w)
+unfolding window_checks
+chunks_result options w chunks r h e p =
+    passes_after (λ (x : Recording). x) (window_recording options w) r (walk_checks w)
+    (content_checks options (wave_chunks w)) h
+    (subst
+    (λ (cs : List Chunk). Passes (λ (x : Recording). x) r (content_checks options cs) (content_in options cs)) e p)
 
 -- ---- the chunks
 

@@ -3,6 +3,8 @@ pub mod SamplerPitch
 pub mod SampleWave
 pub mod FaultNames
 pub mod Recordings
+pub mod Streams
+pub mod Kept
 pub mod ReadChecks
 pub mod Imports
 pub mod Laws

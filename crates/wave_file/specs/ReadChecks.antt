@@ -1,11 +1,13 @@
 -- The checks of reading a WAVE file, in order. The first that fails gives the fault.
 use Rattle.std.specs.Prelude.{◌+◌, ◌-◌, ◌*◌, ◌%◌, ◌^◌, ◌==◌, ◌&&◌, ◌||◌, ℕ, Bool, min, nat_le, nat_lt, List, [], ◌∷◌}
-use Rattle.std.specs.Prelude.{◌++◌, length, Option, Some, None, is_some, unwrap_or, Result, Ok, Err}
-use Rattle.riff_chunks.specs.Walk.{Chunk, walk}
-use Rattle.riff_chunks.specs.Finding.{chunks_in, is_whole, first_body}
-use Rattle.bank_format.specs.Chunks.{window, body_in}
-use Rattle.wave_file.specs.Wave.{WAVE, FORMAT, DATA}
+use Rattle.std.specs.Prelude.{◌++◌, length, take, drop, bytes_eq, if◌then◌else◌, Option, Some, None, is_some, unwrap_or}
+use Rattle.std.specs.Prelude.{Result, Ok, Err}
+use Rattle.riff_chunks.specs.Walk.{Chunk}
+use Rattle.riff_chunks.specs.Finding.{first_body}
+use Rattle.bank_format.specs.Chunks.{body_in}
+use Rattle.wave_file.specs.Wave.{RIFF, WAVE, FORMAT, DATA}
 use Rattle.wave_file.specs.SampleWave.{SAMPLER}
+use Rattle.wave_file.specs.Streams.{is_streamed, wave_window, is_readable, wave_chunks}
 use Rattle.wave_file.specs.declared.fault.WaveFault.{WaveFault}
 use Rattle.wave_file.specs.declared.fault.WaveFault.TheVariants as fault
 use Rattle.wave_file.specs.declared.sampler_loop.SamplerLoop.{SamplerLoop}
@@ -20,8 +22,18 @@ use Rattle.wave_file.specs.Recordings.{sampler_in, with_key}
 
 -- ---- the RIFF chunk, whose form type is WAVE
 
-abbrev pub riff_checks : List ℕ → List (Check WaveFault)
-riff_checks file = form_checks WAVE fault.NotWave fault.Truncated fault.NotWave file
+-- its id and its form; its size is unknown
+unfoldable pub streamed_checks : List ℕ → List (Check WaveFault)
+streamed_checks file =
+    check (bytes_eq (take 4 file) RIFF) fault.NotWave
+    ∷ check (nat_le 12 (length file)) fault.Truncated
+    ∷ check (bytes_eq (take 4 (drop 8 file)) WAVE) fault.NotWave
+    ∷ []
+
+unfoldable pub riff_checks : List ℕ → List (Check WaveFault)
+riff_checks file =
+    if is_streamed file then streamed_checks file
+    else form_checks WAVE fault.NotWave fault.Truncated fault.NotWave file
 
 -- ---- the `fmt ` chunk
 
@@ -90,11 +102,15 @@ content_in options chunks =
       sampler = with_key options.key (sampler_in (first_body SAMPLER chunks));
     }
 
+-- the chunks of a window fit, but for data of unknown size
+abbrev pub walk_checks : List ℕ → List (Check WaveFault)
+walk_checks w = check (is_readable w) fault.Truncated ∷ []
+
 unfoldable pub window_checks : ReadOptions → List ℕ → List (Check WaveFault)
-window_checks options w = check (is_whole (walk w)) fault.Truncated ∷ content_checks options (chunks_in (walk w))
+window_checks options w = walk_checks w ++ content_checks options (wave_chunks w)
 
 unfoldable pub steps : ReadOptions → List ℕ → List (Check WaveFault)
-steps options file = riff_checks file ++ window_checks options (window file)
+steps options file = riff_checks file ++ window_checks options (wave_window file)
 
 -- a value, or the fault of a failed check
 abbrev pub unless_broken : {X : Type 0} → Option WaveFault → X → Result X WaveFault
@@ -104,4 +120,4 @@ unless_broken (Some fault) value = Err fault
 -- The recording of a WAVE file, or the fault of the first check that fails.
 unfoldable pub recording_in : ReadOptions → List ℕ → Result Recording WaveFault
 recording_in options file =
-    unless_broken (first_fault (steps options file)) (content_in options (chunks_in (walk (window file))))
+    unless_broken (first_fault (steps options file)) (content_in options (wave_chunks (wave_window file)))

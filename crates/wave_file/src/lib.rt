@@ -1,12 +1,14 @@
 //! WAVE files: frames or a sample written as one, and one read as a recording, with the edits that import it.
 //!
 //! A WAVE file is a RIFF file of the form `WAVE`. Of its chunks `fmt `, `data` and `smpl` are read, the first of each;
-//! all others are skipped.
+//! all others are skipped. The sizes of the RIFF chunk and of `data` may be unknown.
 #![tactic(auto)]
 
 mod channel_samples;
+mod chunks;
 mod encoding;
 mod fault;
+mod first_bodies;
 mod format;
 mod importing;
 mod laws;
@@ -18,6 +20,7 @@ mod sampler;
 mod sampler_loop;
 mod sampler_pitch;
 mod sides;
+mod window;
 
 pub use channel_samples::ChannelSamples;
 pub use encoding::{WaveFile, write_wave};
