@@ -290,7 +290,7 @@ module _ (s : Sample) (f : FitsSample s) (l : IsLoop (length s.points) s.looped)
   unfolding sampler_head
   sampler_is_sample = sampler_back (length s.points) (frame_time s.rate) s.key s.correction s.looped f.correction f.looped l most
 
-  channels_back : channels_in (written_format s.rate) points ≡ Mono s.points
+  channels_back : channels_in None (written_format s.rate) points ≡ Mono s.points
   channels_back = ap (λ (x : List ℕ). Mono x) (words_stay s.points f.points)
 
   data_holds : first_fault (data_checks (written_format s.rate) (Some points)) ≡ None
@@ -303,15 +303,15 @@ module _ (s : Sample) (f : FitsSample s) (l : IsLoop (length s.points) s.looped)
   format_is : format_in None (body_in FORMAT (sample_chunks s)) ≡ written_format s.rate
   format_is = ap (format_in None) format_found ∙ format_back s.rate f.rate
 
-  channels_are : channels_in (format_in None (body_in FORMAT (sample_chunks s))) (body_in DATA (sample_chunks s))
+  channels_are : channels_in None (format_in None (body_in FORMAT (sample_chunks s))) (body_in DATA (sample_chunks s))
       ≡ Mono s.points
-  channels_are = (λ i. channels_in (format_is i) (unwrap_or (data_found i) [])) ∙ channels_back
+  channels_are = (λ i. channels_in None (format_is i) (unwrap_or (data_found i) [])) ∙ channels_back
 
   content_holds : first_fault (content_checks as_stored (sample_chunks s)) ≡ None
   unfolding content_checks
   content_holds =
       let counted : frame_count
-      (channels_in (format_in None (body_in FORMAT (sample_chunks s))) (body_in DATA (sample_chunks s)))
+      (channels_in None (format_in None (body_in FORMAT (sample_chunks s))) (body_in DATA (sample_chunks s)))
       ≡ length s.points =
       ap frame_count channels_are in
       then_none (format_checks None (body_in FORMAT (sample_chunks s))) _

@@ -15,8 +15,7 @@ use Rattle.sample_view.specs.Words.{AreWords}
 use Rattle.pcm_points.specs.declared.encoding.SampleEncoding.{SampleEncoding}
 use Rattle.pcm_points.specs.declared.encoding.SampleEncoding.TheVariants.{Unsigned8, Signed16, Signed24, Signed32}
 use Rattle.pcm_points.specs.declared.encoding.SampleEncoding.TheVariants.{Float32}
-use Rattle.pcm_points.specs.Points.{channel_words}
-use Rattle.pcm_points.proofs.ChannelLaws.{words_fit}
+use Rattle.pcm_points.specs.Dither.{reduced_words}
 use Rattle.riff_chunks.specs.Walk.{Chunk, walk}
 use Rattle.riff_chunks.specs.Finding.{chunks_in, is_whole, first_body}
 use Rattle.hydra_records.specs.Records.{AreBytes}
@@ -57,6 +56,7 @@ use Rattle.wave_file.specs.ReadChecks.{unless_broken, recording_in}
 use Rattle.wave_file.specs.Imports.{mono_name, side_name, sample_of, add_edit, pair_edits, mono_edits, channel_edits}
 use Rattle.wave_file.specs.Imports.{import_edits}
 use Rattle.wave_file.proofs.ImportLaws.{truncated_text, side_named}
+use Rattle.wave_file.proofs.ReducedLaws.{reduced_fit}
 
 pub record FitsPitch (p : Pitch) : Type 0 where
   pub key : p.key < 2 ^ 8
@@ -89,10 +89,11 @@ mono_fits Signed24 n points p = p
 mono_fits Signed32 n points p = p
 mono_fits Float32 n points p = p
 
-channels_fit : (l : Layout) (e : SampleEncoding) (bytes : List ℕ) → FitChannels (channels_of l e bytes)
-channels_fit (layout.Mono n channel) e bytes =
-    mono_fits e n (channel_words e n channel bytes) (words_fit e n channel bytes)
-channels_fit layout.Stereo e bytes = (words_fit e 2 0 bytes, words_fit e 2 1 bytes)
+channels_fit : (dither : Option ℕ) (l : Layout) (e : SampleEncoding) (bytes : List ℕ)
+    → FitChannels (channels_of dither l e bytes)
+channels_fit dither (layout.Mono n channel) e bytes =
+    mono_fits e n (reduced_words dither e n channel bytes) (reduced_fit dither e n channel bytes)
+channels_fit dither layout.Stereo e bytes = (reduced_fit dither e 2 0 bytes, reduced_fit dither e 2 1 bytes)
 
 -- ---- the pitch
 
@@ -168,7 +169,7 @@ content_fits options chunks k b h =
     let past_data = both_none (data_checks format (first_body DATA chunks)) _ past_format.1 in
     let found = sampler_fits _ (first_body SAMPLER chunks) (body_bytes SAMPLER chunks b) past_data.1 in
     record {
-      channels = channels_fit format.layout format.encoding (body_in DATA chunks);
+      channels = channels_fit options.dither format.layout format.encoding (body_in DATA chunks);
       rate = field_at-lt 4 4 f (body_bytes FORMAT chunks b);
       sampler = key_fits options.key (sampler_in (first_body SAMPLER chunks)) k found;
     }

@@ -1,6 +1,7 @@
 pub mod PieceLaws
 pub mod SampleLaws
 pub mod KeptLaws
+mod ReducedLaws
 pub mod ReadLaws
 pub mod ImportLaws
 pub mod FitLaws

@@ -91,16 +91,16 @@ has_format options chunks f format e h is =
       is = is ∙ ap (format_in options.channel) e;
     }
 
-pub record HasData (chunks : List Chunk) (format : Format) (found : Channels) : Type 0 where
+pub record HasData (options : ReadOptions) (chunks : List Chunk) (format : Format) (found : Channels) : Type 0 where
   pub holds : first_fault (data_checks format (first_body DATA chunks)) ≡ None
-  pub is : found ≡ channels_in format (body_in DATA chunks)
+  pub is : found ≡ channels_in options.dither format (body_in DATA chunks)
 
-pub has_data : (chunks : List Chunk) (format : Format) (o : Option (List ℕ)) (found : Channels)
+pub has_data : (options : ReadOptions) (chunks : List Chunk) (format : Format) (o : Option (List ℕ)) (found : Channels)
     → o ≡ first_body DATA chunks → first_fault (data_checks format o) ≡ None
-    → found ≡ channels_in format (unwrap_or o []) → HasData chunks format found
-has_data chunks format o found e h is = record {
+    → found ≡ channels_in options.dither format (unwrap_or o []) → HasData options chunks format found
+has_data options chunks format o found e h is = record {
   holds = ap (λ (x : Option (List ℕ)). first_fault (data_checks format x)) (sym e) ∙ h;
-  is = is ∙ ap (λ (x : Option (List ℕ)). channels_in format (unwrap_or x [])) e;
+  is = is ∙ ap (λ (x : Option (List ℕ)). channels_in options.dither format (unwrap_or x [])) e;
 }
 
 module _ (options : ReadOptions) (chunks : List Chunk) (r : Result Recording WaveFault) where
@@ -109,7 +109,7 @@ module _ (options : ReadOptions) (chunks : List Chunk) (r : Result Recording Wav
 
   abbrev last_checks : List (Check WaveFault)
   last_checks =
-      sampler_checks (frame_count (channels_in (format_in options.channel f) (body_in DATA chunks)))
+      sampler_checks (frame_count (channels_in options.dither (format_in options.channel f) (body_in DATA chunks)))
       (first_body SAMPLER chunks)
 
   abbrev Reads : Type 0
@@ -137,7 +137,7 @@ module _ (options : ReadOptions) (chunks : List Chunk) (r : Result Recording Wav
 
   -- the checks of the `smpl` chunk, if all others hold
   pub sampler_left : (format : Format) (found : Channels) → HasFormat options chunks format
-      → HasData chunks format found
+      → HasData options chunks format found
       → Passes (λ (x : Recording). x) r last_checks (content_in options chunks) → Reads
   unfolding content_checks
   sampler_left format found has there p =
@@ -150,15 +150,15 @@ module _ (options : ReadOptions) (chunks : List Chunk) (r : Result Recording Wav
 
 -- the number of frames
 counted : (options : ReadOptions) (chunks : List Chunk) (format : Format) (found : Channels)
-    → HasFormat options chunks format → HasData chunks format found
+    → HasFormat options chunks format → HasData options chunks format found
     → frame_count found
-    ≡ frame_count (channels_in (format_in options.channel (body_in FORMAT chunks)) (body_in DATA chunks))
+    ≡ frame_count (channels_in options.dither (format_in options.channel (body_in FORMAT chunks)) (body_in DATA chunks))
 counted options chunks format found has there =
-    ap frame_count there.is ∙ ap (λ (x : Format). frame_count (channels_in x (body_in DATA chunks))) has.is
+    ap frame_count there.is ∙ ap (λ (x : Format). frame_count (channels_in options.dither x (body_in DATA chunks))) has.is
 
 pub sampler_fails : (options : ReadOptions) (chunks : List Chunk) (r : Result Recording WaveFault) (format : Format)
     (found : Channels) (n : ℕ) (o : Option (List ℕ)) (e : WaveFault)
-    → HasFormat options chunks format → HasData chunks format found
+    → HasFormat options chunks format → HasData options chunks format found
     → n ≡ frame_count found → o ≡ first_body SAMPLER chunks → IsErrAnd r (λ d. d ≡ e)
     → first_fault (sampler_checks n o) ≡ Some e
     → Passes (λ (x : Recording). x) r (content_checks options chunks) (content_in options chunks)
@@ -170,7 +170,7 @@ sampler_fails options chunks r format found n o e has there count same is h =
 
 pub content_reads : (options : ReadOptions) (chunks : List Chunk) (format : Format) (found : Channels) (n : ℕ)
     (o : Option (List ℕ)) (found_sampler sampler : Sampler)
-    → HasFormat options chunks format → HasData chunks format found
+    → HasFormat options chunks format → HasData options chunks format found
     → n ≡ frame_count found → o ≡ first_body SAMPLER chunks → first_fault (sampler_checks n o) ≡ None
     → found_sampler ≡ sampler_in o → sampler ≡ with_key options.key found_sampler
     → Passes (λ (x : Recording). x) (Ok (record { channels = found; rate = format.rate; sampler = sampler }))
@@ -180,7 +180,7 @@ content_reads options chunks format found n o found_sampler sampler has there co
     let k = count ∙ counted options chunks format found has there in
     let rate : format.rate ≡ (format_in options.channel (body_in FORMAT chunks)).rate =
     ap (λ (x : Format). x.rate) has.is in
-    let channels = there.is ∙ ap (λ (x : Format). channels_in x (body_in DATA chunks)) has.is in
+    let channels = there.is ∙ ap (λ (x : Format). channels_in options.dither x (body_in DATA chunks)) has.is in
     let chunk = keyed ∙ ap (with_key options.key) (is ∙ ap sampler_in same) in
     let read : Recording = record { channels = found; rate = format.rate; sampler = sampler } in
     let content_same : read ≡ content_in options chunks =

@@ -91,13 +91,13 @@ content_checks options chunks =
     let body = body_in DATA chunks in
     format_checks options.channel f
     ++ (data_checks format (first_body DATA chunks)
-    ++ sampler_checks (frame_count (channels_in format body)) (first_body SAMPLER chunks))
+    ++ sampler_checks (frame_count (channels_in options.dither format body)) (first_body SAMPLER chunks))
 
 unfoldable pub content_in : ReadOptions → List Chunk → Recording
 content_in options chunks =
     let f = format_in options.channel (body_in FORMAT chunks) in
     record {
-      channels = channels_in f (body_in DATA chunks);
+      channels = channels_in options.dither f (body_in DATA chunks);
       rate = f.rate;
       sampler = with_key options.key (sampler_in (first_body SAMPLER chunks));
     }

@@ -54,7 +54,7 @@ fn read_content<'a>(
     ensures { Passes (λ r. r) result (content_checks options chunks.now) (content_in options chunks.now) }
 {
     let format = read_format(options.channel, chunks.format())?;
-    let channels = read_data(alloc, format, chunks.frames())?;
+    let channels = read_data(alloc, format, options.dither, chunks.frames())?;
     let sampler = read_sampler(chunks.sampler(), channels.frame_count())?;
     Ok(Recording {
         channels,

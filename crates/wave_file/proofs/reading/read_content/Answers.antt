@@ -28,7 +28,7 @@ returns-in_err-sampler c =
     has_format options chunks c.format.result.now c.in_ok-format.format c.format.ensures
     c.in_ok-format.ensures.reads.0 c.in_ok-format.ensures.reads.1 in
     let found =
-    has_data chunks c.in_ok-format.format _ c.in_ok-channels.channels c.frames.ensures
+    has_data options chunks c.in_ok-format.format _ c.in_ok-channels.channels c.frames.ensures
     c.in_ok-channels.ensures.0 c.in_ok-channels.ensures.1 in
     sampler_fails options chunks c.from_residual-in_err-sampler.result c.in_ok-format.format c.in_ok-channels.channels
     _ _ c.in_err-sampler.field-0.0 format found c.frame_count.ensures c.sampler.ensures
@@ -43,7 +43,7 @@ returns c =
     has_format options chunks c.format.result.now c.in_ok-format.format c.format.ensures
     c.in_ok-format.ensures.reads.0 c.in_ok-format.ensures.reads.1 in
     let found =
-    has_data chunks c.in_ok-format.format _ c.in_ok-channels.channels c.frames.ensures
+    has_data options chunks c.in_ok-format.format _ c.in_ok-channels.channels c.frames.ensures
     c.in_ok-channels.ensures.0 c.in_ok-channels.ensures.1 in
     content_reads options chunks c.in_ok-format.format c.in_ok-channels.channels _ _ c.in_ok-sampler.sampler
     c.with_key.result format found
