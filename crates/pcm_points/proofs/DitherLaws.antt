@@ -1,34 +1,24 @@
 -- Dithered points, one sample and frame after frame.
 use Rattle.std.proofs.Common.{◌≡◌, ◌≤◌, ◌<◌, ◌+◌, ◌*◌, ◌^◌, ℕ, zero, suc, Bool, true, false, refl, ap}
 use Rattle.std.proofs.Common.{sym, ◌∙◌, arith, List, [], ◌∷◌, ◌++◌, length, take, drop, map}
-use Rattle.std.proofs.Common.{ℤ, pos, negsuc, neg_ℤ, ◌+ℤ◌, ◌-ℤ◌, ◌*ℤ◌, unsigned_abs, to_z, of_z, w16, w32}
+use Rattle.std.proofs.Common.{ℤ, pos, negsuc, neg_ℤ, ◌+ℤ◌, ◌-ℤ◌, ◌*ℤ◌, unsigned_abs, w16, Option, Some, None, ltb}
 use Rattle.std.specs.Prelude.{min}
 use Rattle.std.specs.Int.{saturate_signed, is_negative}
 use Rattle.std.specs.List.{flat_map, enumerate_from}
 use Rattle.std.proofs.lemmas.Int.{ints}
-use Rattle.std.proofs.lemmas.Bool.{le-ltb}
+use Rattle.std.proofs.lemmas.Bool.{le-ltb, cond_both}
 use Rattle.std.proofs.lemmas.List.{append_assoc}
 use Rattle.std.proofs.Math.Nat.{zero-mul}
-use Rattle.rand_pcg.specs.Lcg.{Lcg, next, advance, state_after}
+use Rattle.rand_pcg.specs.Lcg.{Lcg, next, advance, started, increment_of, state_after}
 use Rattle.rand_pcg.specs.Pcg.{multiplier_64, output_xsh_rr}
 use Rattle.hydra_records.proofs.TableLaws.{records-short, records-next}
-use Rattle.sample_view.specs.Words.{word_bytes}
+use Rattle.sample_view.specs.Words.{word_bytes, AreWords}
 use Rattle.pcm_points.specs.declared.encoding.SampleEncoding.{SampleEncoding}
-use Rattle.pcm_points.specs.Samples.{Fraction, size_of}
-use Rattle.pcm_points.specs.Points.{nearest, most, with_sign, rounded, sample_in, channel_samples}
-use Rattle.pcm_points.specs.Dither.{wide, triangular, dithered_word}
+use Rattle.pcm_points.specs.Samples.{size_of}
+use Rattle.pcm_points.specs.Points.{nearest, most, with_sign, sample_in, channel_samples, channel_words}
+use Rattle.pcm_points.specs.Dither.{wide, triangular, dithered_word, dithered_words, reduced_words}
 use Rattle.pcm_points.specs.Laws.{DitherIsNear}
-
--- ---- points fit into 16 bits
-
-clipped_fits : (sign : Bool) (n : ℕ) (z : ℤ) → z ≡ with_sign sign (min n (most 16 sign))
-    → to_z w16 (of_z w16 (to_z w32 (of_z w32 z))) ≡ z
-clipped_fits true n z e = omega (arith, ints, e)
-clipped_fits false n z e = omega (arith, ints, e)
-
-pub point_fits : (z : ℤ) (f : Fraction) → z ≡ rounded 16 f
-    → to_z w16 (of_z w16 (to_z w32 (of_z w32 z))) ≡ rounded 16 f
-point_fits z f e = clipped_fits f.is_negative (nearest f.numerator f.denominator) z e ∙ e
+use Rattle.pcm_points.proofs.ChannelLaws.{point_fits, words_fit}
 
 -- ---- a point is near its sample
 
@@ -72,6 +62,24 @@ later_words : (g : Lcg) (i : ℕ) (samples : List ℤ)
     → words_of g (i + 1) samples ≡ words_of (next 64 multiplier_64 g) i samples
 later_words g i [] = refl
 later_words g i (v ∷ vs) = λ j. dithered_word (later g i j) v ∷ later_words g (i + 1) vs j
+
+-- ---- words fit into 16 bits
+
+dithered_fit : (g : Lcg) (i : ℕ) (samples : List ℤ) → AreWords (words_of g i samples)
+dithered_fit g i [] = tt
+dithered_fit g i (v ∷ vs) =
+    let sum = v +ℤ triangular (noise_of g i) in
+    (point_fits (is_negative sum) (nearest (unsigned_abs sum) (2 ^ 16)), dithered_fit g (i + 1) vs)
+
+pub reduced_fit : (dither : Option ℕ) (e : SampleEncoding) (channels channel : ℕ) (bytes : List ℕ)
+    → AreWords (reduced_words dither e channels channel bytes)
+reduced_fit None e channels channel bytes = words_fit e channels channel bytes
+reduced_fit (Some seed) e channels channel bytes =
+    cond_both (ltb 2 (size_of e)) (dithered_words seed e channels channel bytes) (channel_words e channels channel bytes)
+    AreWords
+    (λ _. dithered_fit (started 64 multiplier_64 seed (increment_of 64 channel)) 0
+    (channel_samples (wide e) e channels channel bytes))
+    (λ _. words_fit e channels channel bytes)
 
 -- ---- frame after frame
 

@@ -1,6 +1,6 @@
 -- The numbers of floats, from their fields.
-use Rattle.std.proofs.Common.{◌≡◌, ◌≤◌, ◌<◌, ◌+◌, ◌-◌, ◌*◌, ◌^◌, ℕ, suc, ℤ, Bool, true, false, pos, eqb, leb, refl, ap, sym}
-use Rattle.std.proofs.Common.{◌∙◌, inl, inr, arith}
+use Rattle.std.proofs.Common.{◌≡◌, ◌≤◌, ◌<◌, ◌+◌, ◌-◌, ◌*◌, ◌^◌, ℕ, suc, ℤ, Bool, true, false, pos}
+use Rattle.std.proofs.Common.{eqb, leb, refl, ap, sym, ◌∙◌, inl, inr, arith}
 use Rattle.std.proofs.lemmas.Nat.{pow_pos, pow-add}
 use Rattle.std.proofs.lemmas.Bool.{cases_lt, cond_both, eqb-true}
 use Rattle.std.proofs.Math.Nat.{pow-le-pow_right, mul-le-mul_right, min-eq_left, min-eq_right}
@@ -17,7 +17,8 @@ module _ (extra : ℕ) where
   number_of sign n d = rounded (16 + extra) (record { is_negative = sign; numerator = n; denominator = d })
 
   -- Only the nearest number counts, clipped.
-  same_number : (sign : Bool) (n d m e : ℕ) → min (nearest n d) (most (16 + extra) sign) ≡ min (nearest m e) (most (16 + extra) sign)
+  same_number : (sign : Bool) (n d m e : ℕ)
+      → min (nearest n d) (most (16 + extra) sign) ≡ min (nearest m e) (most (16 + extra) sign)
       → number_of sign n d ≡ number_of sign m e
   same_number sign n d m e same = ap (with_sign sign) same
 
@@ -65,7 +66,7 @@ module _ (extra : ℕ) where
     | inr short ↦ (ap (λ (n : ℕ). nearest (significand * 2 ^ extra) (2 ^ n)) (sym (min-eq_left short)))
     | inl long ↦ (
         let small : suc significand * 2 ^ extra ≤ 2 ^ 24 * 2 ^ extra = mul-le-mul_right (2 ^ extra) s in
-        let next : suc significand * 2 ^ extra ≡ significand * 2 ^ extra + 2 ^ extra = suc-mul significand (2 ^ extra) in
+        let next = suc-mul significand (2 ^ extra) in
         let some = pow_pos extra in
         let limit : 2 ^ (25 + extra) ≡ 2 ^ 25 * 2 ^ extra = pow-add 2 25 extra in
         let high : 2 ^ (25 + extra) ≤ 2 ^ shift =

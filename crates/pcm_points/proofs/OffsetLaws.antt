@@ -46,12 +46,12 @@ offset_down d h m e some more le =
 
 -- ---- the words
 
-up : (r p : ℕ) → p ≤ 32767 → r ≡ p + 32768 → cast_signed w16 ((r + 32768) % 65536) ≡ pos p
+pub up : (r p : ℕ) → p ≤ 32767 → r ≡ p + 32768 → cast_signed w16 ((r + 32768) % 65536) ≡ pos p
 up r p le e =
     let word : (r + 32768) % 65536 ≡ p = omega (arith, le, e) in
     rw (word, lt-ltb p 32768 (omega (arith, le))) refl
 
-down : (r q : ℕ) → q ≤ 32768 → r ≡ 32768 - q → cast_signed w16 ((r + 32768) % 65536) ≡ neg_ℤ (pos q)
+pub down : (r q : ℕ) → q ≤ 32768 → r ≡ 32768 - q → cast_signed w16 ((r + 32768) % 65536) ≡ neg_ℤ (pos q)
 down r zero le e = let word : (r + 32768) % 65536 ≡ 0 = omega (arith, e) in rw word refl
 down r (suc q) le e =
     let word : (r + 32768) % 65536 ≡ 65535 - q = omega (arith, le, e) in

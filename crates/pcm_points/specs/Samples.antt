@@ -12,7 +12,7 @@ pub record Fraction : Type 0 where
   pub numerator : ℕ
   pub denominator : ℕ
 
--- in units of 2^-bits points
+-- the same in units of 2^-bits points
 abbrev pub finer : ℕ → Fraction → Fraction
 finer bits f = record f { numerator = f.numerator * 2 ^ bits }
 

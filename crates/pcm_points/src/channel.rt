@@ -5,20 +5,16 @@ ghost use Rattle.std.specs.Vec.{vec_len, vec_capacity};
 ghost use Rattle.sample_view.specs.Words.{word_bytes};
 ghost use Rattle.pcm_points.specs.Samples.{size_of};
 ghost use Rattle.pcm_points.specs.Points.{point_word, channel_words};
-ghost use Rattle.pcm_points.specs.Dither.{wide, dithered_word, dithered_words, reduced_words};
-ghost use Rattle.rand_pcg.specs.Lcg.{next};
-ghost use Rattle.rand_pcg.specs.Pcg.{multiplier_64, output_xsh_rr};
+ghost use Rattle.pcm_points.specs.Dither.{reduced_words};
 
-use crate::dither::{dithered_point, wide};
+use crate::dither::dithered_points;
 use crate::encoding::SampleEncoding;
 use crate::rounding::point;
-use rand_core::utils::NextWord;
-use rand_pcg::Pcg32;
 use sf_base::OutOfMemory;
 use std::alloc::Global;
 
 /// The bytes of a point.
-const POINT_SIZE: usize = 2;
+pub(crate) const POINT_SIZE: usize = 2;
 
 /// The points of one channel, 16-bit little-endian, of frames that have a sample of each channel in turn. The channels
 /// count from 0. Bytes after the last whole frame are ignored. The memory is allocated once.
@@ -73,35 +69,6 @@ fn nearest_points(
     Ok(points)
 }
 
-// The points with the dither of a seed.
-fn dithered_points(
-    alloc: Global,
-    bytes: &[u8],
-    encoding: SampleEncoding,
-    channels: usize,
-    channel: usize,
-    seed: u64,
-) -> Result<Vec<u8>, OutOfMemory>
-    requires channel { channel < channels }
-    requires count { channels ≤ 65535 }
-    ensures { IfOk result
-        (λ points. points.items ≡ flat_map word_bytes (dithered_words seed encoding channels channel bytes.now)) }
-{
-    let size = encoding.size();
-    let frame_size = channels * size;
-    let offset = channel * size;
-    let mut generator = Pcg32::new(seed, channel as u64);
-    let mut points = Vec::with_capacity(alloc, bytes.len() / frame_size * POINT_SIZE)?;
-    let mut rest = bytes;
-    while frame_size <= rest.len() {
-        let (frame, others) = rest.split_at(frame_size);
-        let word = dithered_word(&mut generator, encoding, &frame[offset..offset + size]);
-        put_word(&mut points, word);
-        rest = others;
-    }
-    Ok(points)
-}
-
 // The point of a sample, as the unsigned word of its bits.
 fn point_word(encoding: SampleEncoding, sample: &[u8]) -> u16
     requires { length sample.now ≡ size_of encoding }
@@ -110,19 +77,9 @@ fn point_word(encoding: SampleEncoding, sample: &[u8]) -> u16
     point(encoding, sample).cast_unsigned()
 }
 
-// The dithered point of a sample, as the unsigned word of its bits.
-#[inline]
-fn dithered_word(generator: &mut Pcg32, encoding: SampleEncoding, sample: &[u8]) -> u16
-    requires { length sample.now ≡ size_of encoding }
-    ensures word { result ≡ dithered_word (output_xsh_rr generator.old.state) (wide encoding sample.now) }
-    ensures next { generator.new ≡ next 64 multiplier_64 generator.old }
-{
-    dithered_point(generator.next_word(), wide(encoding, sample)).cast_unsigned()
-}
-
 // Appends a word to a vector with room for it.
 #[tactic(auto, unfolding(sample_view::specs::Words::word_bytes))]
-fn put_word(points: &mut Vec<u8>, word: u16)
+pub(crate) fn put_word(points: &mut Vec<u8>, word: u16)
     requires { vec_len points.old + 2 ≤ vec_capacity points.old }
     ensures items { points.new.items ≡ points.old.items ++ word_bytes word }
     ensures len { vec_len points.new ≡ vec_len points.old + 2 }

@@ -8,13 +8,13 @@ use crate::encoding::SampleEncoding;
 use byteorder::{ByteOrder, LittleEndian};
 
 /// The bits of a point.
-pub(crate) const POINT_BITS: u32 = 16;
+const POINT_BITS: u32 = 16;
 
 /// The greatest magnitude of a negative point.
-const MOST_NEGATIVE: u64 = 32_768;
+pub(crate) const MOST_NEGATIVE: u64 = 32_768;
 
 /// Points in the full scale of a signed number, from its least to its greatest.
-const FULL_SCALE: u64 = 65_536;
+pub(crate) const FULL_SCALE: u64 = 65_536;
 
 /// The bits of the fraction field of a float, and what the implicit bit before them counts.
 const FRACTION_BITS: u32 = 23;
@@ -135,7 +135,7 @@ fn significand_of(bits: u32) -> u32
 
 // The nearest number of `width` bits to `numerator` / 2^`shift`, or to its negative.
 #[inline]
-pub(crate) fn rounded(is_negative: bool, numerator: u64, shift: u32, width: u32) -> i32
+fn rounded(is_negative: bool, numerator: u64, shift: u32, width: u32) -> i32
     requires numerator { numerator < 2 ^ 60 }
     requires shift { shift ≤ 60 }
     requires width { (1 ≤ width) × (width ≤ 32) }
@@ -146,10 +146,11 @@ pub(crate) fn rounded(is_negative: bool, numerator: u64, shift: u32, width: u32)
     }) }
 {
     let magnitude = (2 * numerator + (1 << shift)) >> (shift + 1);
-    let most_negative = 1u64 << (width - 1);
+    let most = (1u64 << (width - 1)) - u64::from(!is_negative);
+    let number = magnitude.min(most) as i64;
     if is_negative {
-        -(magnitude.min(most_negative) as i64) as i32
+        -number as i32
     } else {
-        magnitude.min(most_negative - 1) as i32
+        number as i32
     }
 }

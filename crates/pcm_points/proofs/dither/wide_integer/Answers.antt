@@ -1,4 +1,5 @@
-use Rattle.std.proofs.Common.{◌≡◌, ◌≤◌, ◌<◌, ◌+◌, ◌*◌, ◌^◌, ◌-◌, ◌%◌, ℕ, zero, suc, ℤ, pos, neg_ℤ, true, false, to_z, of_z, w32, ap, sym, inl, inr, ◌∙◌, arith}
+use Rattle.std.proofs.Common.{◌≡◌, ◌≤◌, ◌<◌, ◌+◌, ◌*◌, ◌^◌, ◌-◌, ◌%◌, ℕ, zero, suc, ℤ, pos, neg_ℤ}
+use Rattle.std.proofs.Common.{true, false, to_z, of_z, w32, ap, sym, inl, inr, ◌∙◌, arith}
 use Rattle.std.proofs.lemmas.Int.{ints, of_z-to_z}
 use Rattle.std.proofs.Math.Facts.{to_z-neg}
 use Rattle.std.specs.Prelude.{min}
@@ -27,7 +28,8 @@ module _ (d s n : ℕ) (full : d * s ≡ 2 ^ 32) (some : 0 < d) (fine : 0 < s) (
       ap (λ (k : ℕ). nearest k d) unit ∙ nearest-exact (m * s) d some
 
   not_negative : 2 * n < d
-      → to_z w32 (of_z w32 (to_z w32 (n * s % 2 ^ 32))) ≡ with_sign false (min (nearest (2 ^ 16 * n * 2 ^ 16) d) (2 ^ 31 - 1))
+      → to_z w32 (of_z w32 (to_z w32 (n * s % 2 ^ 32)))
+      ≡ with_sign false (min (nearest (2 ^ 16 * n * 2 ^ 16) d) (2 ^ 31 - 1))
   not_negative low =
       let bound : suc (2 * n) * s ≤ d * s = mul-le-mul_right s low in
       let double : 2 * n * s ≡ 2 * (n * s) = mul_assoc 2 n s in
@@ -39,7 +41,8 @@ module _ (d s n : ℕ) (full : d * s ≡ 2 ^ 32) (some : 0 < d) (fine : 0 < s) (
       ≡ with_sign true (min (nearest (2 ^ 16 * (d - n) * 2 ^ 16) d) (2 ^ 31))
   negative high =
       let sum : (d - n) * s + n * s ≡ 2 ^ 32 =
-      let whole : d - n + n ≡ d = omega (arith, small) in sym (add-mul (d - n) n s) ∙ ap (λ (k : ℕ). k * s) whole ∙ full in
+      let whole : d - n + n ≡ d = omega (arith, small) in
+      sym (add-mul (d - n) n s) ∙ ap (λ (k : ℕ). k * s) whole ∙ full in
       let half : d * s ≤ 2 * n * s = mul-le-mul_right s high in
       let double : 2 * n * s ≡ 2 * (n * s) = mul_assoc 2 n s in
       let more : suc n * s ≤ d * s = mul-le-mul_right s small in

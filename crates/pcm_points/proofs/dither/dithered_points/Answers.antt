@@ -4,7 +4,7 @@ use Rattle.rand_pcg.specs.Pcg.{output_xsh_rr}
 use Rattle.pcm_points.specs.Dither.{wide, dithered_word}
 use Rattle.pcm_points.proofs.ChannelLaws.{fewer_frames}
 use Rattle.pcm_points.proofs.DitherLaws.{no_dithered_frame, after_dithered_frame}
-use Rattle.pcm_points.proofs.channel.dithered_points.Goals as goal
+use Rattle.pcm_points.proofs.dither.dithered_points.Goals as goal
 
 pub loop-rest-preserved : goal.loop-rest-preserved
 loop-rest-preserved c =

@@ -3,7 +3,7 @@ use Rattle.std.specs.List.{flat_map}
 use Rattle.sample_view.specs.Words.{word_bytes}
 use Rattle.pcm_points.specs.Dither.{dithered_words}
 use Rattle.pcm_points.proofs.DitherLaws.{dithered_bytes}
-use Rattle.pcm_points.proofs.channel.dithered_points.Given as goal
+use Rattle.pcm_points.proofs.dither.dithered_points.Given as goal
 
 -- the points so far, followed by those of the remaining frames, are all points, and there is room for them
 abbrev pub invariant-loop-rest : goal.invariant-loop-rest
