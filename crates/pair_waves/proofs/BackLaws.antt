@@ -27,13 +27,14 @@ use Rattle.wave_file.specs.declared.fault.WaveFault.{WaveFault}
 use Rattle.wave_file.specs.declared.fault.WaveFault.TheVariants.{NotWave, Truncated}
 use Rattle.wave_file.specs.declared.recording.Channels.TheVariants.{Stereo}
 use Rattle.wave_file.specs.declared.recording.Recording.{Recording}
-use Rattle.wave_file.specs.Recordings.{format_in, channels_in, frame_count, sampler_in}
+use Rattle.wave_file.specs.Recordings.{as_stored, format_in, channels_in, frame_count, sampler_in}
 use Rattle.wave_file.specs.ReadChecks.{riff_checks, format_checks, frame_checks, data_checks, sampler_checks}
 use Rattle.wave_file.specs.ReadChecks.{content_checks, content_in, window_checks, steps, unless_broken, recording_in}
 use Rattle.wave_file.specs.Laws.{recorded}
 use Rattle.wave_file.proofs.SampleLaws as sample
 use Rattle.wave_file.proofs.SampleLaws.{length-ids, length-sampler}
-use Rattle.wave_file.proofs.BackLaws.{waves_read_back}
+use Rattle.wave_file.proofs.BackLaws.{loop_count_small, waves_read_back}
+use Rattle.wave_file.proofs.WrittenLaws.{written_reads}
 use Rattle.pair_waves.specs.Frames.{interleaved}
 use Rattle.pair_waves.specs.PairWave.{stereo_format, pair_chunks, pair_wave}
 use Rattle.pair_waves.specs.Laws.{recorded_pair, PairsReadBack}
@@ -44,18 +45,18 @@ use Rattle.pair_waves.proofs.PairLaws.{three, length-three, length-content}
 
 abbrev checks_of : List ℕ → List ℕ → List ℕ → List (Check WaveFault)
 checks_of f m d =
-    format_checks f
-    ++ (data_checks (format_in f) (Some d)
-    ++ sampler_checks (frame_count (channels_in (format_in f) d)) (Some m))
+    format_checks None f
+    ++ (data_checks (format_in None f) (Some d)
+    ++ sampler_checks (frame_count (channels_in None (format_in None f) d)) (Some m))
 
 abbrev content_of : List ℕ → List ℕ → List ℕ → Recording
 content_of f m d = record {
-  channels = channels_in (format_in f) d;
-  rate = (format_in f).rate;
+  channels = channels_in None (format_in None f) d;
+  rate = (format_in None f).rate;
   sampler = sampler_in (Some m);
 }
 
-module _ (f m d : List ℕ) (small : length (WAVE ++ encode (three f m d)) < 2 ^ 32) where
+module _ (f m d : List ℕ) (small : length (WAVE ++ encode (three f m d)) + 1 < 2 ^ 32) where
   bodies_fit : AllByRecursion FitsChunk (three f m d)
   bodies_fit =
       let ids = length-ids in
@@ -67,32 +68,19 @@ module _ (f m d : List ℕ) (small : length (WAVE ++ encode (three f m d)) < 2 ^
         ),
       )
 
-  checks_are : content_checks (three f m d) ≡ checks_of f m d
+  checks_are : content_checks as_stored (three f m d) ≡ checks_of f m d
   unfolding content_checks FORMAT SAMPLER DATA
   checks_are = refl
 
-  content_is : content_in (three f m d) ≡ content_of f m d
+  content_is : content_in as_stored (three f m d) ≡ content_of f m d
   unfolding content_in FORMAT SAMPLER DATA
   content_is = refl
 
   file_reads : (file : List ℕ) → file ≡ chunk RIFF (WAVE ++ encode (three f m d))
-      → recording_in file ≡ unless_broken (first_fault (checks_of f m d)) (content_of f m d)
-  unfolding recording_in steps window_checks
+      → recording_in as_stored file ≡ unless_broken (first_fault (checks_of f m d)) (content_of f m d)
   file_reads file is =
-      let body = encode (three f m d) in
-      let window_is : window file ≡ body = ap window is ∙ form_window WAVE body length-ids.1 small in
-      let chunks_are : chunks_in (walk (window file)) ≡ three f m d =
-      ap (λ (w : List ℕ). chunks_in (walk w)) window_is ∙ chunks_in-encode (three f m d) bodies_fit in
-      let whole : is_whole (walk (window file)) ≡ true =
-      ap (λ (w : List ℕ). is_whole (walk w)) window_is ∙ is_whole-encode (three f m d) bodies_fit in
-      let riff : first_fault (riff_checks file) ≡ None =
-      ap (λ (b : List ℕ). first_fault (riff_checks b)) is
-      ∙ form_holds WAVE body length-ids.1 small NotWave Truncated NotWave in
-      let checked : first_fault (window_checks (window file)) ≡ first_fault (checks_of f m d) =
-      rw whole (ap (λ (cs : List Chunk). first_fault (content_checks cs)) chunks_are ∙ ap first_fault checks_are) in
-      let faults = first_fault-append (riff_checks file) (window_checks (window file)) riff ∙ checked in
-      let content = ap content_in chunks_are ∙ content_is in
-      λ i. unless_broken (faults i) (content i)
+      written_reads (three f m d) bodies_fit small as_stored file is
+      ∙ (λ i. unless_broken (first_fault (checks_are i)) (content_is i))
 
 -- ---- the `smpl` chunk
 
@@ -103,10 +91,6 @@ recording_or other (Err f) = other
 unbroken : (broken : Option WaveFault) (x r : Recording) → unless_broken broken x ≡ Ok r → (broken ≡ None) × (x ≡ r)
 unbroken None x r h = (refl, ap (recording_or x) h)
 unbroken (Some f) x r h = absurd cc
-
-loop_count_small : (looped : Option (ℕ × ℕ)) → loop_count looped ≤ 1
-loop_count_small None = omega arith
-loop_count_small (Some looped) = omega arith
 
 -- The `smpl` chunk of a sample reads back, because its mono file does.
 record SamplerBack (s : Sample) : Type 0 where
@@ -121,7 +105,7 @@ module _ (s : Sample) (fits : FitsSample s) (looped : IsLoop (length s.points) s
   abbrev d : List ℕ
   d = flat_map word_bytes s.points
 
-  mono_small : length (WAVE ++ encode (three f (sampler s) d)) < 2 ^ 32
+  mono_small : length (WAVE ++ encode (three f (sampler s) d)) + 1 < 2 ^ 32
   unfolding sample_chunks
   mono_small =
       let a = sample.length-content s in
@@ -137,10 +121,10 @@ module _ (s : Sample) (fits : FitsSample s) (looped : IsLoop (length s.points) s
   sampler_back =
       let both = unbroken (first_fault (checks_of f (sampler s) d)) (content_of f (sampler s) d) (recorded s)
       (sym (file_reads f (sampler s) d mono_small (sample_wave s) mono_is) ∙ waves_read_back s fits looped few) in
-      let count : frame_count (channels_in (format_in f) d) ≡ length s.points =
+      let count : frame_count (channels_in None (format_in None f) d) ≡ length s.points =
       ap (λ (r : Recording). frame_count r.channels) both.1 in
-      let after_format = both_none (format_checks f) _ both.0 in
-      let after_data = both_none (data_checks (format_in f) (Some d)) _ after_format.1 in
+      let after_format = both_none (format_checks None f) _ both.0 in
+      let after_data = both_none (data_checks (format_in None f) (Some d)) _ after_format.1 in
       record {
         holds = ap (λ (n : ℕ). first_fault (sampler_checks n (Some (sampler s)))) (sym count) ∙ after_data.1;
         is = ap (λ (r : Recording). r.sampler) both.1;
@@ -148,22 +132,22 @@ module _ (s : Sample) (fits : FitsSample s) (looped : IsLoop (length s.points) s
 
 -- ---- the pair
 
-format_holds : (rate : ℕ) → first_fault (format_checks (stereo_format rate)) ≡ None
+format_holds : (rate : ℕ) → first_fault (format_checks None (stereo_format rate)) ≡ None
 unfolding format_checks stereo_format
 format_holds rate = refl
 
-rate_back : (rate : ℕ) → rate < 2 ^ 32 → (format_in (stereo_format rate)).rate ≡ rate
+rate_back : (rate : ℕ) → rate < 2 ^ 32 → (format_in None (stereo_format rate)).rate ≡ rate
 unfolding stereo_format
 rate_back rate lt = little_number-reads_back 4 rate (drop 8 (stereo_format rate)) lt
 
 channels_of_format : (rate : ℕ) (d : List ℕ)
-    → channels_in (format_in (stereo_format rate)) d
+    → channels_in None (format_in None (stereo_format rate)) d
     ≡ Stereo (channel_words Signed16 2 0 d) (channel_words Signed16 2 1 d)
 unfolding stereo_format
 channels_of_format rate d = refl
 
 data_holds : (rate : ℕ) (d : List ℕ) → length d % 4 ≡ 0
-    → first_fault (data_checks (format_in (stereo_format rate)) (Some d)) ≡ None
+    → first_fault (data_checks (format_in None (stereo_format rate)) (Some d)) ≡ None
 unfolding data_checks frame_checks stereo_format
 data_holds rate d e = let whole : eqb (length d % 4) 0 ≡ true = eq-eqb _ _ e in rw whole refl
 
@@ -176,7 +160,7 @@ module _ (left right : Sample) (fits : FitsSample left) (right_fits : FitsSample
   abbrev points : List ℕ
   points = interleaved left.points right.points
 
-  pair_small : length (WAVE ++ encode (three format (sampler left) points)) < 2 ^ 32
+  pair_small : length (WAVE ++ encode (three format (sampler left) points)) + 1 < 2 ^ 32
   unfolding pair_chunks
   pair_small =
       let a = length-content left right same in
@@ -188,7 +172,7 @@ module _ (left right : Sample) (fits : FitsSample left) (right_fits : FitsSample
   unfolding pair_wave pair_chunks RIFF wave.RIFF
   pair_is = refl
 
-  channels_are : channels_in (format_in format) points ≡ Stereo left.points right.points
+  channels_are : channels_in None (format_in None format) points ≡ Stereo left.points right.points
   channels_are =
       channels_of_format left.rate points
       ∙ (λ i. Stereo (left_back left.points right.points fits.points same i)
@@ -196,12 +180,12 @@ module _ (left right : Sample) (fits : FitsSample left) (right_fits : FitsSample
 
   pair_holds : first_fault (checks_of format (sampler left) points) ≡ None
   pair_holds =
-      let counted : frame_count (channels_in (format_in format) points) ≡ length left.points =
+      let counted : frame_count (channels_in None (format_in None format) points) ≡ length left.points =
       ap frame_count channels_are in
       let whole : length points % 4 ≡ 0 =
       (let n = length-interleaved left.points right.points same in omega (arith, n)) in
-      then_none (format_checks format) _ (format_holds left.rate)
-      (then_none (data_checks (format_in format) (Some points)) _ (data_holds left.rate points whole)
+      then_none (format_checks None format) _ (format_holds left.rate)
+      (then_none (data_checks (format_in None format) (Some points)) _ (data_holds left.rate points whole)
       (ap (λ (n : ℕ). first_fault (sampler_checks n (Some (sampler left)))) counted
       ∙ (sampler_back left fits looped few).holds))
 
@@ -214,7 +198,7 @@ module _ (left right : Sample) (fits : FitsSample left) (right_fits : FitsSample
         sampler = (sampler_back left fits looped few).is i;
       }
 
-  reads_back : recording_in (pair_wave left right) ≡ Ok (recorded_pair left right)
+  reads_back : recording_in as_stored (pair_wave left right) ≡ Ok (recorded_pair left right)
   reads_back =
       file_reads format (sampler left) points pair_small (pair_wave left right) pair_is
       ∙ (λ i. unless_broken (pair_holds i) (content_back i))

@@ -6,6 +6,7 @@ use Rattle.bank_parts.specs.Valid.{IsLoop}
 use Rattle.bank_parts.specs.Fits.{FitsSample}
 use Rattle.wave_file.specs.declared.recording.Channels.TheVariants.{Stereo}
 use Rattle.wave_file.specs.declared.recording.Recording.{Recording}
+use Rattle.wave_file.specs.Recordings.{as_stored}
 use Rattle.wave_file.specs.ReadChecks.{recording_in}
 use Rattle.pair_waves.specs.PairWave.{pair_wave}
 
@@ -22,4 +23,4 @@ abbrev pub PairsReadBack : Type 0
 PairsReadBack =
     (left right : Sample) → FitsSample left → FitsSample right → IsLoop (length left.points) left.looped
     → length left.points ≡ length right.points → length left.points ≤ POINTS
-    → recording_in (pair_wave left right) ≡ Ok (recorded_pair left right)
+    → recording_in as_stored (pair_wave left right) ≡ Ok (recorded_pair left right)

@@ -1,38 +1,33 @@
 -- The WAVE file of a sample reads back as the sample.
-use Rattle.std.proofs.Common.{◌≡◌, ◌≤◌, ◌<◌, ◌+◌, ◌-◌, ◌%◌, ◌^◌, ℕ, ℤ, pos, negsuc, true, false, cond, leb, ltb, eqb}
+use Rattle.std.proofs.Common.{◌≡◌, ◌≤◌, ◌<◌, ◌+◌, ◌-◌, ◌%◌, ◌^◌, ℕ, ℤ, pos, negsuc, true, cond, leb, ltb, eqb}
 use Rattle.std.proofs.Common.{◌&&◌, min, List, [], ◌∷◌, ◌++◌, length, drop, codes, Option, Some, None, Ok, FitsSigned}
-use Rattle.std.proofs.Common.{refl, sym, ap, ◌∙◌, take-append-drop, arith}
+use Rattle.std.proofs.Common.{refl, ap, ◌∙◌, arith}
 use Rattle.std.specs.Prelude.{bytes_eq, unwrap_or}
 use Rattle.std.specs.Option.{option_map}
 use Rattle.std.specs.Int.{w8, cast_unsigned}
 use Rattle.std.specs.List.{AllByRecursion, flat_map}
-use Rattle.std.proofs.lemmas.Bool.{eq-eqb, le-leb, lt-ltb, false_from_ne_true}
-use Rattle.std.proofs.lemmas.Slice.Eq.{bytes_eq-Decides}
+use Rattle.std.proofs.lemmas.Bool.{eq-eqb, le-leb, lt-ltb}
 use Rattle.std.proofs.lemmas.Int.{to_z-of_z}
-use Rattle.byteorder.specs.Endian.{little_number}
 use Rattle.byteorder.specs.Numbers.{little_number-reads_back}
 use Rattle.sf_base.specs.declared.limits.TheConstants.{POINTS}
 use Rattle.sample_view.specs.Words.{word_bytes}
 use Rattle.sample_view.proofs.WordLaws.{length-word_bytes}
 use Rattle.pcm_points.specs.declared.encoding.SampleEncoding.TheVariants.{Signed16}
 use Rattle.pcm_points.proofs.ChannelLaws.{words_stay}
-use Rattle.riff_chunks.specs.Walk.{Chunk, walk}
-use Rattle.riff_chunks.specs.Finding.{is_whole, first_body}
-use Rattle.riff_chunks.specs.Encoding.{pad, chunk, encode, FitsChunk}
-use Rattle.riff_chunks.proofs.EncodingLaws.{chunk_head-Headed, chunks_in-encode, is_whole-encode}
+use Rattle.riff_chunks.specs.Finding.{first_body}
+use Rattle.riff_chunks.specs.Encoding.{chunk, encode, FitsChunk}
 use Rattle.bank_parts.specs.declared.parts.Sample.{Sample}
 use Rattle.bank_parts.specs.Valid.{IsLoop}
 use Rattle.bank_parts.specs.Fits.{FitsSample, FitsLoop}
-use Rattle.bank_format.specs.Chunks.{window, body_in}
-use Rattle.bank_format.specs.ReadChecks.{form_checks}
+use Rattle.bank_format.specs.Chunks.{body_in}
 use Rattle.bank_format.specs.Ids.{RIFF}
 use Rattle.wave_file.specs.Wave as wave
 use Rattle.wave_file.specs.Wave.{WAVE, FORMAT, DATA}
 use Rattle.wave_file.specs.SamplerPitch.{pitch, unity_note, pitch_fraction}
 use Rattle.wave_file.specs.SampleWave.{SAMPLER, numbers, mono_format, frame_time, loop_count, sampler_head}
 use Rattle.wave_file.specs.SampleWave.{loop_bytes, stored_pitch, sampler, sample_chunks, sample_wave}
-use Rattle.wave_file.specs.Streams.{UNKNOWN, is_streamed, wave_window, wave_chunks}
 use Rattle.wave_file.proofs.SampleLaws.{length-ids, length-mono_format, length-sampler, length-content}
+use Rattle.wave_file.proofs.WrittenLaws.{written_reads}
 use Rattle.wave_file.specs.declared.sampler_loop.SamplerLoop.{SamplerLoop}
 use Rattle.wave_file.specs.declared.recording.Layout.TheVariants as layout
 use Rattle.wave_file.specs.declared.recording.Format.{Format}
@@ -42,13 +37,12 @@ use Rattle.bank_format.specs.FaultChecks.{first_fault}
 use Rattle.wave_file.specs.Recordings.{format_in, channels_in, frame_count, forward_loop, ends_of}
 use Rattle.wave_file.specs.Recordings.{unity_note_in, fraction_in, data_in, pitch_of_stored, is_stored, stored_in, pitch_of}
 use Rattle.wave_file.specs.Recordings.{as_stored, sampler_in}
-use Rattle.wave_file.specs.ReadChecks.{riff_checks, format_checks, frame_checks, data_checks, has_loops, loop_checks}
-use Rattle.wave_file.specs.ReadChecks.{chunk_checks, sampler_checks, content_checks, content_in, window_checks, steps}
+use Rattle.wave_file.specs.ReadChecks.{format_checks, frame_checks, data_checks, has_loops, loop_checks}
+use Rattle.wave_file.specs.ReadChecks.{chunk_checks, sampler_checks, content_checks, content_in}
 use Rattle.wave_file.specs.ReadChecks.{unless_broken, recording_in}
 use Rattle.wave_file.specs.Laws.{recorded, WavesReadBack}
 use Rattle.bank_format.proofs.CheckLaws.{then_none}
-use Rattle.bank_format.proofs.FormLaws.{same_bytes, form_window, form_holds}
-use Rattle.wave_file.specs.declared.fault.WaveFault.TheVariants.{NotWave, Truncated}
+use Rattle.bank_format.proofs.FormLaws.{same_bytes}
 
 -- ---- the `smpl` chunk
 
@@ -179,28 +173,9 @@ sampler_back n time key c (Some looped) fits f l most =
     (omega (arith, p)) (omega arith) start (omega (arith, end)))
     (a_loop n looped.0 looped.1 some l.1 most)
 
--- ---- the file
+-- ---- the chunks of a sample
 
--- a chunk whose size is less than the unknown one
-known_size : (id body : List ℕ) → length id ≡ 4 → length body + 1 < 2 ^ 32 → is_streamed (chunk id body) ≡ false
-unfolding UNKNOWN
-known_size id body four small =
-    let n = length body in
-    let headed = chunk_head-Headed id n (body ++ pad n) four (omega (arith, small)) in
-    false_from_ne_true (is_streamed (chunk id body))
-    (λ e.
-    let sized = drop 4 (chunk id body) in
-    let unknown : sized ≡ UNKNOWN ++ drop 4 sized =
-    sym (take-append-drop 4 sized) ∙ ap (λ (size : List ℕ). size ++ drop 4 sized) ((bytes_eq-Decides _ UNKNOWN).0 e) in
-    let is = ap (little_number 4) unknown in
-    let size = headed.sized in
-    omega (arith, is, size, small))
-
-length-RIFF : length RIFF ≡ 4
-unfolding RIFF
-length-RIFF = refl
-
-loop_count_small : (looped : Option (ℕ × ℕ)) → loop_count looped ≤ 1
+pub loop_count_small : (looped : Option (ℕ × ℕ)) → loop_count looped ≤ 1
 loop_count_small None = omega arith
 loop_count_small (Some looped) = omega arith
 
@@ -218,7 +193,7 @@ format_back rate lt =
     λ i. record { layout = layout.Mono 1 0; encoding = Signed16; rate = e i }
 
 module _ (s : Sample) (f : FitsSample s) (l : IsLoop (length s.points) s.looped) (most : length s.points ≤ POINTS) where
-  form_small : length (WAVE ++ encode (sample_chunks s)) < 2 ^ 32
+  form_small : length (WAVE ++ encode (sample_chunks s)) + 1 < 2 ^ 32
   form_small =
       let a = length-content s in
       let b = length-sampler s in let c = loop_count_small s.looped in omega (arith, a, b, c, most)
@@ -238,36 +213,6 @@ module _ (s : Sample) (f : FitsSample s) (l : IsLoop (length s.points) s.looped)
   wave_is : sample_wave s ≡ chunk RIFF (WAVE ++ encode (sample_chunks s))
   unfolding sample_wave RIFF wave.RIFF
   wave_is = refl
-
-  -- its size is known
-  size_known : is_streamed (sample_wave s) ≡ false
-  size_known =
-      ap is_streamed wave_is
-      ∙ known_size RIFF (WAVE ++ encode (sample_chunks s)) length-RIFF
-      (let a = length-content s in
-      let b = length-sampler s in let c = loop_count_small s.looped in omega (arith, a, b, c, most))
-
-  window_is : wave_window (sample_wave s) ≡ encode (sample_chunks s)
-  unfolding wave_window
-  window_is =
-      let found : window (sample_wave s) ≡ encode (sample_chunks s) =
-      ap window wave_is ∙ form_window WAVE (encode (sample_chunks s)) length-ids.1 form_small in
-      rw size_known found
-
-  walked : is_whole (walk (encode (sample_chunks s))) ≡ true
-  walked = is_whole-encode (sample_chunks s) chunks_fit
-
-  chunks_are : wave_chunks (encode (sample_chunks s)) ≡ sample_chunks s
-  unfolding wave_chunks
-  chunks_are = rw walked (chunks_in-encode (sample_chunks s) chunks_fit)
-
-  riff_holds : first_fault (riff_checks (sample_wave s)) ≡ None
-  unfolding riff_checks
-  riff_holds =
-      let found : first_fault (form_checks WAVE NotWave Truncated NotWave (sample_wave s)) ≡ None =
-      ap (λ (file : List ℕ). first_fault (form_checks WAVE NotWave Truncated NotWave file)) wave_is
-      ∙ form_holds WAVE (encode (sample_chunks s)) length-ids.1 form_small NotWave Truncated NotWave in
-      rw size_known found
 
   -- ---- its chunks
 
@@ -332,21 +277,10 @@ module _ (s : Sample) (f : FitsSample s) (l : IsLoop (length s.points) s.looped)
 
   -- ---- all together
 
-  window_holds : first_fault (window_checks as_stored (encode (sample_chunks s))) ≡ None
-  unfolding window_checks
-  window_holds =
-      rw walked (ap (λ (cs : List Chunk). first_fault (content_checks as_stored cs)) chunks_are ∙ content_holds)
-
   reads_back : recording_in as_stored (sample_wave s) ≡ Ok (recorded s)
-  unfolding recording_in steps
   reads_back =
-      let holds : first_fault (steps as_stored (sample_wave s)) ≡ None =
-      then_none (riff_checks (sample_wave s)) (window_checks as_stored (wave_window (sample_wave s))) riff_holds
-      (ap (λ (w : List ℕ). first_fault (window_checks as_stored w)) window_is ∙ window_holds) in
-      let is : content_in as_stored (wave_chunks (wave_window (sample_wave s))) ≡ recorded s =
-      ap (λ (w : List ℕ). content_in as_stored (wave_chunks w)) window_is
-      ∙ ap (content_in as_stored) chunks_are ∙ content_is in
-      (λ i. unless_broken (holds i) (is i))
+      written_reads (sample_chunks s) chunks_fit form_small as_stored (sample_wave s) wave_is
+      ∙ (λ i. unless_broken (content_holds i) (content_is i))
 
 pub waves_read_back : WavesReadBack
 waves_read_back s f l most = reads_back s f l most

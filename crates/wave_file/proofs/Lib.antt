@@ -5,4 +5,5 @@ mod ReducedLaws
 pub mod ReadLaws
 pub mod ImportLaws
 pub mod FitLaws
+pub mod WrittenLaws
 pub mod BackLaws
