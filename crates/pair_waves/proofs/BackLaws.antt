@@ -1,5 +1,5 @@
 -- The WAVE file of a pair reads back as its samples.
-use Rattle.std.proofs.Common.{◌≡◌, ◌≤◌, ◌<◌, ◌%◌, ◌^◌, ℕ, true, eqb, List, ◌++◌, length, drop, Option}
+use Rattle.std.proofs.Common.{◌≡◌, ◌≤◌, ◌<◌, ◌+◌, ◌%◌, ◌^◌, ℕ, true, eqb, List, ◌++◌, length, drop, Option}
 use Rattle.std.proofs.Common.{Some, None, Result, Ok, Err, refl, ap, sym, ◌∙◌, arith}
 use Rattle.std.specs.List.{AllByRecursion, flat_map}
 use Rattle.std.proofs.lemmas.Bool.{eq-eqb}
@@ -8,28 +8,22 @@ use Rattle.sf_base.specs.declared.limits.TheConstants.{POINTS}
 use Rattle.sample_view.specs.Words.{word_bytes}
 use Rattle.pcm_points.specs.declared.encoding.SampleEncoding.TheVariants.{Signed16}
 use Rattle.pcm_points.specs.Points.{channel_words}
-use Rattle.riff_chunks.specs.Walk.{Chunk, walk}
-use Rattle.riff_chunks.specs.Finding.{chunks_in, is_whole}
 use Rattle.riff_chunks.specs.Encoding.{chunk, encode, FitsChunk}
-use Rattle.riff_chunks.proofs.EncodingLaws.{chunks_in-encode, is_whole-encode}
 use Rattle.bank_parts.specs.declared.parts.Sample.{Sample}
 use Rattle.bank_parts.specs.Valid.{IsLoop}
 use Rattle.bank_parts.specs.Fits.{FitsSample}
-use Rattle.bank_format.specs.Chunks.{window}
 use Rattle.bank_format.specs.Ids.{RIFF}
 use Rattle.bank_format.specs.FaultChecks.{Check, first_fault}
-use Rattle.bank_format.proofs.CheckLaws.{first_fault-append, both_none, then_none}
-use Rattle.bank_format.proofs.FormLaws.{form_window, form_holds}
+use Rattle.bank_format.proofs.CheckLaws.{both_none, then_none}
 use Rattle.wave_file.specs.Wave as wave
 use Rattle.wave_file.specs.Wave.{WAVE, FORMAT, DATA}
-use Rattle.wave_file.specs.SampleWave.{SAMPLER, mono_format, loop_count, sampler, sample_chunks, sample_wave}
+use Rattle.wave_file.specs.SampleWave.{SAMPLER, mono_format, sampler, sample_chunks, sample_wave}
 use Rattle.wave_file.specs.declared.fault.WaveFault.{WaveFault}
-use Rattle.wave_file.specs.declared.fault.WaveFault.TheVariants.{NotWave, Truncated}
 use Rattle.wave_file.specs.declared.recording.Channels.TheVariants.{Stereo}
 use Rattle.wave_file.specs.declared.recording.Recording.{Recording}
 use Rattle.wave_file.specs.Recordings.{as_stored, format_in, channels_in, frame_count, sampler_in}
-use Rattle.wave_file.specs.ReadChecks.{riff_checks, format_checks, frame_checks, data_checks, sampler_checks}
-use Rattle.wave_file.specs.ReadChecks.{content_checks, content_in, window_checks, steps, unless_broken, recording_in}
+use Rattle.wave_file.specs.ReadChecks.{format_checks, frame_checks, data_checks, sampler_checks}
+use Rattle.wave_file.specs.ReadChecks.{content_checks, content_in, unless_broken, recording_in}
 use Rattle.wave_file.specs.Laws.{recorded}
 use Rattle.wave_file.proofs.SampleLaws as sample
 use Rattle.wave_file.proofs.SampleLaws.{length-ids, length-sampler}
