@@ -1,0 +1,4 @@
+mod PairLaws
+mod ContentLaws
+pub mod ReplacingLaws
+pub mod RestLaws
