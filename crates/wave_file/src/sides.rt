@@ -61,14 +61,14 @@ impl Sides {
     }
 
     /// The points of the left channel.
-    pub(crate) fn left(&self, alloc: Global) -> Points<'_>
+    pub fn left(&self, alloc: Global) -> Points<'_>
         ensures { result ≡ self.now.left }
     {
         Points::of_slice(alloc, self.left.as_slice()).unwrap()
     }
 
     /// The points of the right channel.
-    pub(crate) fn right(&self, alloc: Global) -> Points<'_>
+    pub fn right(&self, alloc: Global) -> Points<'_>
         ensures { result ≡ self.now.right }
     {
         Points::of_slice(alloc, self.right.as_slice()).unwrap()

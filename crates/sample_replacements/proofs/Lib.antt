@@ -1,0 +1,5 @@
+mod PairLaws
+mod ContentLaws
+pub mod ReplacingLaws
+pub mod RestLaws
+pub mod FitLaws

@@ -1,0 +1,3 @@
+pub mod Pairs
+pub mod Replacements
+pub mod Laws
