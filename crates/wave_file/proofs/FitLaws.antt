@@ -27,7 +27,7 @@ use Rattle.bank_parts.specs.Fits.{FitsSample, FitsKind, FitsLoop}
 use Rattle.bank_format.specs.Chunks.{window, body_in}
 use Rattle.bank_format.proofs.AllLaws.{all-append}
 use Rattle.bank_format.proofs.CheckLaws.{split_none, both_none}
-use Rattle.bank_format.proofs.ReadBytes as whole
+use Rattle.bank_format.proofs.ReadBytes as riff
 use Rattle.bank_format.proofs.ReadBytes.{OfBytes, take_bytes, drop_bytes, walk_bytes, body_bytes}
 use Rattle.edit_forms.specs.declared.edit.Edit.TheVariants.{One}
 use Rattle.edit_forms.specs.declared.points.PointStep.TheVariants.{SetKind}
@@ -182,11 +182,7 @@ window_bytes file b = either (is_streamed file)
   where
     either : (t : Bool) → AreBytes (cond t (drop 12 file) (window file))
     either true = drop_bytes 12 file b
-    either false = whole.window_bytes file b
-
-and_last : (cs : List Chunk) (c : Chunk) → AllByRecursion OfBytes cs → OfBytes c
-    → AllByRecursion OfBytes (cs ++ c ∷ [])
-and_last cs c all last = all-append OfBytes cs (c ∷ []) all (last, tt)
+    either false = riff.window_bytes file b
 
 chunks_bytes : (w : List ℕ) → AreBytes w → AllByRecursion OfBytes (wave_chunks w)
 unfolding wave_chunks rest_of
@@ -200,8 +196,8 @@ chunks_bytes w b = either (is_whole (walk w))
         (cond t (chunks_in (walk w)) (chunks_in (walk w) ++ made DATA (drop 8 (rest_of w)) ∷ []))
     either true = found
     either false =
-        and_last (chunks_in (walk w)) (made DATA (drop 8 (rest_of w))) found
-        (drop_bytes 8 (rest_of w) (drop_bytes _ w b))
+        all-append OfBytes (chunks_in (walk w)) (made DATA (drop 8 (rest_of w)) ∷ []) found
+        (drop_bytes 8 (rest_of w) (drop_bytes _ w b), tt)
 
 -- ---- the file
 
