@@ -1,4 +1,4 @@
-use Rattle.std.proofs.Common.{◌≡◌, sym, arith}
+use Rattle.std.proofs.Common.{sym, arith}
 use Rattle.bank_changes.proofs.PointLaws.{among}
 use Rattle.sample_replacements.proofs.replacing.point_count.Goals as goal
 
