@@ -75,7 +75,8 @@ pub reduced_fit : (dither : Option ℕ) (e : SampleEncoding) (channels channel :
     → AreWords (reduced_words dither e channels channel bytes)
 reduced_fit None e channels channel bytes = words_fit e channels channel bytes
 reduced_fit (Some seed) e channels channel bytes =
-    cond_both (ltb 2 (size_of e)) (dithered_words seed e channels channel bytes) (channel_words e channels channel bytes)
+    cond_both (ltb 2 (size_of e)) (dithered_words seed e channels channel bytes)
+    (channel_words e channels channel bytes)
     AreWords
     (λ _. dithered_fit (started 64 multiplier_64 seed (increment_of 64 channel)) 0
     (channel_samples (wide e) e channels channel bytes))

@@ -27,8 +27,8 @@ abbrev pub SixteenBitsStay : Type 0
 SixteenBitsStay =
     (bytes : List ℕ) → All (λ b. b < 256) bytes → length bytes % 2 ≡ 0 → channel_words Signed16 1 0 bytes ≡ words bytes
 
--- A dithered point is a whole number less than 3/2 points from its sample, clipped to 16 bits. In units of 2^-16 points,
--- they differ by no more than the noise and the rounding.
+-- A dithered point is a whole number less than 3/2 points from its sample, clipped to 16 bits. In units of 2^-16
+-- points, they differ by no more than the noise and the rounding.
 abbrev pub DitherIsNear : Type 0
 DitherIsNear =
     (word : ℕ) (units : ℤ) → word < 2 ^ 32

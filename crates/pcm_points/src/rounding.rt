@@ -74,7 +74,7 @@ fn float_point(bits: u32) -> i16
     float_number(bits, 0) as i16
 }
 
-// The number of a float with these bits, in units of 2^-`extra` points.
+// A float with these bits in units of 2^-`extra` points, as a number of 16 + `extra` bits.
 #[inline]
 #[tactic(auto, using(crate::proofs::FloatLaws::nan_number, crate::proofs::FloatLaws::large_number))]
 pub(crate) fn float_number(bits: u32, extra: u32) -> i32
