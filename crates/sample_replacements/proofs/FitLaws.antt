@@ -132,8 +132,16 @@ content_fits : (n count rate : ℕ) (sampler : Sampler) (points : List ℕ) → 
     → FitsSampler sampler → AreWords points → AllByRecursion FitsEdit (content_edits n count rate sampler points)
 content_fits n count rate sampler points small c r s p = (
   (small, tt),
-  ((small, (c, omega arith)), ((small, (λ k d h. absurd (omega (arith, h)), p)), ((small, s.looped),
-  ((small, (r, s.pitch.key, s.pitch.correction)), tt)))),
+  (
+    (small, (c, omega arith)),
+    (
+      (small, (λ k d h. absurd (omega (arith, h)), p)),
+      (
+        (small, s.looped),
+        ((small, (r, s.pitch.key, s.pitch.correction)), tt),
+      ),
+    ),
+  ),
 )
 
 all_fit : (b : Parts) (rate : ℕ) (sampler : Sampler) (ts : List Target) → IsValid b → rate < 2 ^ 32

@@ -60,7 +60,15 @@ pub fn import_run<W: Write, V: Write>(
     // Run on the written file, the undo text restores the canonical file of the first bank.
     ensures restores { IsRecordingUndone (appended name.now) options file.now wave.now }
 {
-    record(alloc, file, wave, options, Destination::End(name), out, undo)
+    record(
+        alloc,
+        file,
+        wave,
+        options,
+        Destination::End(name),
+        out,
+        undo,
+    )
 }
 
 /// Reads the file and the WAVE file, puts the recording in the place of sample `sample` of the bank, counted from 0, and
@@ -94,7 +102,15 @@ pub fn replace_run<W: Write, V: Write>(
     // Run on the written file, the undo text restores the canonical file of the first bank.
     ensures restores { IsRecordingUndone (put_in_place sample) options file.now wave.now }
 {
-    record(alloc, file, wave, options, Destination::Place(sample), out, undo)
+    record(
+        alloc,
+        file,
+        wave,
+        options,
+        Destination::Place(sample),
+        out,
+        undo,
+    )
 }
 
 // Brings the recording into the bank, and writes both texts.
@@ -174,7 +190,9 @@ fn recording_edits<'a>(
             let edits = import_edits(alloc, count, name, recording, sides)?;
             Ok(edits)
         }
-        Destination::Place(sample) => match replacement_edits(alloc, bank, sample, recording, sides) {
+        Destination::Place(sample) => match replacement_edits(
+            alloc, bank, sample, recording, sides,
+        ) {
             Ok(edits) => Ok(edits),
             Err(fault) => Err(fault_of_replacement(fault)),
         },

@@ -22,7 +22,16 @@ fn imports(alloc: Global, wave: &File, name: &[u8], script: &[u8], back: &[u8]) 
     let mut edited = Vec::new(alloc);
     let mut edited_undo = Vec::new(alloc);
     let options = ReadOptions::as_stored();
-    import_run(alloc, tone.bytes(), wave.bytes(), options, name, &mut out, &mut undo).is_ok()
+    import_run(
+        alloc,
+        tone.bytes(),
+        wave.bytes(),
+        options,
+        name,
+        &mut out,
+        &mut undo,
+    )
+    .is_ok()
         && edit_run(alloc, tone.bytes(), script, &mut edited, &mut edited_undo).is_ok()
         && out.as_slice() == edited.as_slice()
         && undo.as_slice() == back
@@ -50,7 +59,15 @@ fn a_sample_is_replaced_by_itself(rt: HostRuntime) {
     let mut out = Vec::new(rt.alloc());
     let mut undo = Vec::new(rt.alloc());
     let options = ReadOptions::as_stored();
-    let replaced = replace_run(rt.alloc(), tone.bytes(), wave.bytes(), options, 0, &mut out, &mut undo);
+    let replaced = replace_run(
+        rt.alloc(),
+        tone.bytes(),
+        wave.bytes(),
+        options,
+        0,
+        &mut out,
+        &mut undo,
+    );
     assert!(rt; canon_run(rt.alloc(), tone.bytes(), &mut canonical).is_ok());
     assert!(rt; replaced.is_ok() && out.as_slice() == canonical.as_slice());
 }
