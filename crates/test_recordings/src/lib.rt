@@ -6,6 +6,7 @@
 mod channels;
 #[cfg(test)]
 mod pairs;
+#[cfg(test)]
 mod replacements;
 #[cfg(test)]
 mod samples;

@@ -16,6 +16,7 @@ use Rattle.pcm_points.specs.declared.encoding.SampleEncoding.{SampleEncoding}
 use Rattle.pcm_points.specs.declared.encoding.SampleEncoding.TheVariants.{Unsigned8, Signed16, Signed24, Signed32}
 use Rattle.pcm_points.specs.declared.encoding.SampleEncoding.TheVariants.{Float32}
 use Rattle.pcm_points.specs.Dither.{reduced_words}
+use Rattle.pcm_points.proofs.DitherLaws.{reduced_fit}
 use Rattle.riff_chunks.specs.Walk.{Chunk, walk}
 use Rattle.riff_chunks.specs.Finding.{chunks_in, is_whole, first_body}
 use Rattle.hydra_records.specs.Records.{AreBytes}
@@ -56,7 +57,6 @@ use Rattle.wave_file.specs.ReadChecks.{unless_broken, recording_in}
 use Rattle.wave_file.specs.Imports.{mono_name, side_name, sample_of, add_edit, pair_edits, mono_edits, channel_edits}
 use Rattle.wave_file.specs.Imports.{import_edits}
 use Rattle.wave_file.proofs.ImportLaws.{truncated_text, side_named}
-use Rattle.wave_file.proofs.ReducedLaws.{reduced_fit}
 
 pub record FitsPitch (p : Pitch) : Type 0 where
   pub key : p.key < 2 ^ 8

@@ -1,44 +1,20 @@
 -- The points of a channel, with dither or without.
 use Rattle.std.proofs.Common.{◌≡◌, ◌*◌, ◌/◌, ℕ, ℤ, List, [], ◌∷◌, length, map, Option, Some, None, Bool, true, false, refl}
-use Rattle.std.proofs.Common.{◌∙◌, ◌+ℤ◌, nat_lt, if◌then◌else◌}
+use Rattle.std.proofs.Common.{◌∙◌, nat_lt, if◌then◌else◌}
 use Rattle.std.specs.List.{enumerate_from}
 use Rattle.std.proofs.lemmas.List.{length-map}
 use Rattle.std.proofs.lemmas.List.FromFn.{length-enumerate_from}
-use Rattle.sample_view.specs.Words.{AreWords}
 use Rattle.hydra_records.proofs.TableLaws.{length-records}
 use Rattle.pcm_points.specs.declared.encoding.SampleEncoding.{SampleEncoding}
 use Rattle.pcm_points.specs.declared.encoding.SampleEncoding.TheVariants.{Signed16}
 use Rattle.pcm_points.specs.Samples.{size_of}
-use Rattle.pcm_points.specs.Points.{channel_samples, channel_words, nearest, point_word, sample_in}
-use Rattle.pcm_points.specs.Dither.{dithered_word, dithered_words, fraction_of_units, noise, reduced_words, triangular}
-use Rattle.pcm_points.specs.Dither.{wide}
-use Rattle.pcm_points.proofs.ChannelLaws.{point_fits, words_fit}
+use Rattle.pcm_points.specs.Points.{channel_samples, channel_words, point_word, sample_in}
+use Rattle.pcm_points.specs.Dither.{dithered_word, dithered_words, noise, reduced_words, wide}
 
 -- samples of 16 bits have no dither
 pub narrow : (dither : Option ℕ) (bytes : List ℕ) → reduced_words dither Signed16 1 0 bytes ≡ channel_words Signed16 1 0 bytes
 narrow None bytes = refl
 narrow (Some seed) bytes = refl
-
--- ---- they are words
-
-noisy_fit : (seed channel : ℕ) (frames : List (ℕ × ℤ))
-    → AreWords (map (λ (frame : ℕ × ℤ). dithered_word (noise seed channel frame.0) frame.1) frames)
-noisy_fit seed channel [] = tt
-noisy_fit seed channel (frame ∷ frames) =
-    let f = fraction_of_units (frame.1 +ℤ triangular (noise seed channel frame.0)) in
-    (point_fits f.is_negative (nearest f.numerator f.denominator), noisy_fit seed channel frames)
-
-pub reduced_fit : (dither : Option ℕ) (e : SampleEncoding) (channels channel : ℕ) (bytes : List ℕ)
-    → AreWords (reduced_words dither e channels channel bytes)
-reduced_fit None e channels channel bytes = words_fit e channels channel bytes
-reduced_fit (Some seed) e channels channel bytes = by_size (nat_lt 2 (size_of e))
-  where
-    by_size : (b : Bool)
-        → AreWords
-        (if b then dithered_words seed e channels channel bytes else channel_words e channels channel bytes)
-    by_size true =
-        noisy_fit seed channel (enumerate_from 0 (channel_samples (wide e) e channels channel bytes))
-    by_size false = words_fit e channels channel bytes
 
 -- ---- there is one for each frame
 
