@@ -70,7 +70,7 @@ words_stay ws h =
 
 -- ---- points fit into 16 bits
 
-point_fits : (sign : Bool) (n : ℕ) → cast_unsigned w16 (with_sign sign (min n (most 16 sign))) < 2 ^ 16
+pub point_fits : (sign : Bool) (n : ℕ) → cast_unsigned w16 (with_sign sign (min n (most 16 sign))) < 2 ^ 16
 point_fits false n = omega arith
 point_fits true n = negative (min n 32768) (omega arith)
   where
