@@ -1,9 +1,8 @@
 -- The edits of a replacement are in range.
 use Rattle.std.proofs.Common.{◌≡◌, ◌≤◌, ◌<◌, ◌^◌, ℕ, List, [], ◌∷◌, length, slice_get, Option, Some, None, Bool, true, false}
-use Rattle.std.proofs.Common.{Result, Ok, Err, refl, sym, arith, nat_lt, if◌then◌else◌}
+use Rattle.std.proofs.Common.{Result, Ok, Err, refl, subst, arith, nat_lt, if◌then◌else◌}
 use Rattle.std.specs.List.{AllByRecursion, flat_map}
 use Rattle.std.specs.Option.{option_and_then, option_map_or}
-use Rattle.std.proofs.lemmas.Bool.{ltb-true}
 use Rattle.sf_base.specs.declared.limits.TheConstants.{SAMPLES}
 use Rattle.sample_view.specs.Words.{AreWords}
 use Rattle.base_numbered_lists.proofs.Lists.{slice_get-within}
@@ -17,12 +16,13 @@ use Rattle.bank_changes.proofs.PointLaws.{among}
 use Rattle.bank_format.proofs.AllLaws.{all-append}
 use Rattle.edit_forms.specs.declared.edit.Edit.{Edit}
 use Rattle.edit_forms.specs.Fits.{FitsEdit}
-use Rattle.wave_file.specs.declared.recording.Channels as recorded
+use Rattle.wave_file.specs.declared.recording.Channels.{Channels}
 use Rattle.wave_file.specs.declared.recording.Channels.TheVariants as recorded
 use Rattle.wave_file.specs.declared.recording.Sampler.{Sampler}
 use Rattle.wave_file.specs.declared.recording.Recording.{Recording}
 use Rattle.wave_file.proofs.FitLaws.{FitChannels, FitsRecording, FitsSampler}
 use Rattle.sample_replacements.specs.declared.fault.ReplaceFault.{ReplaceFault}
+use Rattle.sample_replacements.specs.declared.fault.ReplaceFault.TheVariants.{NoSuchSample}
 use Rattle.sample_replacements.specs.Pairs.{has_kind, is_left_of, is_right_of, pair_by_kind, pair_in}
 use Rattle.sample_replacements.specs.Replacements.{Target, channel_targets, content_edits, edits_of, mono_targets}
 use Rattle.sample_replacements.specs.Replacements.{pair_targets, replacement_edits, stereo_targets, target_edits, targets}
@@ -96,7 +96,7 @@ stereo_fits samples left right (Some pair) ts most lt l r h =
     let is : pair_targets pair left right ≡ ts = cc in
     subst (AllByRecursion FitsTarget) is (pair_fits samples pair left right most lt l r)
 
-channels_fit : (samples : List Sample) (n : ℕ) (channels : recorded.Channels) (ts : List Target) → n < 2 ^ 32
+channels_fit : (samples : List Sample) (n : ℕ) (channels : Channels) (ts : List Target) → n < 2 ^ 32
     → length samples ≤ SAMPLES → FitChannels channels → channel_targets n (pair_in samples n) channels ≡ Ok ts
     → AllByRecursion FitsTarget ts
 channels_fit samples n (recorded.Mono points) ts small most f h =
@@ -108,12 +108,12 @@ channels_fit samples n (recorded.MonoSamples points) ts small most f h =
 channels_fit samples n (recorded.Stereo left right) ts small most f h =
     stereo_fits samples left right (pair_in samples n) ts most (pairs_there samples n) f.0 f.1 h
 
-targets_fit : (samples : List Sample) (n : ℕ) (channels : recorded.Channels) (ts : List Target) → n < 2 ^ 32
+targets_fit : (samples : List Sample) (n : ℕ) (channels : Channels) (ts : List Target) → n < 2 ^ 32
     → length samples ≤ SAMPLES → FitChannels channels → targets samples n channels ≡ Ok ts
     → AllByRecursion FitsTarget ts
 targets_fit samples n channels ts small most f = by_test (nat_lt n (length samples))
   where
-    by_test : (b : Bool) → (if b then channel_targets n (pair_in samples n) channels else Err _) ≡ Ok ts
+    by_test : (b : Bool) → (if b then channel_targets n (pair_in samples n) channels else Err NoSuchSample) ≡ Ok ts
         → AllByRecursion FitsTarget ts
     by_test true h = channels_fit samples n channels ts small most f h
     by_test false h = absurd cc
@@ -135,7 +135,7 @@ content_fits n count rate sampler points small c r s p = (
   (
     (small, (c, omega arith)),
     (
-      (small, (λ k d h. absurd (omega (arith, h)), p)),
+      (small, (tt, p)),
       (
         (small, s.looped),
         ((small, (r, s.pitch.key, s.pitch.correction)), tt),
