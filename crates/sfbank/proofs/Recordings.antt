@@ -35,7 +35,7 @@ use Rattle.bank_edits.specs.Runs.{after_all}
 use Rattle.sample_replacements.specs.declared.fault.ReplaceFault.{ReplaceFault}
 use Rattle.sample_replacements.specs.Replacements.{replacement_edits, replaced}
 use Rattle.sample_replacements.proofs.FitLaws.{replacements_fit}
-use Rattle.sample_replacements.proofs.KeepLaws.{replacing_keeps}
+use Rattle.sample_replacements.proofs.ReplacingLaws.{replacing_kept}
 use Rattle.sfbank.specs.declared.recorded.Destination.{Destination}
 use Rattle.sfbank.specs.declared.recorded.Destination.TheVariants.{End, Place}
 use Rattle.program_reports.specs.declared.run_fault.RunFault.{RunFault}
@@ -217,7 +217,7 @@ replaced_after : (b : Parts) (number : ℕ) (r : Recording) (done : Done) (resul
     → after_edits b (result_map_both (λ (es : List Edit). es) fault_of_replacement result) ≡ Ok done
     → done.out ≡ canon (replaced b number r)
 replaced_after b number r done (Ok es) is h =
-    written_after b es done h ∙ ap canon (replacing_keeps b number r es is)
+    written_after b es done h ∙ ap canon (replacing_kept b number r es is)
 replaced_after b number r done (Err fault) is h = absurd cc
 
 pub replace_keeps : (options : ReadOptions) (number : ℕ) (file wave : List ℕ) → IsReplaced options number file wave

@@ -2,6 +2,7 @@
 ghost use Rattle.std.specs.Prelude.{◌≡◌, ◌≤◌, length, Ok, IfOk};
 ghost use Rattle.edit_script.specs.Printing.{numbered};
 ghost use Rattle.wave_file.specs.Imports.{sides_of};
+ghost use Rattle.wave_file.specs.Recordings.{FitsKey};
 ghost use Rattle.sfbank.specs.Outcome.{after_script};
 ghost use Rattle.sfbank.specs.Prepared.{texts_of_bank};
 ghost use Rattle.sfbank.specs.Recordings.{appended, put_in_place, change_of, after_edits, fault_of_replacement, import_outcome};
@@ -60,15 +61,9 @@ pub fn import_run<W: Write, V: Write>(
     // Run on the written file, the undo text restores the canonical file of the first bank.
     ensures restores { IsRecordingUndone (appended name.now) options file.now wave.now }
 {
-    record(
-        alloc,
-        file,
-        wave,
-        options,
-        Destination::End(name),
-        out,
-        undo,
-    )
+    let destination = Destination::End(name);
+    key_fits(options.key);
+    record(alloc, file, wave, options, destination, out, undo)
 }
 
 /// Reads the file and the WAVE file, puts the recording in the place of sample `sample` of the bank, counted from 0, and
@@ -102,15 +97,19 @@ pub fn replace_run<W: Write, V: Write>(
     // Run on the written file, the undo text restores the canonical file of the first bank.
     ensures restores { IsRecordingUndone (put_in_place sample) options file.now wave.now }
 {
-    record(
-        alloc,
-        file,
-        wave,
-        options,
-        Destination::Place(sample),
-        out,
-        undo,
-    )
+    let destination = Destination::Place(sample);
+    key_fits(options.key);
+    record(alloc, file, wave, options, destination, out, undo)
+}
+
+// Proves that a key is a byte. It does nothing at run time.
+fn key_fits(key: Option<u8>)
+    ensures { FitsKey key }
+{
+    match key {
+        Some(_key) => {}
+        None => {}
+    }
 }
 
 // Brings the recording into the bank, and writes both texts.

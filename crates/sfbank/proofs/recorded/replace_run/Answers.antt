@@ -1,3 +1,4 @@
+use Rattle.std.proofs.Common.{arith}
 use Rattle.sfbank.proofs.Restores.{are_bytes}
 use Rattle.sfbank.proofs.Recordings.{in_place_fits, replace_keeps, scripted, recording_restores}
 use Rattle.sfbank.specs.Recordings.{put_in_place}
@@ -10,13 +11,13 @@ pub returns-clause-script : goal.returns-clause-script
 returns-clause-script g c =
     let file = c.args.file.now in
     let wave = c.args.wave.now in
-    scripted (put_in_place c.args.sample) c.args.options file wave (in_place_fits c.args.sample c.type_inv.sample)
-    (key_fits c.args.options) (are_bytes file c.type_inv.file) (are_bytes wave c.type_inv.wave)
+    scripted (put_in_place c.args.sample) c.args.options file wave (in_place_fits c.args.sample (omega arith))
+    c.key_fits.ensures (are_bytes file c.type_inv.file) (are_bytes wave c.type_inv.wave)
 
 pub returns-clause-restores : goal.returns-clause-restores
 returns-clause-restores g c =
     let file = c.args.file.now in
     let wave = c.args.wave.now in
     recording_restores (put_in_place c.args.sample) c.args.options file wave
-    (in_place_fits c.args.sample c.type_inv.sample)
-    (key_fits c.args.options) (are_bytes file c.type_inv.file) (are_bytes wave c.type_inv.wave)
+    (in_place_fits c.args.sample (omega arith))
+    c.key_fits.ensures (are_bytes file c.type_inv.file) (are_bytes wave c.type_inv.wave)
