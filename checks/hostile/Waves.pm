@@ -16,15 +16,24 @@ my $imported = 0;
 sub wave { my ($bank, $sample, $out) = @_; return run_command(['wave', $bank, $sample, $out], $out); }
 sub imported { my ($bank, $wave, $out, $undo) = @_; return run_command(['import', $bank, $wave, $out, $undo], $out, $undo); }
 
+# Returns what is wrong with the file `in.wav` in the place of the sample of `tone`, which must be rejected for two channels
+# and otherwise be undone; or undef.
+sub wrong_of_replacement {
+    my $run = run_command(['replace', 'tone', '0', 'in.wav', 'out', 'undo'], 'out', 'undo');
+    return $run->{wrong} if $run->{wrong};
+    return $run->{line} eq "sfbank: wave fault 72 TwoChannels\n" ? undef : $run->{line} if $run->{status};
+    return undone('tone');
+}
+
 # Returns what is wrong with the import of the file `in.wav`, which may be rejected and must be undone if done; or
-# undef.
+# undef. The same for a replacement.
 sub wrong_of_import {
     my ($bytes) = @_;
     write_bytes('in.wav', $bytes);
     my $run = imported('tone', 'in.wav', 'out', 'undo');
     return $run->{wrong} if $run->{wrong} || $run->{status};
     $imported++;
-    return undone('tone');
+    return undone('tone') // wrong_of_replacement();
 }
 
 # Returns what is wrong with a sample exported and imported, whose WAVE file must be the same again; or undef.
