@@ -4,6 +4,7 @@ ghost use Rattle.sfbank.specs.Recordings.{pair_outcome, wave_outcome};
 ghost use Rattle.sfbank.specs.PairSteps.{FindsAlike, FindsPair};
 ghost use Rattle.sfbank.specs.Written.{RunsOneText};
 
+use crate::reading::read_bank;
 use crate::writing::write_one;
 use bank_core::{Bank, Sample};
 use edit_refusals::Cause;

@@ -40,7 +40,7 @@ fn name_of<'n>(paths: &'n ImportPaths<'_>) -> &'n [u8]
     ensures { result.now ≡ import_name paths.now }
 {
     match &paths.name {
-        Some(name) => name.as_bytes(),
+        Some(name) => name.bytes(),
         None => recording_name(paths.wave).as_bytes(),
     }
 }
