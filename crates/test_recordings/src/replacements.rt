@@ -8,7 +8,7 @@ use sf_reader::read;
 use std::alloc::Global;
 use std::test::Fail;
 use test_inputs::tone;
-use wave_file::{Sides, import_edits, read_recording};
+use wave_file::{ReadOptions, Sides, import_edits, read_recording};
 
 /// A mono WAVE file of the points 1 and 2.
 const MONO: &[u8] =
@@ -59,9 +59,9 @@ fn are_replaced(
     sample: u32,
     wanted: [&[u8]; 3],
 ) -> Result<bool, Fail> {
-    let pair = read_recording(alloc, PAIR)?;
+    let pair = read_recording(alloc, PAIR, ReadOptions::as_stored())?;
     let pair_sides = Sides::of(alloc, &pair.channels)?;
-    let recording = read_recording(alloc, recording)?;
+    let recording = read_recording(alloc, recording, ReadOptions::as_stored())?;
     let sides = Sides::of(alloc, &recording.channels)?;
     let file = tone();
     let (mut bank, _counts) = read(alloc, file.bytes())?;
@@ -86,7 +86,7 @@ fn are_replaced(
 
 /// Why a recording can't be put in the place of a sample of a bank of one sample.
 fn fault_of(alloc: Global, recording: &[u8], sample: u32) -> Result<Option<ReplaceFault>, Fail> {
-    let recording = read_recording(alloc, recording)?;
+    let recording = read_recording(alloc, recording, ReadOptions::as_stored())?;
     let sides = Sides::of(alloc, &recording.channels)?;
     let file = tone();
     let (bank, _counts) = read(alloc, file.bytes())?;
