@@ -1,4 +1,3 @@
-use Rattle.bank_format.specs.ReadChecks.{fault_of}
 use Rattle.plan_copy.specs.Copying.{copied}
 use Rattle.sfbank.specs.Outcome.{bank_in}
 use Rattle.sfbank.specs.Purposes.{copying_to}

@@ -1,4 +1,3 @@
-use Rattle.std.proofs.Common.{Some}
 use Rattle.bank_format.specs.ReadChecks.{fault_of}
 use Rattle.program_reports.specs.declared.run_fault.RunFault.TheVariants.{ReadFrom}
 use Rattle.sfbank.specs.Differences.{after_file}

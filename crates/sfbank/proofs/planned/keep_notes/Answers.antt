@@ -1,4 +1,4 @@
-use Rattle.std.proofs.Common.{◌≡◌, ◌∙◌, List, Ok, ap, subst}
+use Rattle.std.proofs.Common.{◌∙◌, List, Ok, ap, subst}
 use Rattle.plan_edits.specs.Keeping.{IsKeeping}
 use Rattle.plan_edits.specs.declared.fault.PlanFault.TheVariants.{OutOfMemory}
 use Rattle.plan_presets.specs.declared.numbers.PresetNumbers.{PresetNumbers}

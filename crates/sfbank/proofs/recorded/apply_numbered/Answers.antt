@@ -3,7 +3,7 @@ use Rattle.std.proofs.lemmas.Result.{err_from_is_err_and}
 use Rattle.edit_script.specs.declared.parsing.Line.{Line}
 use Rattle.sfbank.specs.Outcome.{after_script}
 use Rattle.sfbank.proofs.Faults.{stops_at, applied_done}
-use Rattle.sfbank.proofs.import.apply_numbered.Goals as goal
+use Rattle.sfbank.proofs.recorded.apply_numbered.Goals as goal
 
 pub returns-in_err-lines : goal.returns-in_err-lines
 returns-in_err-lines c =

@@ -1,6 +1,6 @@
 use Rattle.std.proofs.Common.{◌≡◌, ◌+◌, ◌++◌, length}
 use Rattle.edit_script.specs.Printing.{numbered}
-use Rattle.sfbank.proofs.import.numbered_lines.Given as goal
+use Rattle.sfbank.proofs.recorded.numbered_lines.Given as goal
 
 -- the lines so far, followed by those of the remaining edits, are all lines
 abbrev pub invariant-loop-edit : goal.invariant-loop-edit

@@ -21,8 +21,8 @@ returns-in-Err-read_two g c request printed does =
     (g.H.Host.world c.reject_outputs.new.host) _ _ _ c.in-Err-read_two.fault tt does.plans does.inputs c.in-Ok.ensures
     c.in-Err-read_two.ensures
 
-pub returns : goal.returns
-returns g c request printed does =
+pub returns-in-Err : goal.returns-in-Err
+returns-in-Err g c request printed does =
     let work = c.args.work in
     let p = work.paths in
     checks_fail request (edit_part p) (after_two p.input.now p.other.now (λ w a b. with_both p.out.now p.undo.now (recording_outcome (change_of work.destination) work.options a b))) p.input.now p.other.now _ _ _ _

@@ -1,5 +1,4 @@
 use Rattle.std.proofs.Common.{refl}
-use Rattle.program_commands.specs.declared.plans.TakePaths.{TakePaths}
 use Rattle.program_commands.specs.declared.words.Request.TheVariants.{Take}
 use Rattle.sfbank.specs.Purposes.{taking}
 use Rattle.sfbank.specs.Plans.{both_apart, with_edits}
