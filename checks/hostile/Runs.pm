@@ -17,6 +17,7 @@ our %FAULTS = (
     41 => 'Syntax', 42 => 'Number', 43 => 'Literal', 45 => 'BadNote', 46 => 'TooManyNotes', 47 => 'TooLong',
     53 => 'NotWave', 54 => 'Truncated', 55 => 'Compressed', 56 => 'NoFormat', 57 => 'SampleBits', 58 => 'ChannelCount',
     59 => 'NoData', 60 => 'HalfFrame', 61 => 'ShortSampler', 62 => 'UnityNote', 63 => 'LoopOutside',
+    71 => 'NoSuchChannel', 72 => 'TwoChannels', 73 => 'NotAPair', 74 => 'SidesDiffer',
 );
 our %REFUSALS = (
     20 => 'NoSuchPreset', 21 => 'NoSuchInstrument', 22 => 'NoSuchSample', 23 => 'NoSuchZone', 24 => 'NoSuchModulator',
