@@ -183,9 +183,10 @@ sub try_recordings {
     try_recording(@$_) for rows_of("$here/recordings");
 }
 
-# Tests that each fault, refusal and count was in some row.
+# Tests that each fault, refusal and count was in some row. Faults from 71 on are met in `checks/rows`.
 sub try_met {
-    for (sort(keys %Runs::FAULTS, grep { /^\d+$/ } keys %Runs::REFUSALS), qw(texts sm24 zones gens ranges loops links)) {
+    my @faults = grep { $_ < 71 } keys %Runs::FAULTS;
+    for (sort(@faults, grep { /^\d+$/ } keys %Runs::REFUSALS), qw(texts sm24 zones gens ranges loops links)) {
         report("$_ is met by a row", $met{$_} ? undef : 'it is not');
     }
 }
