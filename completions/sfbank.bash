@@ -6,7 +6,7 @@ _sfbank_options() {
     apply) echo --force --neutral --no-undo --explain --help ;;
     copy) echo --as --dry-run --force --name --script --explain --help ;;
     diff | map) echo --force --explain --help ;;
-    import) echo --channel --dither --force --key --name --explain --help ;;
+    import) echo --channel --dither --force --instrument --key --kit --name --preset --explain --help ;;
     keep) echo --dry-run --force --notes --preset --script --zones --explain --help ;;
     live | play) echo --force --report --explain --help ;;
     merge) echo --dry-run --force --script --shift --explain --help ;;
@@ -44,23 +44,28 @@ _sfbank_endings() {
 }
 
 # Prints the command and then the files before the cursor, without options and their values. The numbers of presets
-# are words of their own, around a colon or an equals sign.
+# are words of their own, around a colon or an equals sign. Only `import` has a name after them.
 _sfbank_given() {
-  local i
+  local i option command=
   for ((i = 1; i < COMP_CWORD; i++)); do
-    case ${COMP_WORDS[i]} in
-      --as | --channel | --dither | --key | --minor | --name | --notes | --preset | --script | --shift)
+    option=${COMP_WORDS[i]}
+    case $option in
+      --as | --channel | --dither | --instrument | --key | --kit | --minor | --name | --notes | --preset | --script | --shift)
         [ "${COMP_WORDS[i + 1]}" = = ] && ((i++))
         ((i++))
         while [[ ${COMP_WORDS[i + 1]} == [:=] ]]; do ((i += 2)); done
+        [[ $command$option == import--preset ]] && ((i++))
         ;;
       -*) ;;
-      *) echo "${COMP_WORDS[i]}" ;;
+      *)
+        command=${command:-$option}
+        echo "$option"
+        ;;
     esac
   done
 }
 
-# Completes a folder or a file with an extension, or any file if there is no such file; or another argument.
+# Completes a folder or a file with one of some extensions, or any file if there is no such file; or another argument.
 _sfbank_files() {
   local ending=$1 word=$2
   if [[ $ending == - ]]; then
@@ -71,8 +76,10 @@ _sfbank_files() {
   fi
   compopt -o filenames -o default 2> /dev/null
   mapfile -t COMPREPLY < <(
-    compgen -f -X "!*.$ending" -- "$word"
-    compgen -f -X "!*.${ending^^}" -- "$word"
+    for ending in $1; do
+      compgen -f -X "!*.$ending" -- "$word"
+      compgen -f -X "!*.${ending^^}" -- "$word"
+    done
     compgen -d -- "$word"
   )
 }
@@ -84,14 +91,16 @@ _sfbank() {
   COMPREPLY=()
   mapfile -t given < <(_sfbank_given)
   read -ra endings < <(_sfbank_endings "${given[0]}")
-  if [[ $before == --@(notes|script) || $before == = && ${COMP_WORDS[COMP_CWORD - 2]} == --@(notes|script) ]]; then
+  if [[ $before == --@(kit|notes|script) || $before == = && ${COMP_WORDS[COMP_CWORD - 2]} == --@(kit|notes|script) ]]; then
     _sfbank_files txt "${word#=}"
-  elif [[ $before == --@(as|channel|dither|key|minor|name|preset|shift) || $before == [:=] || $word == [:=] ]]; then
+  elif [[ $before == --@(as|channel|dither|instrument|key|minor|name|preset|shift) || $before == [:=] || $word == [:=] ]]; then
     return
   elif [[ $word == -* ]]; then
     mapfile -t COMPREPLY < <(compgen -W "$(_sfbank_options "${given[0]}")" -- "$word")
   elif [[ ${#given[@]} -eq 0 || ${given[0]} == help && ${#given[@]} -eq 1 ]]; then
     mapfile -t COMPREPLY < <(compgen -W "$commands" -- "$word")
+  elif [[ ${given[0]} == import && ${#given[@]} -gt 1 ]]; then
+    _sfbank_files "sf2 txt wav" "$word"
   elif [[ ${#given[@]} -le ${#endings[@]} ]]; then
     _sfbank_files "${endings[${#given[@]} - 1]}" "$word"
   fi

@@ -2,13 +2,17 @@
 
 # Prints the command and then the files before the cursor, without options and their values.
 function __sfbank_given
-    set -l is_value no
+    set -l values 0
+    set -l command
     for word in (commandline -opc)[2..]
-        if test $is_value = yes
-            set is_value no
-        else if contains -- "$word" --as --minor --name --notes --preset --script --shift
-            set is_value yes
+        if test $values -gt 0
+            set values (math $values - 1)
+        else if test "$command$word" = import--preset
+            set values 2
+        else if contains -- "$word" --as --channel --dither --instrument --key --kit --minor --name --notes --preset --script --shift
+            set values 1
         else if not string match -q -- '-*' $word
+            set -q command[1]; or set command $word
             echo $word
         end
     end
@@ -62,6 +66,12 @@ function __sfbank_files
             set endings sf2 - wav
     end
     set -l place (count $given)
+    if test "$given[1]" = import; and test $place -gt 1
+        for ending in sf2 txt wav
+            __fish_complete_suffix .$ending
+        end
+        return
+    end
     set -q endings[$place]; or return
     switch $endings[$place]
         case -
@@ -81,7 +91,7 @@ complete -c sfbank -n __sfbank_is_bare -a copy -d 'Copy a preset, an instrument 
 complete -c sfbank -n __sfbank_is_bare -a diff -d 'Write a script that turns bank A into bank B'
 complete -c sfbank -n __sfbank_is_bare -a explain -d 'Explain a fault or a refusal, or list the generators'
 complete -c sfbank -n __sfbank_is_bare -a help -d 'Print the help of the program or of a command'
-complete -c sfbank -n __sfbank_is_bare -a import -d 'Add a recording to a bank as its last sample, or as two'
+complete -c sfbank -n __sfbank_is_bare -a import -d 'Add recordings to a bank, and an instrument that plays them'
 complete -c sfbank -n __sfbank_is_bare -a keep -d 'Keep some presets of a bank, and remove what they do not need'
 complete -c sfbank -n __sfbank_is_bare -a live -d 'Edit and play a bank live, by the lines of the standard input'
 complete -c sfbank -n __sfbank_is_bare -a map -d 'Draw the ranges of a preset or an instrument as an SVG picture'
@@ -106,6 +116,9 @@ complete -c sfbank -n '__sfbank_is copy' -l force -d 'Write UNDO and FILE even i
 complete -c sfbank -n '__sfbank_is diff' -l force -d 'Write OUT even if a bank is there'
 complete -c sfbank -n '__sfbank_is import' -l force -d 'Write UNDO even if a bank is there'
 complete -c sfbank -n '__sfbank_is import' -l name -x -d 'Give the sample this name'
+complete -c sfbank -n '__sfbank_is import' -l kit -r -k -a '(__fish_complete_suffix .txt)' -d 'Add the kit of this table'
+complete -c sfbank -n '__sfbank_is import' -l instrument -x -d 'Add an instrument of this name'
+complete -c sfbank -n '__sfbank_is import' -l preset -x -d 'Add a preset with these numbers, BANK:NUMBER, and this name'
 complete -c sfbank -n '__sfbank_is import' -l channel -x -d 'Read this channel, counted from 1, as mono'
 complete -c sfbank -n '__sfbank_is import' -l key -x -d 'Set this root key'
 complete -c sfbank -n '__sfbank_is import' -l dither -x -d 'Dither, by random numbers from this seed'

@@ -48,9 +48,12 @@ my @shells = (
     ['"$0" apply empty /dev/zero out undo', 5, 'file fault /dev/zero'],
     ['"$0" apply --neutral empty /dev/zero out undo', 5, 'file fault /dev/zero'],
     ['"$0" play empty /dev/zero out', 5, 'file fault /dev/zero'],
+    ['"$0" import empty out undo --kit /dev/zero', 5, 'file fault /dev/zero'],
     # A fault of IN is reported before other inputs are read.
     ['"$0" apply none over out undo', 5, 'file fault none'],
     ['"$0" play none over out', 5, 'file fault none'],
+    ['"$0" import none out undo --kit over', 5, 'file fault none'],
+    ['"$0" import empty none over out undo', 5, 'file fault none'],
     # The longest file.
     ['"$0" canon longest back && cmp back empty', 0],
     # Too large for memory.
@@ -61,12 +64,17 @@ my @shells = (
     ['ulimit -v 200000; "$0" apply empty over out undo', 6, 'out of memory'],
     ['ulimit -v 200000; "$0" apply --neutral empty over out undo', 6, 'out of memory'],
     ['ulimit -v 200000; "$0" play empty /dev/zero out', 6, 'out of memory'],
+    ['ulimit -v 200000; "$0" import empty out undo --kit /dev/zero', 6, 'out of memory'],
+    ['echo /dev/zero 36 > kit; ulimit -v 200000; "$0" import empty out undo --kit kit', 6, 'out of memory'],
+    ['ulimit -v 200000; "$0" import empty saw /dev/zero out undo', 6, 'out of memory'],
     ['ulimit -v 100000; "$0" play voices note out', 6, 'out of memory'],
     ['ulimit -v 100000; "$0" play empty late out', 6, 'out of memory'],
     # Paths.
     ['"$0" show "$1"', 5, "file fault $long_path"],
     ['"$0" apply saw "$1" out undo', 5, "file fault $long_path"],
     ['"$0" play saw "$1" out', 5, "file fault $long_path"],
+    ['"$0" import saw saw "$1" out undo', 5, "file fault $long_path"],
+    ['printf \'#\n%s 36\n\' "$1" > kit; "$0" import saw out undo --kit kit', 5, "line 2: file fault $long_path"],
     ['"$0" canon saw "$1"', 5, "write fault $long_path after 0 bytes"],
     ['"$0" apply saw rename "$1" undo', 5, "write fault $long_path after 0 bytes"],
 );

@@ -36,47 +36,47 @@ written : (n k : ℕ) (xs ys zs : List ℤ) → n ≤ length xs → k < length y
 written n k xs ys zs h l = grind (arith, common_steps)
 
 -- a value written there is read there
-pub sides_written : (left : ℕ) (xs ys zs : List ℤ) (i : ℕ) → left ≤ 512 → length xs ≡ 1024 → i < length ys
-    → get_or (take (2 * (512 - left)) xs ++ (ys ++ zs)) (1024 - 2 * left + i) (pos 0) ≡ get_or ys i (pos 0)
+pub sides_written : (left : ℕ) (xs ys zs : List ℤ) (i : ℕ) → left ≤ 1024 → length xs ≡ 2048 → i < length ys
+    → get_or (take (2 * (1024 - left)) xs ++ (ys ++ zs)) (2048 - 2 * left + i) (pos 0) ≡ get_or ys i (pos 0)
 sides_written left xs ys zs i le size l =
-    let place : 1024 - 2 * left + i ≡ 2 * (512 - left) + i = omega (arith, le) in
-    ap (λ k. get_or (take (2 * (512 - left)) xs ++ (ys ++ zs)) k (pos 0)) place
-    ∙ written (2 * (512 - left)) i xs ys zs (omega (arith, le, size)) l
+    let place : 2048 - 2 * left + i ≡ 2 * (1024 - left) + i = omega (arith, le) in
+    ap (λ k. get_or (take (2 * (1024 - left)) xs ++ (ys ++ zs)) k (pos 0)) place
+    ∙ written (2 * (1024 - left)) i xs ys zs (omega (arith, le, size)) l
 
-pub middle_written : (left : ℕ) (xs ys zs : List ℤ) (k : ℕ) → left ≤ 512 → length xs ≡ 512 → k < length ys
-    → get_or (take (512 - left) xs ++ (ys ++ zs)) (512 - left + k) (pos 0) ≡ get_or ys k (pos 0)
-middle_written left xs ys zs k le size l = written (512 - left) k xs ys zs (omega (arith, le, size)) l
+pub middle_written : (left : ℕ) (xs ys zs : List ℤ) (k : ℕ) → left ≤ 1024 → length xs ≡ 1024 → k < length ys
+    → get_or (take (1024 - left) xs ++ (ys ++ zs)) (1024 - left + k) (pos 0) ≡ get_or ys k (pos 0)
+middle_written left xs ys zs k le size l = written (1024 - left) k xs ys zs (omega (arith, le, size)) l
 
 -- the lengths of the ends, as they are borrowed
-pub length-sides : (left : ℕ) (xs : List ℤ) → left ≤ 512 → length xs ≡ 1024
-    → length (take (1024 - 2 * (512 - left)) (drop (2 * (512 - left)) xs)) ≡ 2 * left
+pub length-sides : (left : ℕ) (xs : List ℤ) → left ≤ 1024 → length xs ≡ 2048
+    → length (take (2048 - 2 * (1024 - left)) (drop (2 * (1024 - left)) xs)) ≡ 2 * left
 length-sides left xs le size =
     omega (
       arith,
       le,
       size,
-      length-take (1024 - 2 * (512 - left)) (drop (2 * (512 - left)) xs),
-      length-drop (2 * (512 - left)) xs,
+      length-take (2048 - 2 * (1024 - left)) (drop (2 * (1024 - left)) xs),
+      length-drop (2 * (1024 - left)) xs,
     )
 
-pub length-middle : (left : ℕ) (xs : List ℤ) → left ≤ 512 → length xs ≡ 512
-    → length (take (512 - (512 - left)) (drop (512 - left) xs)) ≡ left
+pub length-middle : (left : ℕ) (xs : List ℤ) → left ≤ 1024 → length xs ≡ 1024
+    → length (take (1024 - (1024 - left)) (drop (1024 - left) xs)) ≡ left
 length-middle left xs le size =
-    omega (arith, le, size, length-take (512 - (512 - left)) (drop (512 - left) xs), length-drop (512 - left) xs)
+    omega (arith, le, size, length-take (1024 - (1024 - left)) (drop (1024 - left) xs), length-drop (1024 - left) xs)
 
 get_take_drop : (n m k : ℕ) (xs : List ℤ) → k < m → get_or (take m (drop n xs)) k (pos 0) ≡ get_or xs (n + k) (pos 0)
 get_take_drop n m k xs l = grind (arith, common_steps)
 
-pub sides_borrowed : (left : ℕ) (xs : List ℤ) (i : ℕ) → left ≤ 512 → i < 2 * left
-    → get_or (take (1024 - 2 * (512 - left)) (drop (2 * (512 - left)) xs)) i (pos 0)
-    ≡ get_or xs (1024 - 2 * left + i) (pos 0)
+pub sides_borrowed : (left : ℕ) (xs : List ℤ) (i : ℕ) → left ≤ 1024 → i < 2 * left
+    → get_or (take (2048 - 2 * (1024 - left)) (drop (2 * (1024 - left)) xs)) i (pos 0)
+    ≡ get_or xs (2048 - 2 * left + i) (pos 0)
 sides_borrowed left xs i le l =
-    get_take_drop (2 * (512 - left)) (1024 - 2 * (512 - left)) i xs (omega (arith, le, l))
+    get_take_drop (2 * (1024 - left)) (2048 - 2 * (1024 - left)) i xs (omega (arith, le, l))
     ∙ ap (λ k. get_or xs k (pos 0)) (omega (arith, le))
 
-pub middle_borrowed : (left : ℕ) (xs : List ℤ) (k : ℕ) → left ≤ 512 → k < left
-    → get_or (take (512 - (512 - left)) (drop (512 - left) xs)) k (pos 0) ≡ get_or xs (512 - left + k) (pos 0)
-middle_borrowed left xs k le l = get_take_drop (512 - left) (512 - (512 - left)) k xs (omega (arith, le, l))
+pub middle_borrowed : (left : ℕ) (xs : List ℤ) (k : ℕ) → left ≤ 1024 → k < left
+    → get_or (take (1024 - (1024 - left)) (drop (1024 - left) xs)) k (pos 0) ≡ get_or xs (1024 - left + k) (pos 0)
+middle_borrowed left xs k le l = get_take_drop (1024 - left) (1024 - (1024 - left)) k xs (omega (arith, le, l))
 
 -- ---- without remaining frames
 
@@ -93,7 +93,7 @@ none_within n a e =
 pub none_summed : (a : Ahead) (ps : List PlayingVoice) → a.left ≡ 0 → AreSums a ps
 none_summed a ps e = record { within = none_within (length ps) a e; sums = λ i h. absurd (omega (arith, e, h)) }
 
-pub none_ahead : (a : Ahead) (ps : List PlayingVoice) → a.left ≡ 0 → AllYounger (2 ^ 33 + 512) ps → IsAhead a ps
+pub none_ahead : (a : Ahead) (ps : List PlayingVoice) → a.left ≡ 0 → AllYounger (2 ^ 33 + 1024) ps → IsAhead a ps
 none_ahead a ps e young = record {
   sums = none_summed a (map (rewound a.left) ps) e;
   given = λ k d h. omega (arith, e);
@@ -161,10 +161,10 @@ given_later a b ps m sides middle left h =
     let most = h.within.most in
     let size = length-map ps (aged m) in
     let side : (i : ℕ) → side_remaining b i ≡ side_remaining a (2 * m + i) = λ i.
-    ap (λ (xs : List ℤ). get_or xs (1024 - 2 * b.left + i) (pos 0)) sides
+    ap (λ (xs : List ℤ). get_or xs (2048 - 2 * b.left + i) (pos 0)) sides
     ∙ ap (λ k. get_or a.sides k (pos 0)) (omega (arith, left, most)) in
     let both : (k : ℕ) → middle_remaining b k ≡ middle_remaining a (m + k) = λ k.
-    ap (λ (xs : List ℤ). get_or xs (512 - b.left + k) (pos 0)) middle
+    ap (λ (xs : List ℤ). get_or xs (1024 - b.left + k) (pos 0)) middle
     ∙ ap (λ j. get_or a.middle j (pos 0)) (omega (arith, left, most)) in
     record {
       within = record {
@@ -222,7 +222,7 @@ rewound_younger n m ps young =
 
 pub rewound_ahead : (a b : Ahead) (ps : List PlayingVoice) → b.left ≡ 0 → IsAhead a ps
     → IsAhead b (map (rewound a.left) ps)
-rewound_ahead a b ps e h = none_ahead b (map (rewound a.left) ps) e (rewound_younger a.left (2 ^ 33 + 512) ps h.young)
+rewound_ahead a b ps e h = none_ahead b (map (rewound a.left) ps) e (rewound_younger a.left (2 ^ 33 + 1024) ps h.young)
 
 pub rewound_playing : (a b : Ahead) (ps : List PlayingVoice) → b.left ≡ 0
     → playing_now b (map (rewound a.left) ps) ≡ playing_now a ps
@@ -237,7 +237,7 @@ silenced_ahead a ps new alone h = elim (cases_lt 0 a.left) [
   | inl some ↦ subst (IsAhead a) (sym (none_silenced new ps (alone some))) h
   | inr none ↦
       none_ahead a (unsilenced new ps) (omega (arith, none))
-      (All-filter (λ q. not (silences new q)) (λ (p : PlayingVoice). p.voice.age < 2 ^ 33 + 512) ps h.young)
+      (All-filter (λ q. not (silences new q)) (λ (p : PlayingVoice). p.voice.age < 2 ^ 33 + 1024) ps h.young)
 ]
 
 pub silenced_playing : (a : Ahead) (ps new : List PlayingVoice)
@@ -250,10 +250,10 @@ given_all : (n : ℕ) (ps : List PlayingVoice) → All (λ (p : PlayingVoice). n
 unfolding aged
 given_all n ps = All-map (λ (p : PlayingVoice). n ≤ p.voice.age) (aged n) ps (λ k d l. omega arith)
 
-young_ahead : (n m : ℕ) (ps : List PlayingVoice) → n ≤ 512 → AllYounger m ps → AllYounger (m + 512) (map (aged n) ps)
+young_ahead : (n m : ℕ) (ps : List PlayingVoice) → n ≤ 1024 → AllYounger m ps → AllYounger (m + 1024) (map (aged n) ps)
 unfolding aged
 young_ahead n m ps le young =
-    All-map (λ (p : PlayingVoice). p.voice.age < m + 512) (aged n) ps
+    All-map (λ (p : PlayingVoice). p.voice.age < m + 1024) (aged n) ps
     (λ k d l. let g : (get_or ps k d).voice.age < m = young k d l in omega (arith, g, le))
 
 both_lists : (n : ℕ) (ps new : List PlayingVoice) → map (rewound n) (ps ++ map (aged n) new) ≡ map (rewound n) ps ++ new
@@ -271,7 +271,7 @@ started_ahead a b ps new left h young few sums = record {
   given = subst (λ n. All (λ (p : PlayingVoice). n ≤ p.voice.age) (ps ++ map (aged a.left) new)) (sym left)
       (All-append (λ (p : PlayingVoice). a.left ≤ p.voice.age) ps (map (aged a.left) new) h.given (given_all a.left new));
   young =
-      All-append (λ (p : PlayingVoice). p.voice.age < 2 ^ 33 + 512) ps (map (aged a.left) new) h.young
+      All-append (λ (p : PlayingVoice). p.voice.age < 2 ^ 33 + 1024) ps (map (aged a.left) new) h.young
       (young_ahead a.left (2 ^ 33) new h.sums.within.most young);
   few = λ some. let f : length ps + length new ≤ 32767 = few (omega (arith, left, some)) in
       omega (arith, f, length-append ps (map (aged a.left) new), length-map new (aged a.left));

@@ -27,7 +27,7 @@ released_younger r n ps young =
     All-map (λ (p : PlayingVoice). p.voice.age < n) (released_by r) ps
     (λ k d l. subst (λ (a : ℕ). a < n) (sym (released_age r (get_or ps k d))) (young k d l))
 
-younger_than : (ps : List PlayingVoice) → AllYounger lifetime ps → AllYounger (2 ^ 33 + 512) ps
+younger_than : (ps : List PlayingVoice) → AllYounger lifetime ps → AllYounger (2 ^ 33 + 1024) ps
 younger_than ps young = λ k d l. let g : (get_or ps k d).voice.age < lifetime = young k d l in omega (arith, g)
 
 pub released_ahead : (a : Ahead) (r : Release) (ps : List PlayingVoice) → a.left ≡ 0 → AllYounger lifetime ps

@@ -19,7 +19,7 @@ use base_progress::Progress;
 use voices::Workspace;
 
 // The most frames that are mixed ahead.
-pub(crate) const MOST_AHEAD: usize = 512;
+pub(crate) const MOST_AHEAD: usize = 1024;
 
 // The most values that are mixed ahead, two for each frame.
 const SIDES: usize = 2 * MOST_AHEAD;

@@ -52,8 +52,8 @@ impl<'a> Model for Player<'a> {
 }
 
 impl<'a> Player<'a> {
-    /// Creates a player without voices. Its buffers, for the sums of 1,024 frames and of 512 mixed ahead, are part of
-    /// it: 25 kilobytes. It allocates nothing.
+    /// Creates a player without voices. Its buffers, for the sums of 1,024 frames and of 1,024 mixed ahead, are part of
+    /// it: 31 kilobytes. It allocates nothing.
     pub fn new(alloc: Global) -> Player<'a>
         ensures { result ≡ [] }
     {
@@ -173,8 +173,8 @@ impl<'a> Player<'a> {
     /// It allocates nothing. With an empty slice it does nothing.
     ///
     /// The work is that of the voices' frames, plus twelve bytes to clear for each frame. A long block is mixed in
-    /// parts of 1,024 frames; voices that are over are dropped after each part. For a block of fewer than 512 frames,
-    /// up to 512 frames are summed ahead, and the next blocks are filled from them; starting a voice with an exclusive
+    /// parts of 1,024 frames; voices that are over are dropped after each part. For a block of fewer than 1,024 frames,
+    /// up to 1,024 frames are summed ahead, and the next blocks are filled from them; starting a voice with an exclusive
     /// class discards them, and then fewer are summed ahead at first. With more than 32,767 voices, 32 kilobytes more
     /// are cleared for each part.
     pub fn block(&mut self, out: &mut [i16])

@@ -1,4 +1,5 @@
--- The bytes of the WAVE file of a left and a right sample: 16-bit stereo, with the loop, key and correction of the left.
+-- The bytes of the WAVE file of a left and a right sample: 16-bit stereo, with the loop, key and correction of the left
+-- one.
 use Rattle.std.specs.Prelude.{◌-◌, ◌*◌, ◌^◌, ℕ, min, List, [], ◌∷◌, ◌++◌}
 use Rattle.byteorder.specs.Endian.{little_bytes}
 use Rattle.riff_chunks.specs.Walk.{Chunk}

@@ -23,8 +23,8 @@ const FORMAT_SIZE: u32 = 16;
 /// Bytes per frame.
 const FRAME_SIZE: u32 = 4;
 
-/// A left and a right sample as a WAVE file: 16-bit stereo at the rate of the left one, and a `smpl` chunk with its key,
-/// its correction in cents and its loop.
+/// A left and a right sample as a WAVE file: 16-bit stereo at the rate of the left one, and a `smpl` chunk with its
+/// key, its correction in cents and its loop.
 ///
 /// Each frame has a point of the left sample, then the point of the right one at the same position. Of the right sample
 /// only the points are written.

@@ -7,10 +7,12 @@ use Rattle.clap.specs.declared.error.Error.{Error}
 use Rattle.clap.specs.declared.parser.matches.ArgMatches.{ArgMatches}
 use Rattle.program_commands.specs.declared.explain.Topic.{Topic}
 use Rattle.program_commands.specs.declared.words.Request.{Request}
-use Rattle.program_commands.specs.declared.words.Request.TheVariants.{Apply, ApplyOnly, Explain, Live}
+use Rattle.program_commands.specs.declared.words.Request.TheVariants.{Apply, ApplyOnly, Explain, Import, ImportKit}
+use Rattle.program_commands.specs.declared.words.Request.TheVariants.{Live}
 use Rattle.program_commands.specs.Commands.{IsSfbankApp, app_with, parsers_of, sfbank_app}
 use Rattle.program_commands.specs.Words.{AreGiven, AsksFor, AsksForNone, FailsByFault, FindsOne, IsParsedBy}
-use Rattle.program_commands.specs.Words.{command_of, operands_of, output_named, standard_word, topic_operands}
+use Rattle.program_commands.specs.Words.{command_of, kit_operands, operands_of, output_named, standard_word}
+use Rattle.program_commands.specs.Words.{topic_operands}
 use Rattle.program_commands.proofs.AppLaws.{fault_same, free_app, simple_app, subcommand_same}
 
 -- a request is asked for if its command was used and the words give its operands their values
@@ -29,6 +31,17 @@ explained rows {name} command request asked = go request (sym command) asked
         → (topic : Topic) × AreGiven rows (topic_operands topic)
     go (Explain topic) is asked = (topic, asked.1)
     go _ is asked = absurd (grind arith)
+
+-- if `import` was used, and neither one recording nor a kit is given, no request is asked for
+pub none_imported : (rows : List Row) → FindsOne None (λ paths. AreGiven rows (operands_of (Import paths)))
+    → FindsOne None (λ kit. AreGiven rows (kit_operands kit))
+    → FindsOne None (AsksFor (Some (codes "import", rows)))
+none_imported rows first second = (tt, go)
+  where
+    go : (r : Request) → AsksFor (Some (codes "import", rows)) r → false ≡ true
+    go (Import paths) asked = first.1 paths asked.1
+    go (ImportKit kit) asked = second.1 kit asked.1
+    go _ asked = let is = asked.0 in absurd (grind arith)
 
 -- if `apply` was used, with neither UNDO nor the flag in its place, no request is asked for
 pub apply_asks_none : (used : Option (Text × List Row)) → option_map (λ u. u.0) used ≡ Some (codes "apply")

@@ -1,5 +1,5 @@
 -- The commands of sfbank with their arguments, as clap reads them.
-use Rattle.std.specs.Prelude.{◌≡◌, ◌-◌, ◌^◌, ◌++◌, ℕ, true, pos, List, [], ◌∷◌, map, fold, Some, codes}
+use Rattle.std.specs.Prelude.{◌≡◌, ◌-◌, ◌^◌, ◌++◌, ℕ, true, pos, List, [], ◌∷◌, map, fold, Some, codes, length}
 use Rattle.std.specs.Borrow.{Bor}
 use Rattle.clap.specs.Words.{App, Rule, Shape, Text, new_app, new_rule, with_subcommand}
 use Rattle.clap.specs.declared.builder.ArgAction.TheVariants.{Append, Set, SetTrue}
@@ -10,12 +10,13 @@ use Rattle.program_commands.specs.declared.commands.WordParsers.{WordParsers}
 use Rattle.program_commands.specs.declared.commands.Operand as operand
 use Rattle.program_commands.specs.declared.commands.Operand.TheVariants as variant
 
--- an argument of a command with its name: any word, a path, a number of 32 bits, a level and the word for a member are
--- required; a path after these is optional; a flag, a number of 16 bits with its default, a word and words given one by
--- one are options
+-- an argument of a command with its name: any word, a path, paths, a number of 32 bits, a level and the word for a
+-- member are required; a path after these is optional; a flag, a number of 16 bits with its default, a word, words given
+-- one by one and this many words given together are options
 pub data Argument : Type 0 where
   Word : Text → Argument
   Path : Text → Argument
+  Paths : Text → Argument
   OptionalPath : Text → Argument
   Number : Text → Argument
   Level : Text → Argument
@@ -24,6 +25,7 @@ pub data Argument : Type 0 where
   Small : Text → Text → Argument
   Single : Text → Argument
   Repeated : Text → Argument
+  Together : Text → ℕ → Argument
 
 -- a reference to a list of words
 abbrev pub WordList : Type 0
@@ -96,11 +98,12 @@ copy_arguments =
 abbrev pub read_arguments : List Argument
 read_arguments = Single (codes "channel") ∷ Single (codes "key") ∷ Single (codes "dither") ∷ []
 
--- the arguments of `import`
+-- the arguments of `import`: its paths end with those of OUT and UNDO
 abbrev pub import_arguments : List Argument
 import_arguments =
-    Single (codes "name") ∷ read_arguments
-    ++ force_flag ∷ input_path ∷ Path (codes "WAVE") ∷ output_path ∷ undo_path ∷ []
+    Single (codes "name") ∷ Single (codes "kit") ∷ Single (codes "instrument") ∷ Together (codes "preset") 2
+    ∷ read_arguments
+    ++ force_flag ∷ input_path ∷ Paths (codes "WAVE") ∷ []
 
 -- the arguments of `replace`
 abbrev pub replace_arguments : List Argument
@@ -160,6 +163,7 @@ rule_for_option name = record (new_rule name) { long = Some name }
 abbrev pub rule_for : WordParsers → Argument → Rule
 rule_for parsers (Word name) = rule_for_required name
 rule_for parsers (Path name) = rule_for_required name
+rule_for parsers (Paths name) = record (rule_for_required name) { action = Some Append }
 rule_for parsers (OptionalPath name) = rule_for_positional name
 rule_for parsers (Number name) =
     record (rule_for_required name) { parser = Some (number_parser 32) }
@@ -174,6 +178,7 @@ rule_for parsers (Small name default) = record (rule_for_option name) {
 }
 rule_for parsers (Single name) = record (rule_for_option name) { action = Some Set; value_names = 1 }
 rule_for parsers (Repeated name) = record (rule_for_option name) { action = Some Append; value_names = 1 }
+rule_for parsers (Together name n) = record (rule_for_option name) { action = Some Set; value_names = n }
 
 -- what clap reads of a command: its arguments and the flag of every command
 abbrev pub shape_for : WordParsers → Text × List Argument → Shape
@@ -220,6 +225,7 @@ IsSfbankApp app =
 abbrev pub argument_of : operand.Operand → Argument
 argument_of (variant.Word name help) = Word name.now
 argument_of (variant.Path name help) = Path name.now
+argument_of (variant.Paths name help) = Paths name.now
 argument_of (variant.OptionalPath name help) = OptionalPath name.now
 argument_of (variant.Number name help) = Number name.now
 argument_of (variant.Level name help) = Level name.now
@@ -228,6 +234,7 @@ argument_of (variant.Flag name help) = Flag name.now
 argument_of (variant.Small name value default help) = Small name.now default.now
 argument_of (variant.Single name value help) = Single name.now
 argument_of (variant.Repeated name value help) = Repeated name.now
+argument_of (variant.Together name values help) = Together name.now (length values.now)
 
 -- a command of the code with its arguments
 abbrev pub command_in : Entry → Text × List Argument

@@ -1,6 +1,6 @@
 -- The operands of each request, and when the words of a command ask for it.
 use Rattle.std.specs.Prelude.{◌≡◌, ◌≢◌, ◌<◌, ◌^◌, ℕ, suc, Bool, true, false, not, List, [], ◌∷◌, ◌++◌, codes, length}
-use Rattle.std.specs.Prelude.{◌||◌, if◌then◌else◌, option_map, take_while}
+use Rattle.std.specs.Prelude.{◌||◌, if◌then◌else◌, is_some, map, nat_le, option_map, take_while}
 use Rattle.std.specs.Prelude.{◌⊎◌, MatchResult, Option, Result, Some, None, IfSome, IsSome}
 use Rattle.std.specs.Borrow.{Bor}
 use Rattle.std.specs.List.{AllZip, list_any}
@@ -20,6 +20,11 @@ use Rattle.plan_presets.specs.declared.numbers.TakenPreset.{TakenPreset}
 use Rattle.wave_file.specs.declared.options.ReadOptions.{ReadOptions}
 use Rattle.program_commands.specs.declared.explain.Topic.{Topic}
 use Rattle.program_commands.specs.declared.explain.Topic.TheVariants as subject
+use Rattle.program_commands.specs.declared.kits.KitPaths.{KitPaths}
+use Rattle.program_commands.specs.declared.kits.KitSource.{KitSource}
+use Rattle.program_commands.specs.declared.kits.KitSource.TheVariants as source
+use Rattle.program_commands.specs.declared.kits.NewPreset.{NewPreset}
+use Rattle.program_commands.specs.declared.paths.LastPaths.{LastPaths}
 use Rattle.program_commands.specs.declared.plans.CopyPaths.{CopyPaths}
 use Rattle.program_commands.specs.declared.plans.KeepPaths.{KeepPaths}
 use Rattle.program_commands.specs.declared.plans.Kept.{Kept}
@@ -34,15 +39,17 @@ use Rattle.program_commands.specs.declared.recordings.ImportPaths.{ImportPaths}
 use Rattle.program_commands.specs.declared.recordings.ReplacePaths.{ReplacePaths}
 use Rattle.program_commands.specs.declared.words.Request.{Request}
 use Rattle.program_commands.specs.declared.words.Request.TheVariants.{Apply, ApplyOnly, Canon, Copy, Diff}
-use Rattle.program_commands.specs.declared.words.Request.TheVariants.{Explain, Import, Keep, Live, Map, Merge, New}
-use Rattle.program_commands.specs.declared.words.Request.TheVariants.{Play, Replace, Script, Show, Take, Tidy, Wave}
+use Rattle.program_commands.specs.declared.words.Request.TheVariants.{Explain, Import, ImportKit, Keep, Live, Map}
+use Rattle.program_commands.specs.declared.words.Request.TheVariants.{Merge, New, Play, Replace, Script, Show, Take}
+use Rattle.program_commands.specs.declared.words.Request.TheVariants.{Tidy, Wave}
 use Rattle.program_commands.specs.declared.words.Forms.{Forms}
 use Rattle.program_commands.specs.declared.words.Forms.TheVariants.{Every, Neutral}
 
 -- an operand of a request with its name and its value: a word, the path of an input, that of an output, a path that is
--- not `-`, a name of a member, a number with its width in bits, the same as the value of an option, a flag, a flag that is given, a flag that is not given,
--- an option or operand that is not used, an option and a flag of which at most one is given, the numbers of a preset,
--- presets, presets to copy, or a topic of `explain`
+-- not `-`, a name of a member, a number with its width in bits, the same as the value of an option, a flag, a flag that
+-- is given, a flag that is not given, an option or operand that is not used, an option and a flag of which at most one
+-- is given, the numbers of a preset, these with its name, presets, presets to copy, recordings before the paths of two
+-- outputs, a topic of `explain`, or a condition on the request
 pub data Operand : Type 0 where
   Word : Text → Text → Operand
   Input : Text → Text → Operand
@@ -57,9 +64,12 @@ pub data Operand : Type 0 where
   Absent : Text → Operand
   NotBoth : Text → Text → Operand
   Numbers : Text → PresetNumbers → Operand
+  Named : Text → NewPreset → Operand
   Presets : Text → List PresetNumbers → Operand
   Taken : Text → List TakenPreset → Operand
+  Recordings : Text → List Text → Text → Text → Operand
   About : Text → Topic → Operand
+  Condition : Bool → Operand
 
 -- whether only neutral forms are accepted
 abbrev pub is_neutral : Forms → Bool
@@ -185,16 +195,52 @@ abbrev pub option_operands : ReadOptions → List Operand
 option_operands options =
     optional_channel options.channel ∷ optional_key options.key ∷ optional_seed options.dither ∷ []
 
--- the operands of `import`
+-- the options that make a kit are not used
+abbrev pub no_kit_operands : List Operand
+no_kit_operands = Absent (codes "kit") ∷ Absent (codes "instrument") ∷ Absent (codes "preset") ∷ []
+
+-- the operands of `import` of one recording
 abbrev pub import_operands : ImportPaths → List Operand
 import_operands paths =
     Input (codes "IN") paths.input.now
-    ∷ Input (codes "WAVE") paths.wave.now
-    ∷ Output (codes "OUT") paths.out.now
-    ∷ Output (codes "UNDO") paths.undo.now
+    ∷ Recordings (codes "WAVE") (paths.wave.now ∷ []) paths.out.now paths.undo.now
     ∷ optional_name (codes "name") paths.name
     ∷ Flag (codes "force") paths.force
-    ∷ option_operands paths.options
+    ∷ no_kit_operands
+    ++ option_operands paths.options
+
+-- the recordings that the words of a kit name: none where a table names them
+abbrev pub source_files : KitSource → List Text
+source_files (source.Files files) = map (λ file. file.now) files.items
+source_files (source.Table path) = []
+
+-- the table of a kit, if it has one
+abbrev pub table_operand : KitSource → Operand
+table_operand (source.Files files) = Absent (codes "kit")
+table_operand (source.Table path) = Input (codes "kit") path.now
+
+-- whether there are enough recordings for a kit: one, if an instrument or a preset is named, and two otherwise
+abbrev pub is_kit : Bool → KitSource → Bool
+is_kit is_named (source.Files files) = nat_le (if is_named then 1 else 2) (length files.items)
+is_kit is_named (source.Table path) = true
+
+-- an option with the numbers and the name of a preset, if it is used
+abbrev pub optional_named : Text → Option NewPreset → Operand
+optional_named option (Some preset) = Named option preset
+optional_named option None = Absent option
+
+-- the operands of `import` of a kit
+abbrev pub kit_operands : KitPaths → List Operand
+kit_operands kit =
+    Input (codes "IN") kit.input.now
+    ∷ Recordings (codes "WAVE") (source_files kit.source) kit.out.now kit.undo.now
+    ∷ table_operand kit.source
+    ∷ Condition (is_kit (is_some kit.instrument || is_some kit.preset) kit.source)
+    ∷ optional_name (codes "instrument") kit.instrument
+    ∷ optional_named (codes "preset") kit.preset
+    ∷ Absent (codes "name")
+    ∷ Flag (codes "force") kit.force
+    ∷ option_operands kit.options
 
 -- the operands of `replace`
 abbrev pub replace_operands : ReplacePaths → List Operand
@@ -241,6 +287,7 @@ operands_of (Diff paths) =
     ∷ []
 operands_of (Explain topic) = topic_operands topic
 operands_of (Import paths) = import_operands paths
+operands_of (ImportKit kit) = kit_operands kit
 operands_of (Keep keep) = keep_operands keep
 operands_of (Live paths) =
     Input (codes "IN") paths.input.now ∷ Path (codes "PCM") paths.pcm.now ∷ Flag (codes "force") paths.force ∷ []
@@ -288,6 +335,7 @@ command_of (Copy copy) = codes "copy"
 command_of (Diff paths) = codes "diff"
 command_of (Explain topic) = codes "explain"
 command_of (Import paths) = codes "import"
+command_of (ImportKit kit) = codes "import"
 command_of (Keep keep) = codes "keep"
 command_of (Live paths) = codes "live"
 command_of (Map paths) = codes "map"
@@ -371,6 +419,21 @@ abbrev pub AreValues : {A : Type 0} → (Text → A → Type 0) → List Row →
 AreValues IsNamed rows name values =
     (texts : List Text) × (all_of name rows ≡ Some texts) × (0 < length texts) × AllZip IsNamed texts values
 
+-- the words are those of recordings, then that of the bank that is written, and then that of the undo script
+abbrev pub ArePaths : List Text → List Text → Text → Text → Type 0
+ArePaths words recordings out undo =
+    (waves : List Text)
+    × (bank : Text)
+    × (script : Text)
+    × (words ≡ waves ++ bank ∷ script ∷ [])
+    × (map input_named waves ≡ recordings)
+    × (output_named bank ≡ out)
+    × (output_named script ≡ undo)
+
+-- the recordings and the two outputs of words
+abbrev pub paths_in : LastPaths → List Text × Text × Text
+paths_in paths = (map (λ word. input_named word.now) paths.recordings.now, paths.out.now, paths.undo.now)
+
 -- the words give the operand its value: a flag that is not given is false
 abbrev pub IsGiven : List Row → Operand → Type 0
 IsGiven rows (Word name text) = first_of name rows ≡ Some text
@@ -389,9 +452,17 @@ IsGiven rows (Unset name) = first_of name rows ≢ Some (codes "true")
 IsGiven rows (Absent name) = first_of name rows ≡ None
 IsGiven rows (NotBoth option flag) = (first_of option rows ≡ None) ⊎ (first_of flag rows ≢ Some (codes "true"))
 IsGiven rows (Numbers name numbers) = (text : Text) × (first_of name rows ≡ Some text) × IsPreset text numbers
+IsGiven rows (Named option preset) =
+    (text : Text)
+    × (all_of option rows ≡ Some (text ∷ preset.name ∷ []))
+    × IsPreset text preset.numbers
+    × IsName preset.name
 IsGiven rows (Presets name presets) = AreValues IsPreset rows name presets
 IsGiven rows (Taken name presets) = AreValues IsTakenPreset rows name presets
+IsGiven rows (Recordings name recordings out undo) =
+    (words : List Text) × (all_of name rows ≡ Some words) × ArePaths words recordings out undo
 IsGiven rows (About name topic) = (text : Text) × (first_of name rows ≡ Some text) × IsTopic text topic
+IsGiven rows (Condition holds) = holds ≡ true
 
 -- the words give each operand its value
 abbrev pub AreGiven : List Row → List Operand → Type 0

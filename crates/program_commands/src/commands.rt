@@ -1,6 +1,6 @@
 //! The program's commands, described for clap.
 ghost use Rattle.std.specs.Prelude.{◌≡◌, IfOk, false, fold, map};
-ghost use Rattle.clap.specs.Words.{app_of, rule_of, shape_of, with_subcommand};
+ghost use Rattle.clap.specs.Words.{app_of, new_app, rule_of, shape_of, with_subcommand};
 ghost use Rattle.program_commands.specs.Commands.{argument_of, command_in, commands_from_map, commands_to_live};
 ghost use Rattle.program_commands.specs.Commands.{program_app, rule_for, rule_for_option};
 ghost use Rattle.program_commands.specs.Commands.{rule_for_positional, rule_for_required, shape_for, IsSfbankApp};
@@ -22,6 +22,10 @@ const DEFAULT_MINOR: &str = "4";
 /// By how much `merge` shifts the bank numbers of presets by default.
 const DEFAULT_SHIFT: &str = "0";
 
+/// The usage of `import`, whose last two paths are outputs.
+const IMPORT_USAGE: &str = "sfbank import [OPTIONS] <IN> <WAVE>... <OUT> <UNDO>
+       sfbank import [OPTIONS] --kit <TABLE> <IN> <OUT> <UNDO>";
+
 /// The names of the two levels.
 static LEVELS: [&str; 2] = ["preset", "inst"];
 
@@ -39,6 +43,8 @@ struct WordParsers<'a> {
 struct Entry {
     name: &'static str,
     about: &'static str,
+    /// The usage in help and in errors, if it isn't that of the operands.
+    usage: Option<&'static str>,
     operands: &'static [Operand],
     example: &'static str,
 }
@@ -50,6 +56,8 @@ enum Operand {
     Word(&'static str, &'static str),
     /// A path, required.
     Path(&'static str, &'static str),
+    /// Paths after all others, at least one.
+    Paths(&'static str, &'static str),
     /// A path, optional, after the required ones.
     OptionalPath(&'static str, &'static str),
     /// A 32-bit number, required.
@@ -66,6 +74,8 @@ enum Operand {
     Single(&'static str, &'static str, &'static str),
     /// `--NAME VALUE`, any number of times, with the name of its value and its help text.
     Repeated(&'static str, &'static str, &'static str),
+    /// `--NAME VALUE ..`, optional, with the names of its values, two or more, and its help text.
+    Together(&'static str, &'static [&'static str], &'static str),
 }
 
 /// The flag that lets OUT replace a bank.
@@ -125,6 +135,7 @@ static COMMANDS_TO_LIVE: [Entry; 8] = [
     Entry {
         name: "apply",
         about: "Runs a script of edits on a bank, and writes its undo script",
+        usage: None,
         operands: &[
             UNDO_FORCE,
             Operand::Flag(
@@ -142,6 +153,7 @@ static COMMANDS_TO_LIVE: [Entry; 8] = [
     Entry {
         name: "canon",
         about: "Writes a bank in its canonical form",
+        usage: None,
         operands: &[
             Operand::Path("IN", "The bank to read"),
             Operand::Path("OUT", "Where its canonical file is written; may be IN"),
@@ -151,6 +163,7 @@ static COMMANDS_TO_LIVE: [Entry; 8] = [
     Entry {
         name: "copy",
         about: "Copies a preset, an instrument or a sample to the end of its list",
+        usage: None,
         operands: &[
             Operand::Single("name", "NAME", "Gives the copy this name"),
             Operand::Single(
@@ -172,6 +185,7 @@ static COMMANDS_TO_LIVE: [Entry; 8] = [
     Entry {
         name: "diff",
         about: "Writes a script that turns bank A into bank B",
+        usage: None,
         operands: &[
             FORCE,
             Operand::Path("A", "The first bank"),
@@ -183,6 +197,7 @@ static COMMANDS_TO_LIVE: [Entry; 8] = [
     Entry {
         name: "explain",
         about: "Explains a fault or a refusal and what to do about it, or lists the generators",
+        usage: None,
         operands: &[Operand::Word(
             "TOPIC",
             "The number or the name in the line of a fault, or: generators",
@@ -191,26 +206,38 @@ static COMMANDS_TO_LIVE: [Entry; 8] = [
     },
     Entry {
         name: "import",
-        about: "Adds a recording to a bank as its last sample, or as two for left and right",
+        about: "Adds recordings to a bank as its last samples, and an instrument that plays them",
+        usage: Some(IMPORT_USAGE),
         operands: &[
             Operand::Single(
                 "name",
                 "NAME",
                 "Gives the sample this name; for stereo its first 18 bytes",
             ),
+            Operand::Single(
+                "kit",
+                "TABLE",
+                "Adds the kit of this table; a line is FILE KEY[..KEY] [LOW..HIGH] [root KEY] [pan P] [class N]",
+            ),
+            Operand::Single(
+                "instrument",
+                "NAME",
+                "Adds an instrument of this name, with a zone for each recording or line",
+            ),
+            Operand::Together(
+                "preset",
+                &["BANK:NUMBER", "NAME"],
+                "Adds a preset with these numbers and this name, which plays the instrument",
+            ),
             CHANNEL,
             KEY,
             DITHER,
             UNDO_FORCE,
             Operand::Path("IN", "The bank to add to"),
-            Operand::Path(
+            Operand::Paths(
                 "WAVE",
-                "The recording, a WAVE file; its name is the sample's",
-            ),
-            Operand::Path("OUT", "Where the larger bank is written; may be IN"),
-            Operand::Path(
-                "UNDO",
-                "Where the script that removes the samples is written",
+                "The recordings, WAVE files, unless there is a TABLE; the last two paths are always OUT, where the \
+                 larger bank is written (it may be IN), and UNDO, where the undo script is written",
             ),
         ],
         example: "Example: sfbank import organ.sf2 flute.wav larger.sf2 undo.txt",
@@ -218,6 +245,7 @@ static COMMANDS_TO_LIVE: [Entry; 8] = [
     Entry {
         name: "keep",
         about: "Keeps some presets of a bank, and removes what they don't need",
+        usage: None,
         operands: &[
             Operand::Single(
                 "notes",
@@ -245,6 +273,7 @@ static COMMANDS_TO_LIVE: [Entry; 8] = [
     Entry {
         name: "live",
         about: "Edits and plays a bank live, by the lines of the standard input",
+        usage: None,
         operands: &[
             LIVE_FORCE,
             REPORT,
@@ -263,6 +292,7 @@ static COMMANDS_FROM_MAP: [Entry; 10] = [
     Entry {
         name: "map",
         about: "Draws the key and velocity ranges of a preset or an instrument as an SVG picture",
+        usage: None,
         operands: &[
             FORCE,
             Operand::Path("IN", "The bank to look at"),
@@ -275,6 +305,7 @@ static COMMANDS_FROM_MAP: [Entry; 10] = [
     Entry {
         name: "merge",
         about: "Adds all that another bank has after what a bank has",
+        usage: None,
         operands: &[
             Operand::Small(
                 "shift",
@@ -295,6 +326,7 @@ static COMMANDS_FROM_MAP: [Entry; 10] = [
     Entry {
         name: "new",
         about: "Writes an empty bank",
+        usage: None,
         operands: &[
             FORCE,
             Operand::Small(
@@ -310,6 +342,7 @@ static COMMANDS_FROM_MAP: [Entry; 10] = [
     Entry {
         name: "play",
         about: "Plays notes on a bank into a WAVE file",
+        usage: None,
         operands: &[
             FORCE,
             REPORT,
@@ -322,6 +355,7 @@ static COMMANDS_FROM_MAP: [Entry; 10] = [
     Entry {
         name: "replace",
         about: "Puts a recording in the place of a sample, or of both samples of a pair",
+        usage: None,
         operands: &[
             CHANNEL,
             KEY,
@@ -338,6 +372,7 @@ static COMMANDS_FROM_MAP: [Entry; 10] = [
     Entry {
         name: "script",
         about: "Writes a script that makes the bank from the empty bank of its minor version",
+        usage: None,
         operands: &[
             FORCE,
             Operand::Flag(
@@ -352,6 +387,7 @@ static COMMANDS_FROM_MAP: [Entry; 10] = [
     Entry {
         name: "show",
         about: "Lists what a bank has, and what was dropped or repaired in reading it",
+        usage: None,
         operands: &[
             Operand::Flag("zones", "Lists the zones of each preset and instrument too"),
             Operand::Flag(
@@ -365,6 +401,7 @@ static COMMANDS_FROM_MAP: [Entry; 10] = [
     Entry {
         name: "take",
         about: "Copies presets of another bank into a bank, with what they need",
+        usage: None,
         operands: &[
             Operand::Repeated(
                 "preset",
@@ -384,6 +421,7 @@ static COMMANDS_FROM_MAP: [Entry; 10] = [
     Entry {
         name: "tidy",
         about: "Removes what a bank doesn't use, and changes no sound",
+        usage: None,
         operands: &[
             Operand::Flag("merge", "Joins equal samples and equal instruments too"),
             DRY_RUN,
@@ -398,6 +436,7 @@ static COMMANDS_FROM_MAP: [Entry; 10] = [
     Entry {
         name: "wave",
         about: "Writes a sample of a bank as a WAVE file",
+        usage: None,
         operands: &[
             Operand::Flag(
                 "pair",
@@ -477,13 +516,24 @@ fn command_of<'a>(
 ) -> Result<Command<'a>, AllocError>
     ensures { IfOk result (λ command. shape_of command ≡ shape_for parsers.entry (command_in entry.now)) }
 {
-    let mut command = Command::new(alloc, entry.name)
-        .about(entry.about)
-        .after_help(entry.example);
+    let mut command = bare_command(alloc, entry);
     for operand in entry.operands {
         command = command.arg(arg_of(alloc, *operand, parsers))?;
     }
     command.arg(arg_of(alloc, EXPLAIN, parsers))
+}
+
+/// Describes a command before its arguments.
+fn bare_command<'a>(alloc: Global, entry: &Entry) -> Command<'a>
+    ensures { app_of result ≡ new_app entry.now.name.now }
+{
+    let command = Command::new(alloc, entry.name)
+        .about(entry.about)
+        .after_help(entry.example);
+    match entry.usage {
+        Some(usage) => command.override_usage(usage),
+        None => command,
+    }
 }
 
 fn arg_of<'a>(alloc: Global, operand: Operand, parsers: WordParsers<'a>) -> Arg<'a>
@@ -493,6 +543,7 @@ fn arg_of<'a>(alloc: Global, operand: Operand, parsers: WordParsers<'a>) -> Arg<
     match operand {
         Operand::Word(name, help) => required(alloc, name, help),
         Operand::Path(name, help) => required(alloc, name, help),
+        Operand::Paths(name, help) => required(alloc, name, help).action(ArgAction::Append),
         Operand::OptionalPath(name, help) => positional(alloc, name, help),
         Operand::Number(name, help) => required(alloc, name, help).value_parser(value_parser!(u32)),
         Operand::Level(name, help) => required(alloc, name, help).value_parser(parsers.levels),
@@ -509,6 +560,9 @@ fn arg_of<'a>(alloc: Global, operand: Operand, parsers: WordParsers<'a>) -> Arg<
         Operand::Repeated(name, value, help) => option(alloc, name, help)
             .value_name(value)
             .action(ArgAction::Append),
+        Operand::Together(name, values, help) => option(alloc, name, help)
+            .value_names(values)
+            .action(ArgAction::Set),
     }
 }
 

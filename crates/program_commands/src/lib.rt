@@ -3,6 +3,7 @@
 
 mod commands;
 mod explain;
+mod kits;
 mod names;
 mod paths;
 mod plans;
@@ -11,6 +12,7 @@ mod recordings;
 mod words;
 
 pub use explain::{Topic, asks_for_explanations};
+pub use kits::{KitPaths, KitSource, NewPreset};
 pub use names::recording_name;
 pub use plans::{CopyPaths, KeepPaths, Kept, MergePaths, PlanPaths, TakePaths, TidyPaths, Zones};
 pub use recordings::{ImportPaths, ReplacePaths, WavePaths};

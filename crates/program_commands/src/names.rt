@@ -31,8 +31,8 @@ pub(crate) fn read_optional_name(matches: &ArgMatches<'_>, option: &str) -> Opti
     }
 }
 
-// Returns the name with these bytes.
-fn parse_name(text: &str) -> Option<Name20>
+/// Returns the name with these bytes.
+pub(crate) fn parse_name(text: &str) -> Option<Name20>
     ensures { FindsOne result (λ name. (name ≡ text.now) × IsName name) }
 {
     Name20::from_bytes(text.as_bytes()).ok()

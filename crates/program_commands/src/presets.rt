@@ -103,8 +103,8 @@ fn parse_taken(text: &str) -> Option<TakenPreset>
     }
 }
 
-// Returns the preset of BANK:NUMBER.
-fn parse_preset(text: &str) -> Option<PresetNumbers>
+/// Returns the preset of BANK:NUMBER.
+pub(crate) fn parse_preset(text: &str) -> Option<PresetNumbers>
     ensures { FindsOne result (IsPreset text.now) }
 {
     let (bank, number) = text.split_once(':')?;

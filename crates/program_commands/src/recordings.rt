@@ -1,17 +1,18 @@
 //! The operands of the commands that read or write recordings.
-ghost use Rattle.std.specs.Prelude.{codes, suc};
+ghost use Rattle.std.specs.Prelude.{◌≡◌, codes, false, suc, true};
 ghost use Rattle.program_commands.specs.declared.words.Request.TheVariants as Request;
-ghost use Rattle.program_commands.specs.Words.{operands_of, optional_channel, optional_key, optional_seed};
-ghost use Rattle.program_commands.specs.Words.{option_operands, rows_in, AreGiven, FindsOne, IsDecimal, IsGiven};
+ghost use Rattle.program_commands.specs.Words.{no_kit_operands, operands_of, optional_channel, optional_key};
+ghost use Rattle.program_commands.specs.Words.{optional_seed, option_operands, rows_in, AreGiven, FindsOne};
+ghost use Rattle.program_commands.specs.Words.{IsDecimal, IsGiven};
 
 use crate::names::read_optional_name;
-use crate::paths::{read_input, read_output};
+use crate::paths::{input_named, read_input, read_last_paths, read_output};
 use crate::words::{read_flag, read_number, read_word};
 use clap::ArgMatches;
 use sf_base::Name20;
 use wave_file::ReadOptions;
 
-/// The operands of `import`.
+/// The operands of `import` of one recording.
 #[derive(Clone, Copy)]
 pub struct ImportPaths<'a> {
     pub input: &'a str,
@@ -52,19 +53,36 @@ pub struct WavePaths<'a> {
     pub force: bool,
 }
 
-/// Returns the operands of `import`, if the words give them.
+/// Returns the operands of `import` of one recording, if the words give them.
 pub(crate) fn read_import<'a>(matches: &ArgMatches<'a>) -> Option<ImportPaths<'a>>
     ensures { FindsOne result (λ paths. AreGiven (rows_in matches.now) (operands_of (Request.Import paths))) }
 {
+    if asks_for_kit(matches) {
+        return None;
+    }
+    let paths = read_last_paths(matches, "WAVE")?;
+    if paths.recordings.len() != 1 {
+        return None;
+    }
     Some(ImportPaths {
         input: read_input(matches, "IN")?,
-        wave: read_input(matches, "WAVE")?,
-        out: read_output(matches, "OUT")?,
-        undo: read_output(matches, "UNDO")?,
+        wave: input_named(paths.recordings[0]),
+        out: paths.out,
+        undo: paths.undo,
         options: read_options(matches)?,
         name: read_optional_name(matches, "name")?,
         force: read_flag(matches, "force"),
     })
+}
+
+/// Whether an option is used that makes a kit.
+pub(crate) fn asks_for_kit(matches: &ArgMatches<'_>) -> bool
+    ensures kit { result ≡ true → AreGiven (rows_in matches.now) no_kit_operands → ⊥ }
+    ensures alone { result ≡ false → AreGiven (rows_in matches.now) no_kit_operands }
+{
+    read_word(matches, "kit").is_some()
+        || read_word(matches, "instrument").is_some()
+        || read_word(matches, "preset").is_some()
 }
 
 /// Returns the operands of `replace`, if the words give them.
@@ -95,8 +113,8 @@ pub(crate) fn read_wave<'a>(matches: &ArgMatches<'a>) -> Option<WavePaths<'a>>
     })
 }
 
-// Returns how a recording is read.
-fn read_options(matches: &ArgMatches<'_>) -> Option<ReadOptions>
+/// Returns how a recording is read.
+pub(crate) fn read_options(matches: &ArgMatches<'_>) -> Option<ReadOptions>
     ensures { FindsOne result (λ options. AreGiven (rows_in matches.now) (option_operands options)) }
 {
     Some(ReadOptions {

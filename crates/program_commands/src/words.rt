@@ -8,13 +8,14 @@ ghost use Rattle.program_commands.specs.Words.{IsParsedBy};
 
 use crate::commands::sfbank_command;
 use crate::explain::{Topic, read_topic};
+use crate::kits::{KitPaths, read_kit};
 use crate::paths::{read_input, read_output, read_path};
 use crate::plans::{
     CopyPaths, KeepPaths, MergePaths, TakePaths, TidyPaths, read_copy, read_keep, read_merge,
     read_take, read_tidy, saves_in_dry_run,
 };
 use crate::recordings::{
-    ImportPaths, ReplacePaths, WavePaths, read_import, read_replace, read_wave,
+    ImportPaths, ReplacePaths, WavePaths, asks_for_kit, read_import, read_replace, read_wave,
 };
 use bank_changes::Owner;
 use clap::error::ErrorKind;
@@ -39,6 +40,8 @@ pub enum Request<'a> {
     Explain(Topic<'a>),
     /// Add a recording to a bank.
     Import(ImportPaths<'a>),
+    /// Add the recordings of a kit to a bank.
+    ImportKit(KitPaths<'a>),
     /// Remove all that some presets don't need.
     Keep(KeepPaths<'a>),
     /// Edit and play a bank live.
@@ -209,9 +212,7 @@ fn no_request(matches: &ArgMatches<'_>) -> &'static str {
         Some(("copy", _)) => {
             "copy takes --name NAME of at most 20 bytes, and --as BANK:NUMBER for a preset only, such as --as 8:24"
         }
-        Some(("import", _)) => {
-            "import takes --channel from 1 on, --key from 0 to 127, --dither SEED, and --name NAME of at most 20 bytes"
-        }
+        Some(("import", words)) => no_import(words),
         Some(("keep", _)) => {
             "keep needs either --notes NOTES, which --zones can follow, or --preset BANK:NUMBER, such as --preset 0:24"
         }
@@ -228,6 +229,18 @@ fn no_request(matches: &ArgMatches<'_>) -> &'static str {
     }
 }
 
+/// Returns the message for words of `import` which make no request.
+fn no_import(words: &ArgMatches<'_>) -> &'static str {
+    if asks_for_kit(words) {
+        "import of a kit needs WAVE files or --kit TABLE, then OUT and UNDO, and no --name; --instrument NAME and \
+         --preset BANK:NUMBER NAME, such as --preset 128:0 Drums, take names of at most 20 bytes; it takes --channel \
+         from 1 on, --key from 0 to 127, and --dither SEED"
+    } else {
+        "import needs WAVE, OUT and UNDO; it takes --channel from 1 on, --key from 0 to 127, --dither SEED, and \
+         --name NAME of at most 20 bytes for one WAVE"
+    }
+}
+
 fn request_in<'a>(
     alloc: Global,
     matches: &ArgMatches<'a>,
@@ -239,10 +252,29 @@ fn request_in<'a>(
     };
     if name == "keep" {
         request_to_keep(alloc, words)
+    } else if name == "import" {
+        request_to_import(alloc, words)
     } else if name == "take" {
         request_to_take(alloc, words)
     } else {
         Ok(request_of_command(name, words))
+    }
+}
+
+/// Returns the request of `import`: that of one recording, or that of a kit. No words ask for both.
+fn request_to_import<'a>(
+    alloc: Global,
+    words: &ArgMatches<'a>,
+) -> Result<Option<Request<'a>>, AllocError>
+    ensures { IfOk result (λ found. FindsOne found (AsksFor (Some (codes "import", rows_in words.now)))) }
+{
+    if let Some(paths) = read_import(words) {
+        return Ok(Some(Request::Import(paths)));
+    }
+    let found = read_kit(alloc, words)?;
+    match found {
+        Some(kit) => Ok(Some(Request::ImportKit(kit))),
+        None => Ok(None),
     }
 }
 
@@ -292,18 +324,9 @@ fn request_to_copy<'a>(words: &ArgMatches<'a>) -> Option<Request<'a>>
     }
 }
 
-/// Returns the request of `import`, whose operands hold a name too.
-fn request_to_import<'a>(words: &ArgMatches<'a>) -> Option<Request<'a>>
-    ensures { FindsOne result (AsksFor (Some (codes "import", rows_in words.now))) }
-{
-    match read_import(words) {
-        Some(paths) => Some(Request::Import(paths)),
-        None => None,
-    }
-}
-
-/// Returns the request of a command other than `keep` and `take`.
+/// Returns the request of a command other than `import`, `keep` and `take`.
 fn request_of_command<'a>(name: &str, words: &ArgMatches<'a>) -> Option<Request<'a>>
+    requires not_import { name.now ≢ codes "import" }
     requires not_keep { name.now ≢ codes "keep" }
     requires not_take { name.now ≢ codes "take" }
     ensures { FindsOne result (AsksFor (Some (name.now, rows_in words.now))) }
@@ -314,7 +337,6 @@ fn request_of_command<'a>(name: &str, words: &ArgMatches<'a>) -> Option<Request<
         "copy" => return request_to_copy(words),
         "diff" => Request::Diff(read_diff(words)?),
         "explain" => Request::Explain(read_topic(words)?),
-        "import" => return request_to_import(words),
         "live" => Request::Live(read_live(words)?),
         "map" => Request::Map(read_map(words)?),
         "merge" => Request::Merge(read_merge(words)?),

@@ -12,6 +12,8 @@ use Rattle.script_tokens.specs.declared.fault.ScriptFault.{ScriptFault}
 use Rattle.script_tokens.specs.declared.fault.ScriptFault.TheVariants as script
 use Rattle.script_notes.specs.declared.fault.NoteFault.{NoteFault}
 use Rattle.script_notes.specs.declared.fault.NoteFault.TheVariants as note
+use Rattle.kit_tables.specs.declared.fault.KitFault.{KitFault}
+use Rattle.kit_tables.specs.declared.fault.KitFault.TheVariants as table
 use Rattle.wave_file.specs.declared.fault.WaveFault.{WaveFault}
 use Rattle.wave_file.specs.declared.fault.WaveFault.TheVariants as wave
 use Rattle.base_outputs.specs.declared.output_fault.OutputFault.{OutputFault}
@@ -25,7 +27,7 @@ use Rattle.plan_presets.specs.declared.fault.PresetFault.TheVariants as preset
 use Rattle.program_explanations.specs.declared.explanations.FaultCode.{FaultCode}
 use Rattle.program_explanations.specs.declared.explanations.FaultCode.TheVariants.{Reading, Script, Notes, Recording, Output}
 use Rattle.program_explanations.specs.declared.explanations.FaultCode.TheVariants.{Refused, NotNeutral, OtherVersion}
-use Rattle.program_explanations.specs.declared.explanations.FaultCode.TheVariants.{Presets, PlanFailed}
+use Rattle.program_explanations.specs.declared.explanations.FaultCode.TheVariants.{Presets, PlanFailed, Table}
 use Rattle.program_explanations.specs.declared.explanations.TheConstants.{ALL}
 use Rattle.program_explanations.specs.Explanations.{number_of, name_of}
 
@@ -78,6 +80,11 @@ of_notes : (it : NoteFault) → IsListed (Notes it)
 of_notes (note.BadNote line) = refl
 of_notes (note.TooManyNotes line) = refl
 of_notes (note.TooLong line) = refl
+
+of_table : (it : KitFault) → IsListed (Table it)
+of_table (table.BadRow line) = refl
+of_table (table.TooManyRows line) = refl
+of_table (table.NoRows line) = refl
 
 of_recording : (it : WaveFault) → IsListed (Recording it)
 of_recording wave.NotWave = refl
@@ -137,6 +144,7 @@ pub all_listed : (code : FaultCode) → IsListed code
 all_listed (Reading it) = of_reading it
 all_listed (Script it) = of_script it
 all_listed (Notes it) = of_notes it
+all_listed (Table it) = of_table it
 all_listed (Recording it) = of_recording it
 all_listed (Output it) = of_output it
 all_listed (Refused it) = of_refusal it

@@ -6,6 +6,7 @@ use Rattle.std.specs.Str.{str_eq_ignore_ascii_case}
 use Rattle.bank_format.specs.FaultNames as reading
 use Rattle.script_tokens.specs.Faults as scripts
 use Rattle.script_notes.specs.Faults as notes
+use Rattle.kit_tables.specs.Faults as tables
 use Rattle.wave_file.specs.FaultNames as recordings
 use Rattle.base_outputs.specs.OutputFaults as outputs
 use Rattle.plan_presets.specs.PresetFaults as presets
@@ -13,7 +14,7 @@ use Rattle.edit_refusals.specs.RefusalNames as refusals
 use Rattle.program_explanations.specs.declared.explanations.FaultCode.{FaultCode}
 use Rattle.program_explanations.specs.declared.explanations.FaultCode.TheVariants.{Reading, Script, Notes, Recording, Output}
 use Rattle.program_explanations.specs.declared.explanations.FaultCode.TheVariants.{Refused, NotNeutral, OtherVersion}
-use Rattle.program_explanations.specs.declared.explanations.FaultCode.TheVariants.{Presets, PlanFailed}
+use Rattle.program_explanations.specs.declared.explanations.FaultCode.TheVariants.{Presets, PlanFailed, Table}
 use Rattle.program_explanations.specs.declared.explanations.Explanation.{Explanation}
 
 -- the number of each fault and refusal, as its own crate defines it
@@ -21,6 +22,7 @@ abbrev pub number_of : FaultCode → ℕ
 number_of (Reading fault) = reading.number_of fault
 number_of (Script fault) = scripts.number_of fault
 number_of (Notes fault) = notes.number_of fault
+number_of (Table fault) = tables.number_of fault
 number_of (Recording fault) = recordings.number_of fault
 number_of (Output fault) = outputs.number_of fault
 number_of (Refused why) = refusals.refusal_number why
@@ -34,6 +36,7 @@ abbrev pub name_of : FaultCode → List ℕ
 name_of (Reading fault) = reading.name_of fault
 name_of (Script fault) = scripts.name_of fault
 name_of (Notes fault) = notes.name_of fault
+name_of (Table fault) = tables.name_of fault
 name_of (Recording fault) = recordings.name_of fault
 name_of (Output fault) = outputs.name_of fault
 name_of (Refused why) = refusals.refusal_name why

@@ -11,6 +11,7 @@ use base_outputs::{Output, OutputFault};
 use base_texts::Text;
 use edit_refusals::{Cause, Refusal};
 use itoa::Buffer;
+use kit_tables::KitFault;
 use plan_presets::{PresetFault, PresetNumbers};
 use script_notes::NoteFault;
 use script_tokens::ScriptFault;
@@ -28,6 +29,8 @@ pub enum FaultCode {
     Script(ScriptFault),
     /// A fault of a note list.
     Notes(NoteFault),
+    /// A fault of a table of a kit.
+    Table(KitFault),
     /// A fault of a WAVE file.
     Recording(WaveFault),
     /// A rejected output.
@@ -65,7 +68,7 @@ pub struct Explanations<'t>(pub &'t [Explanation]);
 const ANY_NUMBERS: PresetNumbers = PresetNumbers { bank: 0, number: 0 };
 
 /// One fault or refusal for each number, in the order of the numbers. The fields of a variant have any value.
-static ALL: [FaultCode; 69] = [
+static ALL: [FaultCode; 72] = [
     FaultCode::Reading(ReadFault::NotRiff),
     FaultCode::Reading(ReadFault::NotSfbk),
     FaultCode::Reading(ReadFault::Truncated),
@@ -135,6 +138,9 @@ static ALL: [FaultCode; 69] = [
     FaultCode::Recording(WaveFault::TwoChannels),
     FaultCode::Recording(WaveFault::NotAPair),
     FaultCode::Recording(WaveFault::SidesDiffer),
+    FaultCode::Table(KitFault::BadRow(1)),
+    FaultCode::Table(KitFault::TooManyRows(1)),
+    FaultCode::Table(KitFault::NoRows(1)),
 ];
 
 impl FaultCode {
@@ -160,6 +166,7 @@ impl FaultCode {
             FaultCode::Reading(fault) => fault.number(),
             FaultCode::Script(fault) => fault.number(),
             FaultCode::Notes(fault) => fault.number(),
+            FaultCode::Table(fault) => fault.number(),
             FaultCode::Recording(fault) => fault.number(),
             FaultCode::Output(fault) => fault.number(),
             FaultCode::Refused(why) => why.number(),
@@ -178,6 +185,7 @@ impl FaultCode {
             FaultCode::Reading(fault) => fault.name(),
             FaultCode::Script(fault) => fault.name(),
             FaultCode::Notes(fault) => fault.name(),
+            FaultCode::Table(fault) => fault.name(),
             FaultCode::Recording(fault) => fault.name(),
             FaultCode::Output(fault) => fault.name(),
             FaultCode::Refused(why) => why.name(),
@@ -201,6 +209,7 @@ impl FaultCode {
             FaultCode::Reading(fault) => of_reading(fault),
             FaultCode::Script(fault) => of_script(fault),
             FaultCode::Notes(fault) => of_notes(fault),
+            FaultCode::Table(fault) => of_table(fault),
             FaultCode::Recording(fault) => of_recording(fault),
             FaultCode::Output(fault) => of_output(fault),
             FaultCode::Refused(why) => of_refusal(why),
@@ -435,6 +444,23 @@ fn of_notes(fault: NoteFault) -> (&'static str, &'static str) {
         NoteFault::TooLong(_) => (
             "The note ends after frame 100,000,000, about 37 minutes.",
             "Split the list; count the times of the second part from 0.",
+        ),
+    }
+}
+
+fn of_table(fault: KitFault) -> (&'static str, &'static str) {
+    match fault {
+        KitFault::BadRow(_) => (
+            "The line is not FILE KEY[..KEY] [LOW..HIGH] [root KEY] [pan P] [class N].",
+            "Quote a path with blanks; keys, LOW and HIGH are 0 to 127, P -500 to 500, N 1 to 127 (RECORDINGS.md).",
+        ),
+        KitFault::TooManyRows(_) => (
+            "There are more than 65,535 lines with a FILE.",
+            "Split the table, and import each part.",
+        ),
+        KitFault::NoRows(_) => (
+            "No line of the table has a FILE.",
+            "Write a line for each zone, as in `kick.wav 36` (RECORDINGS.md).",
         ),
     }
 }

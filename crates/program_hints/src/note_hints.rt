@@ -138,7 +138,7 @@ fn put_expected(field: Field, remarks: &mut Remarks) {
     remarks.put(b".\n");
 }
 
-fn put_key(token: &[u8], key: u32, remarks: &mut Remarks) {
+pub(crate) fn put_key(token: &[u8], key: u32, remarks: &mut Remarks) {
     remarks.put(b"  Keys are numbers: ");
     remarks.put(token);
     remarks.put(b" is ");
@@ -154,8 +154,8 @@ fn put_frames(token: &[u8], frames: u64, remarks: &mut Remarks) {
     remarks.put(b".\n");
 }
 
-// The key of a note name, such as c4, F#3 or eb5.
-fn key_of(token: &[u8]) -> Option<u32> {
+/// The key of a note name, such as c4, F#3 or eb5.
+pub(crate) fn key_of(token: &[u8]) -> Option<u32> {
     let (letter, rest) = token.split_first()?;
     let semitone = semitone_of(*letter)?;
     let (raised, octave) = match rest.split_first()? {

@@ -1,7 +1,8 @@
-//! The line of a script or a note list that a fault is about.
+//! The line of a script, a note list or a table that a fault is about.
 
 use crate::note_hints::{LIST_FIELDS, remark_on_note};
 use crate::remarks::Remarks;
+use crate::row_hints::remark_on_zone;
 use crate::script_hints::remark_on_edit;
 use script_tokens::Lines;
 use script_trials::Span;
@@ -38,6 +39,18 @@ pub fn remark_on_notes(notes: &[u8], number: u64, is_faulty: bool, remarks: &mut
     show(line, remarks);
     if is_faulty && !remark_on_file(line, b"note list", remarks) {
         remark_on_note(line, &LIST_FIELDS, remarks);
+    }
+}
+
+/// Shows a line of the table of a kit, counted from 1, and says what is wrong in it if it `is_faulty`. It isn't where
+/// only the recording that it names can't be read or imported.
+pub fn remark_on_row(table: &[u8], number: u64, is_faulty: bool, remarks: &mut Remarks) {
+    let Some(line) = line_of(table, number) else {
+        return;
+    };
+    show(line, remarks);
+    if is_faulty && !remark_on_file(line, b"table", remarks) {
+        remark_on_zone(line, remarks);
     }
 }
 

@@ -32,16 +32,21 @@ pub(crate) fn remark_on_word(token: &[u8], remarks: &mut Remarks) -> bool {
         remarks.put(b"\n");
         return true;
     }
-    if let Some((low, high)) = ends_of_hyphen(token) {
-        remarks.line(&[
-            b"The ends of a range have two dots between them: ",
-            low,
-            b"..",
-            high,
-        ]);
-        return true;
-    }
-    remark_on_sign(token, remarks)
+    remark_on_hyphen(token, remarks) || remark_on_sign(token, remarks)
+}
+
+/// Says how a range is written that has a hyphen. Returns whether the token is one.
+pub(crate) fn remark_on_hyphen(token: &[u8], remarks: &mut Remarks) -> bool {
+    let Some((low, high)) = ends_of_hyphen(token) else {
+        return false;
+    };
+    remarks.line(&[
+        b"The ends of a range have two dots between them: ",
+        low,
+        b"..",
+        high,
+    ]);
+    true
 }
 
 // The number of the generator with this name, in letters of any case.

@@ -12,12 +12,12 @@ use Rattle.program_reports.specs.declared.details.Details.{Details}
 use Rattle.program_reports.specs.declared.details.Advice.{Advice}
 use Rattle.program_reports.specs.declared.details.Advice.TheVariants.{Nothing, Line, Explained}
 use Rattle.program_reports.specs.declared.fault.Fault.{Fault}
-use Rattle.program_reports.specs.declared.fault.Fault.TheVariants.{File, Output, Run}
+use Rattle.program_reports.specs.declared.fault.Fault.TheVariants.{File, Output, RowFile, RowRecording, Run}
 use Rattle.program_reports.specs.declared.run_fault.RunFault.{RunFault}
 use Rattle.program_reports.specs.declared.run_fault.RunFault.TheVariants.{Read, ReadFirst, ReadSecond, ReadFrom, Script}
 use Rattle.program_reports.specs.declared.run_fault.RunFault.TheVariants.{Refused, NotNeutral, OtherVersion, Notes}
 use Rattle.program_reports.specs.declared.run_fault.RunFault.TheVariants.{Recording, NoMember, Presets, Full, PlanFailed, Write}
-use Rattle.program_reports.specs.declared.run_fault.RunFault.TheVariants.{Memory}
+use Rattle.program_reports.specs.declared.run_fault.RunFault.TheVariants.{Memory, Table, InRecording}
 
 -- the code of a run's fault, under which `explain` has it; a failed write and a failed allocation have none
 abbrev pub code_of : RunFault → Option FaultCode
@@ -30,7 +30,9 @@ code_of (Refused line why) = Some (code.Refused why)
 code_of (NotNeutral line) = Some code.NotNeutral
 code_of OtherVersion = Some code.OtherVersion
 code_of (Notes fault) = Some (code.Notes fault)
+code_of (Table fault) = Some (code.Table fault)
 code_of (Recording fault) = Some (code.Recording fault)
+code_of (InRecording number fault) = Some (code.Recording fault)
 code_of (NoMember cause) = Some (code.Refused (Of cause))
 code_of (Presets fault) = Some (code.Presets fault)
 code_of (Full limit) = Some (code.Refused (Of (cause.Full limit)))
@@ -60,6 +62,8 @@ IsExplained None text = (line : List ℕ) × (text ≡ indented line)
 -- The advice on a fault: the reason why an input can't be read, and the explanation of any other fault with a number.
 abbrev pub IsAdvice : Fault → List ℕ → Type 0
 IsAdvice (File path why) text = text ≡ indented (reason_of why)
+IsAdvice (RowFile row why) text = text ≡ indented (reason_of why)
+IsAdvice (RowRecording row fault) text = IsExplained (Some (code.Recording fault)) text
 IsAdvice (Output fault path) text = IsExplained (Some (code.Output fault)) text
 IsAdvice (Run fault path) text = IsExplained (code_of fault) text
 IsAdvice fault text = text ≡ []

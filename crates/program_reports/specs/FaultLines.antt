@@ -1,5 +1,5 @@
 -- The lines that report faults, and the exit status of a run's fault.
-use Rattle.std.specs.Prelude.{ℕ, List, [], ◌∷◌, ◌++◌, codes, decimal}
+use Rattle.std.specs.Prelude.{ℕ, List, [], ◌∷◌, ◌++◌, codes, decimal, string_bytes, Option, Some, None}
 use Rattle.std.specs.List.{concat}
 use Rattle.bank_format.specs.declared.fault.ReadFault.{ReadFault}
 use Rattle.bank_format.specs.FaultNames as reading
@@ -7,6 +7,8 @@ use Rattle.script_tokens.specs.declared.fault.ScriptFault.{ScriptFault}
 use Rattle.script_tokens.specs.Faults as scripts
 use Rattle.script_notes.specs.declared.fault.NoteFault.{NoteFault}
 use Rattle.script_notes.specs.Faults as notes
+use Rattle.kit_tables.specs.declared.fault.KitFault.{KitFault}
+use Rattle.kit_tables.specs.Faults as tables
 use Rattle.wave_file.specs.declared.fault.WaveFault.{WaveFault}
 use Rattle.wave_file.specs.FaultNames as recordings
 use Rattle.bank_validity.specs.declared.limits.Limit.{Limit}
@@ -21,11 +23,12 @@ use Rattle.plan_presets.specs.declared.numbers.PresetNumbers.{PresetNumbers}
 use Rattle.plan_presets.specs.PresetFaults as presets
 use Rattle.base_outputs.specs.declared.output_fault.OutputFault.{OutputFault}
 use Rattle.base_outputs.specs.OutputFaults as rejected
+use Rattle.program_reports.specs.declared.fault.RowPath.{RowPath}
 use Rattle.program_reports.specs.declared.run_fault.RunFault.{RunFault}
 use Rattle.program_reports.specs.declared.run_fault.RunFault.TheVariants.{Read, ReadFirst, ReadSecond, ReadFrom, Script}
 use Rattle.program_reports.specs.declared.run_fault.RunFault.TheVariants.{Refused, NotNeutral, OtherVersion, Notes}
 use Rattle.program_reports.specs.declared.run_fault.RunFault.TheVariants.{Recording, NoMember, Presets, Full, PlanFailed, Write}
-use Rattle.program_reports.specs.declared.run_fault.RunFault.TheVariants.{Memory}
+use Rattle.program_reports.specs.declared.run_fault.RunFault.TheVariants.{Memory, Table, InRecording}
 
 -- a line that ends with a number and a name
 abbrev pub named_line : List ℕ → ℕ → List ℕ → List ℕ
@@ -62,6 +65,9 @@ script_line fault = text_line (scripts.line_of fault) (scripts.number_of fault) 
 abbrev pub notes_line : NoteFault → List ℕ
 notes_line fault = text_line (notes.line_of fault) (notes.number_of fault) (notes.name_of fault)
 
+abbrev pub table_line : KitFault → List ℕ
+table_line fault = text_line (tables.line_of fault) (tables.number_of fault) (tables.name_of fault)
+
 -- a line that is refused
 abbrev pub refused_start : ℕ → List ℕ
 refused_start line = concat (codes "sfbank: line " ∷ decimal line ∷ codes ": refused" ∷ [])
@@ -77,6 +83,28 @@ not_neutral_line line = concat (codes "sfbank: line " ∷ decimal line ∷ codes
 -- a fault of a WAVE file, by its number and its name
 abbrev pub recording_line : WaveFault → List ℕ
 recording_line fault = named_line (codes "sfbank: wave fault ") (recordings.number_of fault) (recordings.name_of fault)
+
+-- a fault of a WAVE file after the text that begins its line
+abbrev pub recording_text : WaveFault → List ℕ
+recording_text fault = named_line (codes "wave fault ") (recordings.number_of fault) (recordings.name_of fault)
+
+-- a fault of one of several recordings, by its number
+abbrev pub in_recording_line : ℕ → WaveFault → List ℕ
+in_recording_line number fault =
+    concat (codes "sfbank: recording " ∷ decimal number ∷ codes ": " ∷ []) ++ recording_text fault
+
+-- the line of the table that names a recording, if one does
+abbrev pub row_start : Option ℕ → List ℕ
+row_start (Some line) = concat (codes "sfbank: line " ∷ decimal line ∷ codes ": " ∷ [])
+row_start None = codes "sfbank: "
+
+-- a recording that can't be read whole
+abbrev pub row_file_line : RowPath → List ℕ
+row_file_line row = row_start row.line ++ concat (codes "file fault " ∷ string_bytes row.path ∷ codes "\n" ∷ [])
+
+-- a recording that can't be imported
+abbrev pub row_recording_line : RowPath → WaveFault → List ℕ
+row_recording_line row fault = row_start row.line ++ (concat (string_bytes row.path ∷ codes ": " ∷ []) ++ recording_text fault)
 
 -- a preset, instrument or sample that does not exist, in a command without script lines
 abbrev pub no_member_line : Cause → List ℕ
@@ -132,7 +160,9 @@ fault_line path (Refused line why) = refused_line line why
 fault_line path (NotNeutral line) = not_neutral_line line
 fault_line path OtherVersion = codes "sfbank: refused 51 OtherVersion\n"
 fault_line path (Notes fault) = notes_line fault
+fault_line path (Table fault) = table_line fault
 fault_line path (Recording fault) = recording_line fault
+fault_line path (InRecording number fault) = in_recording_line number fault
 fault_line path (NoMember cause) = no_member_line cause
 fault_line path (Presets fault) = preset_line fault
 fault_line path (Full limit) = full_line limit
@@ -151,7 +181,9 @@ status_of (Refused line why) = 4
 status_of (NotNeutral line) = 4
 status_of OtherVersion = 4
 status_of (Notes fault) = 3
+status_of (Table fault) = 3
 status_of (Recording fault) = 2
+status_of (InRecording number fault) = 2
 status_of (NoMember cause) = 4
 status_of (Presets fault) = 4
 status_of (Full limit) = 4

@@ -5,7 +5,7 @@ use Rattle.program_reports.specs.Details.{AreDetails}
 use Rattle.program_reports.specs.FaultLines as lines
 use Rattle.program_reports.specs.declared.fault.Fault.{Fault}
 use Rattle.program_reports.specs.declared.fault.Fault.TheVariants.{Words, NotText, NoNumber, NoName, File, Output, Run}
-use Rattle.program_reports.specs.declared.fault.Fault.TheVariants.{PipeClosed}
+use Rattle.program_reports.specs.declared.fault.Fault.TheVariants.{PipeClosed, RowFile, RowRecording}
 
 -- the exit status of a fault
 abbrev pub status_of : Fault → ℕ
@@ -14,6 +14,8 @@ status_of NotText = 1
 status_of (NoNumber number) = 1
 status_of (NoName name) = 1
 status_of (File path why) = 5
+status_of (RowFile row why) = 5
+status_of (RowRecording row fault) = 2
 status_of (Output fault path) = 5
 status_of (Run fault path) = lines.status_of fault
 status_of PipeClosed = 5
@@ -26,6 +28,8 @@ line_of NotText = codes "error: a word is not text\n"
 line_of (NoNumber number) = lines.no_number_line number
 line_of (NoName name) = lines.no_name_line name.now
 line_of (File path why) = lines.file_line path.now
+line_of (RowFile row why) = lines.row_file_line row
+line_of (RowRecording row fault) = lines.row_recording_line row fault
 line_of (Output fault path) = lines.output_line path.now fault
 line_of (Run fault path) = lines.fault_line path.now fault
 line_of PipeClosed = []

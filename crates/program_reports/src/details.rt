@@ -56,7 +56,10 @@ fn advice_on(fault: &Fault<'_>) -> Advice
     ensures { IsAdvice fault.now (advice_text result) }
 {
     match fault {
-        Fault::File(_, why) => Advice::Line(why.reason()),
+        Fault::File(_, why) | Fault::RowFile(_, why) => Advice::Line(why.reason()),
+        Fault::RowRecording(_, fault) => {
+            Advice::Explained(FaultCode::Recording(*fault).explanation())
+        }
         Fault::Output(fault, _) => Advice::Explained(FaultCode::Output(*fault).explanation()),
         Fault::Run(fault, _) => advice_on_run(fault),
         Fault::Words(_)
@@ -90,7 +93,10 @@ fn code_of(fault: &RunFault) -> Option<FaultCode>
         RunFault::NotNeutral(_) => FaultCode::NotNeutral,
         RunFault::OtherVersion => FaultCode::OtherVersion,
         RunFault::Notes(fault) => FaultCode::Notes(*fault),
-        RunFault::Recording(fault) => FaultCode::Recording(*fault),
+        RunFault::Table(fault) => FaultCode::Table(*fault),
+        RunFault::Recording(fault) | RunFault::InRecording(_, fault) => {
+            FaultCode::Recording(*fault)
+        }
         RunFault::NoMember(cause) => FaultCode::Refused(Refusal::Of(*cause)),
         RunFault::Presets(fault) => FaultCode::Presets(*fault),
         RunFault::Full(limit) => FaultCode::Refused(Refusal::Of(Cause::Full(*limit))),

@@ -4,9 +4,18 @@ use crate::run_fault::RunFault;
 use base_outputs::OutputFault;
 use file_host::InputFault;
 use std::alloc::AllocError;
+use wave_file::WaveFault;
 
 /// The path reported for the standard output in a fault.
 pub const STANDARD_OUTPUT: &str = "-";
+
+/// The file of a recording, and the line of the table that names it, if one does.
+#[derive(Drop)]
+pub struct RowPath {
+    /// The number of the line, counted from 1.
+    pub line: Option<u64>,
+    pub path: String,
+}
 
 /// Why a command fails.
 #[derive(Drop)]
@@ -21,6 +30,10 @@ pub enum Fault<'a> {
     NoName(&'a str),
     /// The input at this path can't be read whole.
     File(&'a str, InputFault),
+    /// The recording at this path can't be read whole.
+    RowFile(RowPath, InputFault),
+    /// The recording at this path can't be imported.
+    RowRecording(RowPath, WaveFault),
     /// The output at this path is rejected.
     Output(OutputFault, &'a str),
     /// The run failed. A write fault is about this path.

@@ -1,10 +1,11 @@
 //! The lines that report faults.
-ghost use Rattle.std.specs.Prelude.{◌≡◌, IfOk};
+ghost use Rattle.std.specs.Prelude.{◌≡◌, IfOk, Some};
 ghost use Rattle.base_outputs.specs.Output.{Puts};
 ghost use Rattle.base_outputs.specs.Writing.{Writes};
 ghost use Rattle.sample_view.specs.Pieces.{joined_bytes};
-ghost use Rattle.program_reports.specs.FaultLines.{fault_line, status_of, read_line, first_read_line, second_read_line, from_read_line, read_text, script_line, notes_line, text_line, refused_line, refused_start, not_neutral_line, named_line, recording_line, no_member_line, preset_line, preset_text, full_line, write_line, file_line, output_line, rejected_line, no_number_line, no_name_line};
+ghost use Rattle.program_reports.specs.FaultLines.{fault_line, status_of, read_line, first_read_line, second_read_line, from_read_line, read_text, script_line, notes_line, table_line, text_line, refused_line, refused_start, not_neutral_line, named_line, recording_line, in_recording_line, row_start, row_file_line, row_recording_line, recording_text, no_member_line, preset_line, preset_text, full_line, write_line, file_line, output_line, rejected_line, no_number_line, no_name_line};
 
+use crate::fault::RowPath;
 use crate::run_fault::RunFault;
 use bank_format::ReadFault;
 use bank_validity::Limit;
@@ -13,6 +14,7 @@ use base_texts::Text;
 use edit_refusals::{Cause, Refusal};
 use edit_script::RefusalText;
 use itoa::Buffer;
+use kit_tables::KitFault;
 use plan_presets::{PresetFault, PresetNumbers};
 use script_notes::NoteFault;
 use script_tokens::ScriptFault;
@@ -31,8 +33,8 @@ pub fn fault_text<W: Write>(fault: &RunFault, path: &str, out: &mut W) -> Result
     Ok(exit_status(fault))
 }
 
-/// The exit status of a run's fault: 2 for a fault of a bank file or a WAVE file, 3 of a script or notes, 4 for a
-/// refused edit, a preset, instrument or sample that does not exist or can't be copied, a bank that would be full or
+/// The exit status of a run's fault: 2 for a fault of a bank file or a WAVE file, 3 of a script, notes or a table, 4 for
+/// a refused edit, a preset, instrument or sample that does not exist or can't be copied, a bank that would be full or
 /// banks of different versions, 5 for a write fault, 6 for a failed allocation, and 7 for a plan that failed.
 pub fn exit_status(fault: &RunFault) -> u8
     ensures { result ≡ status_of fault.now }
@@ -42,8 +44,9 @@ pub fn exit_status(fault: &RunFault) -> u8
         | RunFault::ReadFirst(_)
         | RunFault::ReadSecond(_)
         | RunFault::ReadFrom(_)
-        | RunFault::Recording(_) => 2,
-        RunFault::Script(_) | RunFault::Notes(_) => 3,
+        | RunFault::Recording(_)
+        | RunFault::InRecording(_, _) => 2,
+        RunFault::Script(_) | RunFault::Notes(_) | RunFault::Table(_) => 3,
         RunFault::Refused(_, _)
         | RunFault::NotNeutral(_)
         | RunFault::OtherVersion
@@ -68,10 +71,12 @@ pub(crate) fn put_fault<W: Write>(fault: &RunFault, path: &str, output: &mut Out
         RunFault::ReadFrom(fault) => put_from_read_fault(*fault, output),
         RunFault::Script(fault) => put_script_fault(*fault, output),
         RunFault::Notes(fault) => put_notes_fault(*fault, output),
+        RunFault::Table(fault) => put_table_fault(*fault, output),
         RunFault::Refused(line, why) => put_refused(*line, *why, output),
         RunFault::NotNeutral(line) => put_not_neutral(*line, output),
         RunFault::OtherVersion => output.put(b"sfbank: refused 51 OtherVersion\n"),
         RunFault::Recording(fault) => put_recording_fault(*fault, output),
+        RunFault::InRecording(number, fault) => put_in_recording(*number, *fault, output),
         RunFault::NoMember(cause) => put_no_member(*cause, output),
         RunFault::Presets(fault) => put_preset_fault(*fault, output),
         RunFault::Full(limit) => put_full(*limit, output),
@@ -125,6 +130,12 @@ fn put_script_fault<W: Write>(fault: ScriptFault, output: &mut Output<'_, W>)
 
 fn put_notes_fault<W: Write>(fault: NoteFault, output: &mut Output<'_, W>)
     ensures { Puts W.contents output.old output.new (notes_line fault) }
+{
+    put_text_fault(fault.line(), fault.number(), fault.name(), output);
+}
+
+fn put_table_fault<W: Write>(fault: KitFault, output: &mut Output<'_, W>)
+    ensures { Puts W.contents output.old output.new (table_line fault) }
 {
     put_text_fault(fault.line(), fault.number(), fault.name(), output);
 }
@@ -191,6 +202,69 @@ fn put_recording_fault<W: Write>(fault: WaveFault, output: &mut Output<'_, W>)
     ensures { Puts W.contents output.old output.new (recording_line fault) }
 {
     put_named("sfbank: wave fault ", fault.number(), fault.name(), output);
+}
+
+// A fault of one of several recordings, by its number.
+fn put_in_recording<W: Write>(number: u64, fault: WaveFault, output: &mut Output<'_, W>)
+    ensures { Puts W.contents output.old output.new (in_recording_line number fault) }
+{
+    let mut digits = Buffer::new();
+    put_pieces(
+        &[
+            b"sfbank: recording ",
+            digits.format(number).as_bytes(),
+            b": ",
+        ],
+        output,
+    );
+    put_recording_text(fault, output);
+}
+
+fn put_recording_text<W: Write>(fault: WaveFault, output: &mut Output<'_, W>)
+    ensures { Puts W.contents output.old output.new (recording_text fault) }
+{
+    put_named("wave fault ", fault.number(), fault.name(), output);
+}
+
+/// Puts the line of a recording that can't be read whole.
+pub(crate) fn put_row_file<W: Write>(row: &RowPath, output: &mut Output<'_, W>)
+    ensures { Puts W.contents output.old output.new (row_file_line row.now) }
+{
+    put_row_start(row.line, output);
+    put_pieces(&[b"file fault ", row.path.as_bytes(), b"\n"], output);
+}
+
+/// Puts the line of a recording that can't be imported.
+pub(crate) fn put_row_recording<W: Write>(
+    row: &RowPath,
+    fault: WaveFault,
+    output: &mut Output<'_, W>,
+)
+    ensures { Puts W.contents output.old output.new (row_recording_line row.now fault) }
+{
+    put_row_start(row.line, output);
+    put_pieces(&[row.path.as_bytes(), b": "], output);
+    put_recording_text(fault, output);
+}
+
+// The line of the table that names a recording, if one does.
+fn put_row_start<W: Write>(line: Option<u64>, output: &mut Output<'_, W>)
+    ensures { Puts W.contents output.old output.new (row_start line) }
+{
+    match line {
+        Some(line) => put_line_start(line, output),
+        None => output.put(b"sfbank: "),
+    }
+}
+
+fn put_line_start<W: Write>(line: u64, output: &mut Output<'_, W>)
+    ensures { Puts W.contents output.old output.new (row_start (Some line)) }
+{
+    let mut digits = Buffer::new();
+    put_pieces(
+        &[b"sfbank: line ", digits.format(line).as_bytes(), b": "],
+        output,
+    );
 }
 
 // A preset, instrument or sample that does not exist, in a command without script lines.

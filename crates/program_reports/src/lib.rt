@@ -14,7 +14,7 @@ mod sound_report;
 mod terminal;
 mod watched;
 
-pub use fault::{Fault, STANDARD_OUTPUT};
+pub use fault::{Fault, RowPath, STANDARD_OUTPUT};
 pub use fault_lines::{exit_status, fault_text};
 pub use reporting::report;
 pub use run_fault::RunFault;

@@ -1,12 +1,13 @@
 //! Why a run fails.
 ghost use Rattle.std.specs.Prelude.{◌≡◌};
-ghost use Rattle.program_reports.specs.declared.run_fault.RunFault.TheVariants.{Read, ReadFirst, ReadFrom, ReadSecond, Script, Notes, Recording, Memory};
+ghost use Rattle.program_reports.specs.declared.run_fault.RunFault.TheVariants.{Read, ReadFirst, ReadFrom, ReadSecond, Script, Notes, Table, Recording, Memory};
 ghost use Rattle.program_reports.specs.RunFaults.{in_run};
 
 use bank_format::ReadFault;
 use bank_validity::Limit;
 use edit_refusals::{Cause, Refusal};
 use file_host::Which;
+use kit_tables::KitFault;
 use plan_presets::PresetFault;
 use script_notes::NoteFault;
 use script_tokens::ScriptFault;
@@ -45,9 +46,15 @@ pub enum RunFault {
     /// The first fault of the notes.
     #[error("{0}")]
     Notes(NoteFault),
+    /// The first fault of the table of a kit.
+    #[error("{0}")]
+    Table(KitFault),
     /// The first failed check of reading the WAVE file.
     #[error("{0}")]
     Recording(WaveFault),
+    /// The same for one of several recordings, by its number, counted from 1.
+    #[error("recording {0}: {1}")]
+    InRecording(u64, WaveFault),
     /// The bank has no preset, instrument or sample of this number.
     #[error("{0}")]
     NoMember(Cause),
@@ -128,6 +135,17 @@ impl From<Failure<NoteFault>> for RunFault {
     fn from(failure: Failure<NoteFault>) -> RunFault {
         match failure {
             Failure::Fault(fault) => RunFault::Notes(fault),
+            Failure::OutOfMemory => RunFault::Memory,
+        }
+    }
+}
+
+impl From<Failure<KitFault>> for RunFault {
+    ghost from_gives = { λ failure fault. fault ≡ in_run Table failure };
+
+    fn from(failure: Failure<KitFault>) -> RunFault {
+        match failure {
+            Failure::Fault(fault) => RunFault::Table(fault),
             Failure::OutOfMemory => RunFault::Memory,
         }
     }

@@ -26,3 +26,4 @@ pub use joined::Joined;
 pub use lines::Lines;
 pub use pool::pool_of;
 pub use printing::{Piece, put_line, put_pieces};
+pub use tokens::{Token, split_token};

@@ -1,7 +1,7 @@
 //! The tokens of a line.
 ghost use Rattle.std.specs.Prelude.{◌≡◌, ◌<◌, length, slice_index, drop, MatchOption, None, Some};
 ghost use Rattle.std.specs.Iterator.{YieldsFirstBy, item_count};
-ghost use Rattle.script_tokens.specs.Tokens.{tokens_of, token_at, quoted_at, plain_at, ends_well};
+ghost use Rattle.script_tokens.specs.Tokens.{after_blanks, tokens_of, token_at, quoted_at, plain_at, ends_well};
 
 use crate::scanning::{blank_at, blanks_before, bytes_after, is_blank, quote_at};
 use sf_base::{BorrowedBytes, front_of, rest_from};
@@ -50,9 +50,7 @@ impl<'a> Iterator for Tokens<'a> {
     ghost remaining = { item_count (λ rest. rest) };
 
     fn next(&mut self) -> Option<Token<'a>> {
-        let line = self.rest;
-        let blanks = blanks_before(line);
-        match first_token(rest_from(line, blanks)) {
+        match split_token(self.rest) {
             Some((token, rest)) => {
                 self.rest = rest;
                 Some(token)
@@ -63,6 +61,13 @@ impl<'a> Iterator for Tokens<'a> {
             }
         }
     }
+}
+
+/// Returns the first token of a line and the bytes after it. None where only blanks or a comment remain.
+pub fn split_token(line: &[u8]) -> Option<(Token<'_>, &[u8])>
+    ensures { MatchOption result (token_at (after_blanks line.now) ≡ None) (λ r. token_at (after_blanks line.now) ≡ Some (record { token = r.0; after = r.1.now })) }
+{
+    first_token(rest_from(line, blanks_before(line)))
 }
 
 // The first token of a line without leading blanks, and the bytes after it. None at the line's end or a comment.

@@ -28,7 +28,7 @@ use Rattle.sfbank.specs.Maps.{has_owner, if_there, map_outcome}
 use Rattle.sfbank.specs.Recordings.{wave_of, wave_outcome, pair_outcome, pair_wave_of, Change, after_recording}
 use Rattle.sfbank.specs.Recordings.{recording_outcome}
 use Rattle.sfbank.specs.Written.{FailsBefore}
-use Rattle.sfbank.specs.Plans.{details_of, listing_outcome}
+use Rattle.sfbank.specs.PlanParts.{details_of, listing_outcome}
 use Rattle.sfbank.specs.Steps.{ReadsBank}
 use Rattle.sfbank.proofs.OneText.{show_text, details_text}
 use Rattle.sfbank.proofs.Recordings.{wave_on}

@@ -86,6 +86,8 @@ at_other U forms b script lines seen (run.ReadFrom f) e s h = absurd h
 at_other U forms b script lines seen (run.Presets f) e s h = absurd h
 at_other U forms b script lines seen (run.Full f) e s h = absurd h
 at_other U forms b script lines seen (run.Recording fault) e s h = absurd h
+at_other U forms b script lines seen (run.Table fault) e s h = absurd h
+at_other U forms b script lines seen (run.InRecording i fault) e s h = absurd h
 at_other U forms b script lines seen (run.NoMember cause) e s h = absurd h
 at_other U forms b script lines seen (run.Write which n) e s h = h
 
@@ -106,6 +108,8 @@ stops_at b lines (run.ReadFrom f) h = absurd h
 stops_at b lines (run.Presets f) h = absurd h
 stops_at b lines (run.Full f) h = absurd h
 stops_at b lines (run.Recording fault) h = absurd h
+stops_at b lines (run.Table fault) h = absurd h
+stops_at b lines (run.InRecording i fault) h = absurd h
 stops_at b lines (run.NoMember cause) h = absurd h
 stops_at b lines (run.Notes fault) h = absurd h
 stops_at b lines (run.Write which n) h = h

@@ -22,7 +22,8 @@ use Rattle.sfbank.specs.Outcome.{Done, after_reading, bank_in, both_texts}
 use Rattle.sfbank.specs.Written.{FailsBefore}
 use Rattle.sfbank.specs.Purposes.{Purpose, keeping_listed, promise_of}
 use Rattle.sfbank.specs.PlannedEdits.{IsPlanned, IsScript, of_plan}
-use Rattle.sfbank.specs.Plans.{Action, Why, Edits, Found, Prints, SavesAll, edits_at, saves_found, standard_output, with_edits}
+use Rattle.sfbank.specs.PlanParts.{Action, Why, Edits, Found, Prints, SavesAll, edits_at, saves_found}
+use Rattle.sfbank.specs.PlanParts.{standard_output, with_edits}
 use Rattle.sfbank.specs.Ends.{FindsEdits, Outside, EndsFor}
 use Rattle.sfbank.specs.Outputs.{PrintsAt, SavesPairAt}
 use Rattle.sfbank.specs.Steps.{IsReadAs}

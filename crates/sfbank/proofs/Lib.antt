@@ -1,3 +1,4 @@
+mod ListLaws
 pub mod OneText
 pub mod Applying
 pub mod Endings
@@ -10,8 +11,10 @@ pub mod SavedBanks
 pub mod Differences
 pub mod RenderLaws
 pub mod Recordings
+pub mod KitRuns
 pub mod Maps
 mod PlanLaws
+mod KitPlans
 mod OutcomeLaws
 mod CommandLaws
 mod LiveLaws

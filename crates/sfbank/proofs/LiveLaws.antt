@@ -5,8 +5,10 @@ use Rattle.program_commands.specs.declared.words.LivePaths.{LivePaths}
 use Rattle.program_commands.specs.declared.words.Request.TheVariants.{Live}
 use Rattle.program_reports.specs.declared.fault.Fault.{Fault}
 use Rattle.program_reports.specs.declared.fault.Fault.TheVariants.{Words, NotText, NoNumber, NoName, File, Output, Run, PipeClosed}
+use Rattle.program_reports.specs.declared.fault.Fault.TheVariants.{RowFile, RowRecording}
 use Rattle.program_reports.specs.declared.run_fault.RunFault.TheVariants as run
-use Rattle.sfbank.specs.Plans.{Action, Why, Plays, plan, with_input}
+use Rattle.sfbank.specs.PlanParts.{Action, Why, Plays, with_input}
+use Rattle.sfbank.specs.Plans.{plan}
 use Rattle.sfbank.specs.Ends.{Outside, IsEarly}
 use Rattle.sfbank.specs.Steps.{Passes, FailsInput, live_part}
 use Rattle.sfbank.specs.LiveRuns.{MeansLive, PlaysOrNot, StopsEarly, StopsInMemory}
@@ -22,7 +24,7 @@ pub checks_stop_live : (p : LivePaths) (old new : Option World) (printed : Optio
 checks_stop_live p None new printed written fault h = tt
 checks_stop_live p (Some w) new printed written fault h = record {
   inputs = twice (file_at w p.input.now);
-  given = (λ s. refl, tt);
+  given = (λ s. refl, tt, tt);
   ends = inl (h.0 (with_input p.input.now (file_at w p.input.now) (begins p)), untouched (Some w) new printed h.1);
 }
 
@@ -35,7 +37,7 @@ input_stops_live p (Some w) before new printed written fault u pass read =
     let planned = with_input p.input.now s.0.given (begins p) in
     record {
       inputs = twice s.0.given;
-      given = (given_before (Some w) before p.input.now s.0.given pass.1 s.0.is_given, tt);
+      given = (given_before (Some w) before p.input.now s.0.given pass.1 s.0.is_given, tt, tt);
       ends = inl (
         subst (λ (r : Result Action Why). IsEarly w r fault) (sym (pass.0 planned)) (s.0.stops w (begins p)),
         untouched (Some w) new printed (s.1 ∙ pass.1),
@@ -49,6 +51,8 @@ memory_stops p w planned old new (Err (Run run.Memory path)) h = (tt, h)
 memory_stops p w planned old new (Ok u) h = absurd h
 memory_stops p w planned old new (Err (Words e)) h = absurd h
 memory_stops p w planned old new (Err NotText) h = absurd h
+memory_stops p w planned old new (Err (RowFile row why)) h = absurd h
+memory_stops p w planned old new (Err (RowRecording row why)) h = absurd h
 memory_stops p w planned old new (Err (NoNumber n)) h = absurd h
 memory_stops p w planned old new (Err (NoName n)) h = absurd h
 memory_stops p w planned old new (Err (File path f)) h = absurd h
@@ -67,6 +71,8 @@ memory_stops p w planned old new (Err (Run (run.Presets f) path)) h = absurd h
 memory_stops p w planned old new (Err (Run (run.Full f) path)) h = absurd h
 memory_stops p w planned old new (Err (Run (run.Notes f) path)) h = absurd h
 memory_stops p w planned old new (Err (Run (run.Recording f) path)) h = absurd h
+memory_stops p w planned old new (Err (Run (run.Table f) path)) h = absurd h
+memory_stops p w planned old new (Err (Run (run.InRecording i f) path)) h = absurd h
 memory_stops p w planned old new (Err (Run (run.NoMember f) path)) h = absurd h
 memory_stops p w planned old new (Err (Run (run.Write f n) path)) h = absurd h
 
@@ -82,7 +88,7 @@ session_ends p (Some w) before mid printed new written file end u pass read h =
     let planned : plan (Live p) w (twice (Ok file)) ≡ Ok (Plays p file) = pass.0 (begins p file) in
     record {
       inputs = twice (Ok file);
-      given = (given_before (Some w) before p.input.now (Ok file) pass.1 read.0, tt);
+      given = (given_before (Some w) before p.input.now (Ok file) pass.1 read.0, tt, tt);
       ends =
           elim here [
             | inl m ↦ inl (memory_stops p w (plan (Live p) w (twice (Ok file))) (at (Some w) printed) new end m)

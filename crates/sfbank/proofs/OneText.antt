@@ -80,6 +80,8 @@ runs_one_text old new outcome text (Err (run.ReadFrom f)) e h = absurd h
 runs_one_text old new outcome text (Err (run.Presets f)) e h = absurd h
 runs_one_text old new outcome text (Err (run.Full f)) e h = absurd h
 runs_one_text old new outcome text (Err (run.Recording fault)) e h = absurd h
+runs_one_text old new outcome text (Err (run.Table fault)) e h = absurd h
+runs_one_text old new outcome text (Err (run.InRecording i fault)) e h = absurd h
 runs_one_text old new outcome text (Err (run.NoMember cause)) e h = absurd h
 runs_one_text old new outcome text (Err (run.Notes fault)) e h = absurd h
 
@@ -98,6 +100,8 @@ one_text_fails U known outcome (run.ReadFrom f) h = (h, Keeps-refl known)
 one_text_fails U known outcome (run.Presets f) h = (h, Keeps-refl known)
 one_text_fails U known outcome (run.Full f) h = (h, Keeps-refl known)
 one_text_fails U known outcome (run.Recording fault) h = (h, Keeps-refl known)
+one_text_fails U known outcome (run.Table fault) h = (h, Keeps-refl known)
+one_text_fails U known outcome (run.InRecording i fault) h = (h, Keeps-refl known)
 one_text_fails U known outcome (run.NoMember cause) h = (h, Keeps-refl known)
 one_text_fails U known outcome (run.Notes fault) h = (h, Keeps-refl known)
 one_text_fails U known outcome run.Memory h = Keeps-refl known

@@ -14,14 +14,15 @@ use Rattle.program_commands.specs.declared.explain.Topic.{Topic}
 use Rattle.program_commands.specs.declared.words.Request.TheVariants.{Explain}
 use Rattle.program_reports.specs.declared.fault.Fault.{Fault}
 use Rattle.program_reports.specs.declared.fault.Fault.TheVariants.{Words, NotText, NoNumber, NoName, File, Output, Run, PipeClosed}
+use Rattle.program_reports.specs.declared.fault.Fault.TheVariants.{RowFile, RowRecording}
 use Rattle.program_reports.specs.Reporting.{Ends}
 use Rattle.program_reports.specs.declared.run_fault.RunFault.{RunFault}
 use Rattle.program_reports.specs.declared.run_fault.RunFault.TheVariants as run
 use Rattle.sfbank.specs.Outcome.{Done, after_reading}
 use Rattle.sfbank.specs.Written.{FailsBefore}
-use Rattle.sfbank.specs.Plans.{Action, Content, Texts, Known, Why, Fails, SavesBoth, Prints, Text, Explanation}
-use Rattle.sfbank.specs.Plans.{standard_output, put_at}
-use Rattle.sfbank.specs.Plans.{Difference, with_text, without_undo, with_print, with_both, with_difference}
+use Rattle.sfbank.specs.PlanParts.{Action, Content, Texts, Known, Why, Fails, SavesBoth, Prints, Text, Explanation}
+use Rattle.sfbank.specs.PlanParts.{standard_output, put_at}
+use Rattle.sfbank.specs.PlanParts.{Difference, with_text, without_undo, with_print, with_both, with_difference}
 use Rattle.sfbank.specs.Differences.{TwoBanks, FindsDifference, banks_in, two_banks_of}
 use Rattle.sfbank.specs.Ends.{Outside, AreTexts, IsContent, IsEarly, IsStopped, EndsAs, EndsFor, path_of}
 use Rattle.sfbank.specs.Meanings.{EndsExplained, MeansPlan}
@@ -47,6 +48,8 @@ bank_fails view (run.Presets f) file r h = absurd h
 bank_fails view (run.Full f) file r h = absurd h
 bank_fails view (run.Notes f) file r h = absurd h
 bank_fails view (run.Recording f) file r h = absurd h
+bank_fails view (run.Table f) file r h = absurd h
+bank_fails view (run.InRecording i f) file r h = absurd h
 bank_fails view (run.NoMember f) file r h = absurd h
 bank_fails view (run.Write f n) file r h = absurd h
 
@@ -72,6 +75,8 @@ run_fails w path planned (run.Presets f) outcome law h = ap planned h ∙ law (r
 run_fails w path planned (run.Full f) outcome law h = inl (ap planned h ∙ law (run.Full f))
 run_fails w path planned (run.Notes f) outcome law h = ap planned h ∙ law (run.Notes f)
 run_fails w path planned (run.Recording f) outcome law h = ap planned h ∙ law (run.Recording f)
+run_fails w path planned (run.Table f) outcome law h = ap planned h ∙ law (run.Table f)
+run_fails w path planned (run.InRecording i f) outcome law h = ap planned h ∙ law (run.InRecording i f)
 run_fails w path planned (run.NoMember f) outcome law h = ap planned h ∙ law (run.NoMember f)
 run_fails w path planned run.Memory outcome law h = tt
 run_fails w path planned (run.Write f n) outcome law h = absurd h
@@ -134,6 +139,8 @@ prints_end w path text content planned old new written (Err PipeClosed) e is h =
 prints_end w path text content planned old new written (Err (Run (run.Write Undo n) at)) e is h = absurd h
 prints_end w path text content planned old new written (Err (Words x)) e is h = absurd h
 prints_end w path text content planned old new written (Err NotText) e is h = absurd h
+prints_end w path text content planned old new written (Err (RowFile row why)) e is h = absurd h
+prints_end w path text content planned old new written (Err (RowRecording row why)) e is h = absurd h
 prints_end w path text content planned old new written (Err (NoNumber n)) e is h = absurd h
 prints_end w path text content planned old new written (Err (NoName n)) e is h = absurd h
 prints_end w path text content planned old new written (Err (File p f)) e is h = absurd h
@@ -151,6 +158,8 @@ prints_end w path text content planned old new written (Err (Run (run.Presets f)
 prints_end w path text content planned old new written (Err (Run (run.Full f) p)) e is h = absurd h
 prints_end w path text content planned old new written (Err (Run (run.Notes f) p)) e is h = absurd h
 prints_end w path text content planned old new written (Err (Run (run.Recording f) p)) e is h = absurd h
+prints_end w path text content planned old new written (Err (Run (run.Table f) p)) e is h = absurd h
+prints_end w path text content planned old new written (Err (Run (run.InRecording i f) p)) e is h = absurd h
 prints_end w path text content planned old new written (Err (Run (run.NoMember f) p)) e is h = absurd h
 prints_end w path text content planned old new written (Err (Run run.Memory p)) e is h = absurd h
 
@@ -212,7 +221,7 @@ pub explain_means : (topic : Topic) (files : Option World) (old new : Option (Li
     → MeansPlan (Explain topic) (at files old) (at files new) written end
 explain_means topic None old new written end h = record { inputs = nothing; given = tt; ends = tt }
 explain_means topic (Some w) old new written end h =
-    record { inputs = nothing; given = (tt, tt); ends = explain_ends w topic old new written end h }
+    record { inputs = nothing; given = (tt, tt, tt); ends = explain_ends w topic old new written end h }
 
 -- ---- two texts that are saved
 
@@ -250,6 +259,8 @@ both_end w out undo texts done planned new printed written (Err PipeClosed) e ar
 }
 both_end w out undo texts done planned new printed written (Err (Words x)) e are h = absurd h
 both_end w out undo texts done planned new printed written (Err NotText) e are h = absurd h
+both_end w out undo texts done planned new printed written (Err (RowFile row why)) e are h = absurd h
+both_end w out undo texts done planned new printed written (Err (RowRecording row why)) e are h = absurd h
 both_end w out undo texts done planned new printed written (Err (NoNumber n)) e are h = absurd h
 both_end w out undo texts done planned new printed written (Err (NoName n)) e are h = absurd h
 both_end w out undo texts done planned new printed written (Err (File p f)) e are h = absurd h
@@ -267,6 +278,8 @@ both_end w out undo texts done planned new printed written (Err (Run (run.Preset
 both_end w out undo texts done planned new printed written (Err (Run (run.Full f) p)) e are h = absurd h
 both_end w out undo texts done planned new printed written (Err (Run (run.Notes f) p)) e are h = absurd h
 both_end w out undo texts done planned new printed written (Err (Run (run.Recording f) p)) e are h = absurd h
+both_end w out undo texts done planned new printed written (Err (Run (run.Table f) p)) e are h = absurd h
+both_end w out undo texts done planned new printed written (Err (Run (run.InRecording i f) p)) e are h = absurd h
 both_end w out undo texts done planned new printed written (Err (Run (run.NoMember f) p)) e are h = absurd h
 
 pub both_saved : (files new : Option World) (out undo : List ℕ) (done : Done) (outcome : Result Done RunFault)
@@ -308,6 +321,8 @@ no_difference view a b (run.Presets f) h = h
 no_difference view a b (run.Full f) h = h
 no_difference view a b (run.Notes f) h = h
 no_difference view a b (run.Recording f) h = h
+no_difference view a b (run.Table f) h = h
+no_difference view a b (run.InRecording i f) h = h
 no_difference view a b (run.NoMember f) h = h
 no_difference view a b run.Memory h = tt
 no_difference view a b (run.Write f n) h = absurd h

@@ -1,5 +1,5 @@
 -- How the steps of a request make its end.
-use Rattle.std.proofs.Common.{◌≡◌, ℕ, List, Option, Some, None, Result, Ok, Err, Bool}
+use Rattle.std.proofs.Common.{◌≡◌, ℕ, List, [], Option, Some, None, Result, Ok, Err, Bool}
 use Rattle.std.proofs.Common.{refl, sym, ap, subst, ◌∙◌, inl}
 use Rattle.std.specs.Prelude.{◌||◌}
 use Rattle.std.proofs.KnownBytes.{Keeps-refl}
@@ -11,9 +11,11 @@ use Rattle.file_host.specs.declared.input_fault.InputFault.TheVariants.{NotFound
 use Rattle.program_commands.specs.declared.words.Request.{Request}
 use Rattle.program_reports.specs.declared.fault.Fault.{Fault}
 use Rattle.program_reports.specs.declared.fault.Fault.TheVariants.{Words, NotText, NoNumber, NoName, File, Output, Run, PipeClosed}
+use Rattle.program_reports.specs.declared.fault.Fault.TheVariants.{RowFile, RowRecording}
 use Rattle.program_reports.specs.declared.run_fault.RunFault.TheVariants as run
-use Rattle.sfbank.specs.Plans.{Action, Why, Unread, Inputs, GivesInput, AreInputs, plan, no_bank, with_input}
-use Rattle.sfbank.specs.Plans.{Plays, Prints, Saves, SavesAll, SavesBoth}
+use Rattle.sfbank.specs.PlanParts.{Action, Why, Unread, Inputs, GivesInput, no_bank, with_input}
+use Rattle.sfbank.specs.Plans.{AreInputs, plan}
+use Rattle.sfbank.specs.PlanParts.{Plays, Prints, Saves, SavesAll, SavesBoth}
 use Rattle.sfbank.specs.Ends.{Outside, IsUntouched, IsEarly, StopsForMemory, EndsAs, EndsFor}
 use Rattle.sfbank.specs.Meanings.{MeansPlan}
 use Rattle.sfbank.specs.Steps.{Part, PassesIn, Passes, FailsInput, AreGiven, StopsInInputs}
@@ -40,6 +42,8 @@ pub ends_early : (w : World) (planned : Result Action Why) (old new : Outside) (
     → IsEarly w planned fault → IsUntouched old new → EndsAs {U = Unit {0}} w planned old new written (Err fault)
 ends_early w planned old new written (Words error) h u = absurd h
 ends_early w planned old new written NotText h u = absurd h
+ends_early w planned old new written (RowFile row why) h u = (h, u)
+ends_early w planned old new written (RowRecording row why) h u = (h, u)
 ends_early w planned old new written (NoNumber number) h u = (h, u)
 ends_early w planned old new written (NoName name) h u = (h, u)
 ends_early w planned old new written (File path why) h u = (h, u)
@@ -58,6 +62,8 @@ ends_early w planned old new written (Run (run.Presets f) path) h u = (h, u)
 ends_early w planned old new written (Run (run.Full f) path) h u = (h, u)
 ends_early w planned old new written (Run (run.Notes fault) path) h u = (h, u)
 ends_early w planned old new written (Run (run.Recording fault) path) h u = (h, u)
+ends_early w planned old new written (Run (run.Table fault) path) h u = (h, u)
+ends_early w planned old new written (Run (run.InRecording i fault) path) h u = (h, u)
 ends_early w planned old new written (Run (run.NoMember cause) path) h u = (h, u)
 ends_early w planned old new written (Run run.Memory path) h u = memory_fails planned old new u
 ends_early w planned old new written (Run (run.Write which n) path) h u = absurd h
@@ -118,13 +124,14 @@ abbrev given_at : World → List ℕ → Result (List ℕ) InputFault
 given_at w path = file_at w path
 
 abbrev pub nothing : Inputs
-nothing = record { first = Err NotFound; second = Err NotFound }
+nothing = record { first = Err NotFound; second = Err NotFound; others = [] }
 
 -- the inputs of a request are at these two paths
 abbrev pub HasInputs : Request → List ℕ → List ℕ → Type 0
 HasInputs request p q =
-    (w : World) (r s : Result (List ℕ) InputFault) → GivesInput w (Some p) r → GivesInput w (Some q) s
-    → AreInputs w request (record { first = r; second = s })
+    (w : World) (r s : Result (List ℕ) InputFault) (others : List (Result (List ℕ) InputFault))
+    → GivesInput w (Some p) r → GivesInput w (Some q) s
+    → AreInputs w request (record { first = r; second = s; others = others })
 
 -- the plan of a request has this part, and then this rest
 abbrev pub HasPlan : Request → Part → (World → Inputs → Result Action Why) → Type 0
@@ -137,10 +144,10 @@ fails_in : (request : Request) (part : Part) (rest : World → Inputs → Result
 fails_in request part rest p q None new printed written fault shape has h e =
     record { inputs = nothing; given = tt; ends = tt }
 fails_in request part rest p q (Some w) new printed written fault shape has h e =
-    let inputs : Inputs = record { first = given_at w p; second = given_at w q } in
+    let inputs : Inputs = record { first = given_at w p; second = given_at w q; others = [] } in
     record {
       inputs = inputs;
-      given = has w (given_at w p) (given_at w q) (λ s. refl) (λ s. refl);
+      given = has w (given_at w p) (given_at w q) [] (λ s. refl) (λ s. refl);
       ends = ends_early w (plan request w inputs) (at (Some w) printed) (at new printed) written fault
           (subst (λ (x : Result Action Why). IsEarly w x fault) (sym (shape w inputs)) (h (rest w inputs)))
           (untouched (Some w) new printed e);
@@ -167,7 +174,7 @@ stops_in request part rest p q None new printed written fault u inputs shape has
 stops_in request part rest p q (Some w) new printed written fault u inputs shape has pass e given stops =
     record {
       inputs = inputs;
-      given = has w inputs.first inputs.second given.0 given.1;
+      given = has w inputs.first inputs.second inputs.others given.0 given.1;
       ends = ends_early w (plan request w inputs) (at (Some w) printed) (at new printed) written fault
           (subst (λ (x : Result Action Why). IsEarly w x fault) (sym (shape w inputs ∙ pass (rest w inputs))) (stops w))
           (untouched (Some w) new printed e);
@@ -186,7 +193,7 @@ goes_on request part rest p q None printed new written end u inputs shape has pa
 goes_on request part rest p q (Some w) printed new written end u inputs shape has pass given h =
     record {
       inputs = inputs;
-      given = has w inputs.first inputs.second given.0 given.1;
+      given = has w inputs.first inputs.second inputs.others given.0 given.1;
       ends = subst (λ (x : Result Action Why). EndsAs w x (at (Some w) printed) new written end)
           (sym (shape w inputs ∙ pass (rest w inputs))) h;
     }
@@ -198,7 +205,7 @@ abbrev pub after_one : List ℕ → (World → List ℕ → Result Action Why) �
 after_one p rest w inputs = with_input p inputs.first (rest w)
 
 abbrev pub twice : Result (List ℕ) InputFault → Inputs
-twice given = record { first = given; second = given }
+twice given = record { first = given; second = given; others = [] }
 
 pub no_checks : (old : Option World) (u : Unit {0}) → Passes (λ w rest. rest) old old (Ok u)
 no_checks None u = (tt, refl)
@@ -245,6 +252,8 @@ input_stops old new p (Run run.Memory path) h =
     let any = any_given old p in (record { given = any.0; is_given = any.1; stops = λ w rest. tt }, h)
 input_stops old new p (Words e) h = absurd h
 input_stops old new p NotText h = absurd h
+input_stops old new p (RowFile row why) h = absurd h
+input_stops old new p (RowRecording row why) h = absurd h
 input_stops old new p (NoNumber n) h = absurd h
 input_stops old new p (NoName n) h = absurd h
 input_stops old new p (Output f path) h = absurd h
@@ -262,6 +271,8 @@ input_stops old new p (Run (run.Presets f) path) h = absurd h
 input_stops old new p (Run (run.Full f) path) h = absurd h
 input_stops old new p (Run (run.Notes f) path) h = absurd h
 input_stops old new p (Run (run.Recording f) path) h = absurd h
+input_stops old new p (Run (run.Table f) path) h = absurd h
+input_stops old new p (Run (run.InRecording i f) path) h = absurd h
 input_stops old new p (Run (run.NoMember f) path) h = absurd h
 input_stops old new p (Run (run.Write f n) path) h = absurd h
 
@@ -286,11 +297,11 @@ pub two_go_on : (request : Request) (part : Part) (rest : World → List ℕ →
     (p q : List ℕ) (old before mid : Option World) (printed : Option (List ℕ)) (new : Outside) (written : ℕ)
     (end : Result (Unit {0}) Fault) (u : Unit {0}) (a b : List ℕ)
     → HasPlan request part (after_two p q rest) → HasInputs request p q → Passes part old before (Ok u)
-    → AreGiven before p q (record { first = Ok a; second = Ok b }) × (mid ≡ before)
+    → AreGiven before p q (record { first = Ok a; second = Ok b; others = [] }) × (mid ≡ before)
     → EndsFor (λ w. rest w a b) (at mid printed) new written end
     → MeansPlan request (at old printed) new written end
 two_go_on request part rest p q old before mid printed new written end u a b shape has pass read h =
-    goes_on request part (after_two p q rest) p q old printed new written end u (record { first = Ok a; second = Ok b })
+    goes_on request part (after_two p q rest) p q old printed new written end u (record { first = Ok a; second = Ok b; others = [] })
     shape has pass.0
     (given_before old before p (Ok a) pass.1 read.0.0, given_before old before q (Ok b) pass.1 read.0.1)
     (subst (λ (x : Option World). EndsFor (λ w. rest w a b) (at x printed) new written end) (read.1 ∙ pass.1) h)
@@ -314,7 +325,7 @@ first_stops old new p q fault read =
     let s = input_stops old new p fault read in
     let other = any_given old q in (
       record {
-        inputs = record { first = s.0.given; second = other.0 };
+        inputs = record { first = s.0.given; second = other.0; others = [] };
         given = (s.0.is_given, other.1);
         stops = λ w rest. s.0.stops w (λ a. with_input q other.0 (rest a));
       },
@@ -327,7 +338,7 @@ pub second_stops : (old mid new : Option World) (p q : List ℕ) (a : List ℕ) 
 second_stops old mid new p q a fault first read =
     let s = input_stops mid new q fault read in (
       record {
-        inputs = record { first = Ok a; second = s.0.given };
+        inputs = record { first = Ok a; second = s.0.given; others = [] };
         given = (first.0, given_before old mid q s.0.given first.1 s.0.is_given);
         stops = λ w rest. s.0.stops w (rest a);
       },

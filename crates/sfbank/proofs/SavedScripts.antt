@@ -8,11 +8,12 @@ use Rattle.file_host.specs.Saving.{SpoilsPair}
 use Rattle.file_host.specs.declared.faults.Which.TheVariants.{Out, Undo}
 use Rattle.program_reports.specs.declared.fault.Fault.{Fault}
 use Rattle.program_reports.specs.declared.fault.Fault.TheVariants.{Words, NotText, NoNumber, NoName, File, Output, Run, PipeClosed}
+use Rattle.program_reports.specs.declared.fault.Fault.TheVariants.{RowFile, RowRecording}
 use Rattle.program_reports.specs.declared.run_fault.RunFault.TheVariants as run
 use Rattle.sfbank.specs.Outcome.{Done}
 use Rattle.sfbank.specs.Purposes.{Purpose, promise_of}
 use Rattle.sfbank.specs.PlannedEdits.{IsPlanned, IsScript}
-use Rattle.sfbank.specs.Plans.{SavesAll}
+use Rattle.sfbank.specs.PlanParts.{SavesAll}
 use Rattle.sfbank.specs.Ends.{EndsAs, EndsFor, StopsAfterScript}
 use Rattle.sfbank.specs.Outputs.{SavesAt, SavesPairAt}
 use Rattle.sfbank.proofs.PlanLaws.{at, untouched}
@@ -43,6 +44,8 @@ script_stops w script out undo purpose file text new printed written PipeClosed 
 script_stops w script out undo purpose file text new printed written (Run (run.Write Undo n) p) is h = absurd h
 script_stops w script out undo purpose file text new printed written (Words x) is h = absurd h
 script_stops w script out undo purpose file text new printed written NotText is h = absurd h
+script_stops w script out undo purpose file text new printed written (RowFile row why) is h = absurd h
+script_stops w script out undo purpose file text new printed written (RowRecording row why) is h = absurd h
 script_stops w script out undo purpose file text new printed written (NoNumber n) is h = absurd h
 script_stops w script out undo purpose file text new printed written (NoName n) is h = absurd h
 script_stops w script out undo purpose file text new printed written (File p f) is h = absurd h
@@ -57,6 +60,8 @@ script_stops w script out undo purpose file text new printed written (Run (run.R
 script_stops w script out undo purpose file text new printed written (Run (run.NotNeutral n) p) is h = absurd h
 script_stops w script out undo purpose file text new printed written (Run run.OtherVersion p) is h = absurd h
 script_stops w script out undo purpose file text new printed written (Run (run.Recording f) p) is h = absurd h
+script_stops w script out undo purpose file text new printed written (Run (run.Table f) p) is h = absurd h
+script_stops w script out undo purpose file text new printed written (Run (run.InRecording i f) p) is h = absurd h
 script_stops w script out undo purpose file text new printed written (Run (run.NoMember f) p) is h = absurd h
 script_stops w script out undo purpose file text new printed written (Run (run.Presets f) p) is h = absurd h
 script_stops w script out undo purpose file text new printed written (Run (run.Full f) p) is h = absurd h
@@ -121,6 +126,8 @@ pair_ends w script out undo purpose file done found mid new printed written (Err
 }
 pair_ends w script out undo purpose file done found mid new printed written (Err (Words x)) e h = absurd h
 pair_ends w script out undo purpose file done found mid new printed written (Err NotText) e h = absurd h
+pair_ends w script out undo purpose file done found mid new printed written (Err (RowFile row why)) e h = absurd h
+pair_ends w script out undo purpose file done found mid new printed written (Err (RowRecording row why)) e h = absurd h
 pair_ends w script out undo purpose file done found mid new printed written (Err (NoNumber n)) e h = absurd h
 pair_ends w script out undo purpose file done found mid new printed written (Err (NoName n)) e h = absurd h
 pair_ends w script out undo purpose file done found mid new printed written (Err (File p f)) e h = absurd h
@@ -135,6 +142,8 @@ pair_ends w script out undo purpose file done found mid new printed written (Err
 pair_ends w script out undo purpose file done found mid new printed written (Err (Run (run.NotNeutral n) p)) e h = absurd h
 pair_ends w script out undo purpose file done found mid new printed written (Err (Run run.OtherVersion p)) e h = absurd h
 pair_ends w script out undo purpose file done found mid new printed written (Err (Run (run.Recording f) p)) e h = absurd h
+pair_ends w script out undo purpose file done found mid new printed written (Err (Run (run.Table f) p)) e h = absurd h
+pair_ends w script out undo purpose file done found mid new printed written (Err (Run (run.InRecording i f) p)) e h = absurd h
 pair_ends w script out undo purpose file done found mid new printed written (Err (Run (run.NoMember f) p)) e h = absurd h
 pair_ends w script out undo purpose file done found mid new printed written (Err (Run (run.Presets f) p)) e h = absurd h
 pair_ends w script out undo purpose file done found mid new printed written (Err (Run (run.Full f) p)) e h = absurd h

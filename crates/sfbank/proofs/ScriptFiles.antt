@@ -17,8 +17,9 @@ use Rattle.sfbank.specs.Outcome.{Done, bank_in, outcome, play_outcome}
 use Rattle.sfbank.specs.EditRuns.{outcome_of}
 use Rattle.sfbank.specs.BankScripts.{script_outcome}
 use Rattle.sfbank.specs.Differences.{TwoBanks, two_banks_of}
-use Rattle.sfbank.specs.Plans.{Action, Why, Rejected, Saves, Prints, Text, Difference, points_of, unless, with_difference}
-use Rattle.sfbank.specs.Plans as plans
+use Rattle.sfbank.specs.PlanParts.{Action, Why, Rejected, Saves, Prints, Text, Difference, points_of, unless}
+use Rattle.sfbank.specs.PlanParts.{with_difference}
+use Rattle.sfbank.specs.PlanParts as plans
 use Rattle.sfbank.specs.ScriptFiles.{RunsScript, Leads, DifferencesLead, ScriptsLead}
 use Rattle.sfbank.specs.UndoneFiles.{IsApplied}
 use Rattle.sfbank.proofs.Neutral.{of_every}

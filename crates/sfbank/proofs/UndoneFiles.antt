@@ -23,14 +23,16 @@ use Rattle.program_reports.specs.declared.run_fault.RunFault.{RunFault}
 use Rattle.sfbank.specs.Outcome.{Done, bank_in, edits_of, outcome, play_outcome}
 use Rattle.sfbank.specs.EditRuns.{after_lines, outcome_of}
 use Rattle.sfbank.specs.declared.program.recorded.RecordingWork.{RecordingWork}
-use Rattle.sfbank.specs.Plans.{Inputs, Why, Rejected, SavesBoth, Known, unless, with_both}
+use Rattle.sfbank.specs.PlanParts.{Inputs, Why, Rejected, SavesBoth, Known, unless, with_both}
 use Rattle.sfbank.specs.UndoneFiles.{IsApplied, IsRecorded, ArePlaced, RunsOn, IsRestored}
-use Rattle.sfbank.specs.UndoneFiles.{UndoRestoresFiles, UndoRemovesRecordings, UndoRestoresPlans, UndoEndsSessions}
+use Rattle.sfbank.specs.UndoneFiles.{UndoRestoresFiles, UndoRemovesRecordings, UndoRemovesKits, UndoRestoresPlans}
+use Rattle.sfbank.specs.UndoneFiles.{UndoEndsSessions}
 use Rattle.sfbank.specs.Purposes.{promise_of}
 use Rattle.sfbank.specs.SavedBanks.{SavedUndoRestores}
 use Rattle.sfbank.specs.Recordings.{change_of, recording_outcome}
 use Rattle.sfbank.proofs.Neutral.{of_every, of_neutral, neutrally_restores}
 use Rattle.sfbank.proofs.Restores.{restores, reading_done}
+use Rattle.sfbank.proofs.KitRuns.{kit_adds, kit_read, kit_restores}
 use Rattle.sfbank.proofs.Recordings.{destination_fits, recording_read, recording_restores}
 use Rattle.sfbank.proofs.PlannedEdits.{no_fault, plan_is_undone}
 use Rattle.sfbank.proofs.RenderLaws.{played_on_canon}
@@ -198,7 +200,7 @@ recorded_outcome work request old new file wave done h =
     let rest = with_both p.out.now p.undo.now result in
     let no_bank = unless bank (Rejected p.undo.now HoldsBank) rest in
     let apart = unless undo (Rejected p.undo.now SameFile) no_bank in
-    let inputs : Inputs = record { first = Ok file; second = Ok wave } in
+    let inputs : Inputs = record { first = Ok file; second = Ok wave; others = [] } in
     both_done p.out.now p.undo.now result done
     (unless_done bank (Rejected p.undo.now HoldsBank) rest _
     (unless_done undo (Rejected p.undo.now SameFile) no_bank _
@@ -218,6 +220,20 @@ undo_removes_recordings work request second old left now new file wave other_fil
     (ok_same back _ (outcome done.out done.undo) gives
     (recording_restores change work.options file wave (destination_fits work.destination fits) key bytes wave_bytes done r
     edits was records changes))
+
+pub undo_removes_kits : UndoRemovesKits
+undo_removes_kits design options sources out undo second old left now new file other_file other_script done back bytes key
+    designed fits was saved placed every h =
+    let gives =
+    every_gives second out undo old left now new other_file other_script done back saved placed every h in
+    let kit = kit_adds design options sources file done was in
+    let leads =
+    kit_restores design options sources file key designed fits bytes done kit.recordings kit.edits was kit.read kit.changes in
+    let is : back ≡ record { out = canon (bank_in file); undo = texts_of kit.edits } =
+    ok_same back _ (outcome done.out done.undo) gives leads in
+    restored second now new file back.undo other_file other_script back bytes
+    (kit_read design options sources file done was) h.done
+    (is ∙ ap (λ (x : List ℕ). record { out = canon (bank_in file); undo = x }) (sym (ap (λ (d : Done). d.undo) is)))
 
 pub undo_restores_plans : UndoRestoresPlans
 undo_restores_plans purpose out undo second old left now new file other_file other_script done back found bytes saved placed

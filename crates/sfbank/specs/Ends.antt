@@ -1,5 +1,6 @@
 -- How a plan ends: what it leaves of the world of files, and what it prints.
-use Rattle.std.specs.Prelude.{◌≡◌, ◌⊎◌, ◌≤◌, ℕ, List, [], length, take, Option, Some, None, Result, Ok, Err, ⊤}
+use Rattle.std.specs.Prelude.{◌≡◌, ◌⊎◌, ◌≤◌, ℕ, List, [], length, take, string_bytes, Option, Some, None, Result, Ok, Err}
+use Rattle.std.specs.Prelude.{⊤}
 use Rattle.std.specs.Option.{option_map}
 use Rattle.std.specs.Io.KnownBytes.{Appends, Keeps}
 use Rattle.base_outputs.specs.declared.output_fault.OutputFault.TheVariants.{HoldsBank}
@@ -13,15 +14,17 @@ use Rattle.file_host.specs.declared.faults.Which.TheVariants as which
 use Rattle.program_commands.specs.declared.explain.Topic.{Topic}
 use Rattle.program_commands.specs.declared.explain.Topic.TheVariants.{Number, Name}
 use Rattle.program_reports.specs.declared.fault.Fault.{Fault}
-use Rattle.program_reports.specs.declared.fault.Fault.TheVariants.{NoNumber, NoName, File, Output, Run, PipeClosed}
+use Rattle.program_reports.specs.declared.fault.Fault.TheVariants.{NoNumber, NoName, File, Output, Run}
+use Rattle.program_reports.specs.declared.fault.Fault.TheVariants.{RowFile, RowRecording, PipeClosed}
 use Rattle.program_reports.specs.declared.run_fault.RunFault.TheVariants as run
 use Rattle.sfbank.specs.Outcome.{Done, bank_in}
 use Rattle.sfbank.specs.Differences.{IsDifference}
 use Rattle.sfbank.specs.Purposes.{Purpose, promise_of}
 use Rattle.sfbank.specs.Topics.{IsTopicText, IsUnexplained}
 use Rattle.sfbank.specs.PlannedEdits.{IsPlanned, IsScript}
-use Rattle.sfbank.specs.Plans.{Action, Content, Texts, Known, Found, Saves, SavesAll, SavesBoth, Prints, Plays}
-use Rattle.sfbank.specs.Plans.{Text, Difference, Edits, Explanation as Explains, Why, Rejected, Unread, Fails, standard_output}
+use Rattle.sfbank.specs.PlanParts.{Action, Content, Texts, Known, Found, Saves, SavesAll, SavesBoth, Prints, Plays}
+use Rattle.sfbank.specs.PlanParts.{Text, Difference, Edits, Explanation as Explains, Why, Rejected, Unread, Fails}
+use Rattle.sfbank.specs.PlanParts.{UnreadRow, FailsRow, standard_output}
 
 -- the world of files, and the bytes of the standard output
 pub record Outside : Type 0 where
@@ -169,6 +172,8 @@ IsEarly w planned (Run fault path) = planned ≡ Err (Fails path.now fault)
 IsEarly w planned (File path fault) = planned ≡ Err (Unread path.now fault)
 IsEarly w planned (Output HoldsBank path) = (planned ≡ Err (Rejected path.now HoldsBank)) ⊎ IsUnreadable w path.now
 IsEarly w planned (Output fault path) = planned ≡ Err (Rejected path.now fault)
+IsEarly w planned (RowFile row why) = planned ≡ Err (UnreadRow row.line (string_bytes row.path) why)
+IsEarly w planned (RowRecording row fault) = planned ≡ Err (FailsRow row.line (string_bytes row.path) fault)
 IsEarly w planned (NoNumber number) = PlansUnexplained planned (Number number)
 IsEarly w planned (NoName name) = PlansUnexplained planned (Name name)
 IsEarly w planned other = ⊥

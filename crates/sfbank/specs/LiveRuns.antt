@@ -15,7 +15,8 @@ use Rattle.program_commands.specs.declared.words.Request.TheVariants.{Live}
 use Rattle.program_reports.specs.declared.fault.Fault.{Fault}
 use Rattle.program_reports.specs.declared.fault.Fault.TheVariants.{File, Run, PipeClosed}
 use Rattle.program_reports.specs.declared.run_fault.RunFault.TheVariants as run
-use Rattle.sfbank.specs.Plans.{Action, Inputs, Why, AreInputs, Plays, plan, standard_output}
+use Rattle.sfbank.specs.PlanParts.{Action, Inputs, Why, Plays, standard_output}
+use Rattle.sfbank.specs.Plans.{AreInputs, plan}
 use Rattle.sfbank.specs.Ends.{Outside, IsUntouched, IsEarly}
 
 -- a fault of this kind that names this path

@@ -10,7 +10,8 @@ use Rattle.program_commands.specs.declared.words.Request.{Request}
 use Rattle.program_commands.specs.declared.words.Request.TheVariants.{Live}
 use Rattle.program_reports.specs.declared.fault.Fault.{Fault}
 use Rattle.program_reports.specs.Reporting.{Ends, Reports, status_of}
-use Rattle.sfbank.specs.Plans.{Inputs, AreInputs, plan}
+use Rattle.sfbank.specs.PlanParts.{Inputs}
+use Rattle.sfbank.specs.Plans.{AreInputs, plan}
 use Rattle.sfbank.specs.Ends.{Outside, EndsFor}
 use Rattle.sfbank.specs.LiveRuns.{MeansLive}
 

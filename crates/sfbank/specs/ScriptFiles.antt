@@ -1,5 +1,5 @@
 -- On files: what `apply` makes of the scripts that `diff` and `script` saved.
-use Rattle.std.specs.Prelude.{◌≡◌, ℕ, List, Ok, true, false}
+use Rattle.std.specs.Prelude.{◌≡◌, ℕ, List, [], Ok, true, false}
 use Rattle.hydra_records.specs.Records.{AreBytes}
 use Rattle.bank_format.specs.Canon.{canon}
 use Rattle.file_host.specs.World.{World, held_at, file_at, stores_at, with_text}
@@ -10,13 +10,14 @@ use Rattle.program_commands.specs.declared.words.Forms.TheVariants.{Every}
 use Rattle.program_commands.specs.declared.words.Request.TheVariants.{Diff, Script}
 use Rattle.sfbank.specs.Outcome.{Done, bank_in, play_outcome}
 use Rattle.sfbank.specs.BankScripts.{start_of}
-use Rattle.sfbank.specs.Plans.{Saves, Text, Difference, plan}
+use Rattle.sfbank.specs.PlanParts.{Saves, Text, Difference}
+use Rattle.sfbank.specs.Plans.{plan}
 use Rattle.sfbank.specs.Ends.{IsContent}
 use Rattle.sfbank.specs.UndoneFiles.{IsApplied}
 
 -- `diff` of these paths was done on two files: it planned to save a difference, and saved this text.
 pub record IsCompared (paths : DiffPaths) (old new : World) (a b text : List ℕ) : Type 0 where
-  pub planned : plan (Diff paths) old (record { first = Ok a; second = Ok b })
+  pub planned : plan (Diff paths) old (record { first = Ok a; second = Ok b; others = [] })
       ≡ Ok (Saves paths.out.now (Difference a b))
   pub differs : IsContent (Difference a b) text
   pub files : new ≡ with_text paths.out.now text old
@@ -24,7 +25,7 @@ pub record IsCompared (paths : DiffPaths) (old new : World) (a b text : List ℕ
 -- `script` of these paths was done on a file, with the points of samples.
 pub record IsScriptedTo (paths : ScriptPaths) (old new : World) (file text : List ℕ) : Type 0 where
   pub points : paths.no_points ≡ false
-  pub planned : plan (Script paths) old (record { first = Ok file; second = Ok file })
+  pub planned : plan (Script paths) old (record { first = Ok file; second = Ok file; others = [] })
       ≡ Ok (Saves paths.out.now (Text text))
   pub files : new ≡ with_text paths.out.now text old
 

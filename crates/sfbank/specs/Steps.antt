@@ -32,7 +32,7 @@ use Rattle.script_notes.specs.Notes.{Numbers, notes_of}
 use Rattle.program_commands.specs.declared.plans.Zones.{Zones}
 use Rattle.sfbank.specs.Written.{FailsBefore}
 use Rattle.sfbank.specs.declared.program.checks.EditPaths.{EditPaths}
-use Rattle.sfbank.specs.Plans.{Action, Inputs, Why, apart, no_bank, with_input}
+use Rattle.sfbank.specs.PlanParts.{Action, Inputs, Why, apart, no_bank, with_input}
 use Rattle.sfbank.specs.Ends.{IsEarly}
 
 -- a part of a plan that comes before the rest of it
@@ -97,7 +97,7 @@ pub record StopsInInputs (world : Option World) (first second : List ℕ) (fault
 abbrev pub ReadsTwo : {X Y : Type 0} → (X → List ℕ) → (Y → List ℕ) → Option World → Option World → List ℕ → List ℕ
     → Result (X × Y) Fault → Type 0
 ReadsTwo view other old new first second (Ok both) =
-    AreGiven old first second (record { first = Ok (view both.0); second = Ok (other both.1) }) × (new ≡ old)
+    AreGiven old first second (record { first = Ok (view both.0); second = Ok (other both.1); others = [] }) × (new ≡ old)
 ReadsTwo view other old new first second (Err fault) = StopsInInputs old first second fault × (new ≡ old)
 
 -- a file reads as this bank
@@ -127,9 +127,9 @@ ReadsRecording view options file wave (Ok x) =
 ReadsRecording view options file wave (Err fault) =
     (change : Change) → FailsBefore fault (recording_outcome change options file wave)
 
--- the edits of a change, of which there are few, or its fault
+-- the edits of a change, or its fault
 abbrev pub IsChange : {X : Type 0} → (X → List Edit) → Result (List Edit) RunFault → Result X RunFault → Type 0
-IsChange view change (Ok x) = (change ≡ Ok (view x)) × (length (view x) ≤ 10)
+IsChange view change (Ok x) = change ≡ Ok (view x)
 IsChange view change (Err fault) = FailsBefore fault change
 
 -- two banks, the second to copy presets of, or the fault of any plan for them

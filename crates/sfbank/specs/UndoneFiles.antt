@@ -1,5 +1,5 @@
 -- On files: what `apply` restores of a bank and an undo script that were saved.
-use Rattle.std.specs.Prelude.{◌≡◌, ◌≢◌, ℕ, List, Some, None, Ok, true}
+use Rattle.std.specs.Prelude.{◌≡◌, ◌≢◌, ℕ, List, [], Some, None, Ok, true}
 use Rattle.hydra_records.specs.Records.{AreBytes}
 use Rattle.bank_parts.specs.declared.parts.Parts.{Parts}
 use Rattle.bank_format.specs.Canon.{canon}
@@ -13,6 +13,7 @@ use Rattle.inverse_edits.specs.Histories.{IsHistory, bank_now, undo_edits}
 use Rattle.live_sessions.specs.Saved.{saved_of}
 use Rattle.live_sessions.specs.Steps.{started_with}
 use Rattle.live_sessions.specs.Turns.{Turn, AreTurns}
+use Rattle.wave_file.specs.declared.options.ReadOptions.{ReadOptions}
 use Rattle.wave_file.specs.declared.recording.Recording.{Recording}
 use Rattle.wave_file.specs.Recordings.{FitsKey}
 use Rattle.wave_file.specs.ReadChecks.{recording_in}
@@ -23,16 +24,18 @@ use Rattle.program_commands.specs.declared.words.Request.TheVariants.{Apply}
 use Rattle.sfbank.specs.Outcome.{Done, bank_in, edits_of, play_outcome}
 use Rattle.sfbank.specs.declared.program.recorded.RecordingWork.{RecordingWork}
 use Rattle.sfbank.specs.Recordings.{FitsDestination, change_of}
+use Rattle.sfbank.specs.Kits.{Design, FitSources, FitsDesign, Source, kit_outcome}
 use Rattle.sfbank.specs.RecordingPlans.{RecordsBy}
 use Rattle.sfbank.specs.Purposes.{Purpose, promise_of}
 use Rattle.sfbank.specs.PlannedEdits.{IsPlanned}
-use Rattle.sfbank.specs.Plans.{SavesBoth, Known, plan}
+use Rattle.sfbank.specs.PlanParts.{SavesBoth, Known}
+use Rattle.sfbank.specs.Plans.{plan}
 
 -- `apply` of these paths was done on files: it read two files, planned to save two texts, and saved them.
 pub record IsApplied (paths : ApplyPaths) (old new : World) (file script : List ℕ) (done : Done) : Type 0 where
   pub read : file_at old paths.input.now ≡ Ok file
   pub read_script : file_at old paths.script.now ≡ Ok script
-  pub planned : plan (Apply paths) old (record { first = Ok file; second = Ok script })
+  pub planned : plan (Apply paths) old (record { first = Ok file; second = Ok script; others = [] })
       ≡ Ok (SavesBoth paths.out.now paths.undo.now (Known done))
   pub files : new ≡ with_pair paths.undo.now done.undo paths.out.now done.out old
 
@@ -42,7 +45,7 @@ pub record IsRecorded (work : RecordingWork) (request : Request) (old new : Worl
   pub records : RecordsBy work request
   pub read : file_at old work.paths.input.now ≡ Ok file
   pub read_wave : file_at old work.paths.other.now ≡ Ok wave
-  pub planned : plan request old (record { first = Ok file; second = Ok wave })
+  pub planned : plan request old (record { first = Ok file; second = Ok wave; others = [] })
       ≡ Ok (SavesBoth work.paths.out.now work.paths.undo.now (Known done))
   pub files : new ≡ with_pair work.paths.undo.now done.undo work.paths.out.now done.out old
 
@@ -91,6 +94,18 @@ UndoRemovesRecordings =
     → ArePlaced old work.paths.out.now work.paths.undo.now → second.forms ≡ Every
     → RunsOn second work.paths.out.now work.paths.undo.now left now new other_file other_script back
     → IsRestored second now new file (texts_of edits) back
+
+-- the same for several recordings, and an instrument of them and a preset
+abbrev pub UndoRemovesKits : Type 0
+UndoRemovesKits =
+    (design : Design) (options : ReadOptions) (sources : List Source) (out undo : List ℕ) (second : ApplyPaths)
+    (old left now new : World) (file other_file other_script : List ℕ) (done back : Done)
+    → AreBytes file → FitsKey options.key → FitsDesign design → FitSources sources
+    → kit_outcome design options sources file ≡ Ok done
+    → left ≡ with_pair undo done.undo out done.out old
+    → ArePlaced old out undo → second.forms ≡ Every
+    → RunsOn second out undo left now new other_file other_script back
+    → IsRestored second now new file back.undo back
 
 -- the same for edits that were found: they are on the last undo script
 abbrev pub UndoRestoresPlans : Type 0

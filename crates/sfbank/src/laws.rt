@@ -3,7 +3,7 @@ ghost use Rattle.sfbank.specs.BankScripts.{RemadeRendersSame, ScriptsDistinguish
 ghost use Rattle.sfbank.specs.PlannedEdits.{PlayedRendersSame};
 ghost use Rattle.sfbank.specs.SavedBanks.{SavedUndoRestores};
 ghost use Rattle.sfbank.specs.ScriptFiles.{DifferencesLead, ScriptsLead};
-ghost use Rattle.sfbank.specs.UndoneFiles.{UndoEndsSessions, UndoRemovesRecordings, UndoRestoresFiles, UndoRestoresPlans};
+ghost use Rattle.sfbank.specs.UndoneFiles.{UndoEndsSessions, UndoRemovesKits, UndoRemovesRecordings, UndoRestoresFiles, UndoRestoresPlans};
 
 use live_sessions::saved_undo_leads_back;
 
@@ -30,6 +30,8 @@ pub fn undo_restores_files()
     ensures apply { UndoRestoresFiles }
     // They were saved by `import` or `replace`: the last undo script has the edits of the recording.
     ensures import { UndoRemovesRecordings }
+    // They were saved by `import` of several recordings.
+    ensures kits { UndoRemovesKits }
     // They were saved by a command that found edits: the last undo script has these edits.
     ensures plans { UndoRestoresPlans }
     // They were saved by a live session, at any time.

@@ -10,6 +10,7 @@ mod copied_members;
 mod diff;
 mod edit;
 mod edited_bank;
+mod kits;
 mod laws;
 mod map;
 mod new;
@@ -31,6 +32,9 @@ pub use canon::canon_run;
 pub use diff::diff_run;
 pub use edit::{edit_run, edit_run_with_progress, neutral_run};
 pub use file_host::Which;
+pub use kit_edits::{KitMembers, KitPreset};
+pub use kit_tables::KitZone;
+pub use kits::{KitWave, kit_run};
 pub use laws::{
     kept_notes_render_same, remade_banks_render_same, saved_scripts_lead, saved_undo_restores,
     scripts_distinguish_banks, undo_restores_files,

@@ -12,6 +12,9 @@ mod explain;
 mod import;
 mod inputs;
 mod keep;
+mod kits;
+mod listed;
+mod listing;
 mod live;
 mod map;
 mod merge;
@@ -39,6 +42,7 @@ use file_host::Host;
 use import::import;
 use inputs::remark_on_input;
 use keep::keep;
+use kits::import_kit;
 use live::live;
 use map::map;
 use merge::merge;
@@ -185,6 +189,7 @@ fn serve<'a, H: Host, I: Read, O: Write + KnowsError, P: Progress>(
         Request::Diff(paths) => diff(host, alloc, paths, output),
         Request::Explain(topic) => explain(alloc, topic, output),
         Request::Import(paths) => import(host, alloc, paths),
+        Request::ImportKit(paths) => import_kit(host, alloc, paths, remarks),
         Request::Keep(paths) => keep(host, alloc, paths, output, remarks),
         Request::Live(paths) => live(host, alloc, paths, input, output, remarks, progress),
         Request::Map(paths) => map(host, alloc, paths, output),

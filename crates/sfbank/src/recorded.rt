@@ -1,5 +1,5 @@
 //! Brings a WAVE file into a bank: as new samples, or in the place of a sample.
-ghost use Rattle.std.specs.Prelude.{◌≡◌, ◌≤◌, length, Ok, IfOk};
+ghost use Rattle.std.specs.Prelude.{◌≡◌, Ok, IfOk};
 ghost use Rattle.edit_script.specs.Printing.{numbered};
 ghost use Rattle.wave_file.specs.Imports.{sides_of};
 ghost use Rattle.wave_file.specs.Recordings.{FitsKey};
@@ -102,8 +102,8 @@ pub fn replace_run<W: Write, V: Write>(
     record(alloc, file, wave, options, destination, out, undo)
 }
 
-// Proves that a key is a byte. It does nothing at run time.
-fn key_fits(key: Option<u8>)
+/// Proves that a key is a byte. It does nothing at run time.
+pub(crate) fn key_fits(key: Option<u8>)
     ensures { FitsKey key }
 {
     match key {
@@ -209,13 +209,12 @@ fn fault_of_replacement(fault: ReplaceFault) -> RunFault
     }
 }
 
-// Applies edits as the lines of a script, numbered from 1. Writes nothing.
-fn apply_numbered<'a>(
+/// Applies edits as the lines of a script, numbered from 1. Writes nothing.
+pub(crate) fn apply_numbered<'a>(
     alloc: Global,
     mut bank: Bank<'a>,
     edits: Vec<Edit<'a>>,
 ) -> Result<EditedBank<'a>, RunFault>
-    requires { length edits.items ≤ 10 }
     ensures { Prepared texts_of_bank (after_script bank.entry (Ok (numbered 1 edits.entry.items))) result }
 {
     let lines = numbered_lines(alloc, edits)?;
@@ -226,14 +225,13 @@ fn apply_numbered<'a>(
 
 // Numbers edits as the lines of a script, from 1.
 fn numbered_lines<'a>(alloc: Global, edits: Vec<Edit<'a>>) -> Result<Vec<Line<'a>>, OutOfMemory>
-    requires { length edits.items ≤ 10 }
     ensures { IfOk result (λ lines. lines.items ≡ numbered 1 edits.entry.items) }
 {
     let mut lines = Vec::new(alloc);
-    let mut number = 1;
+    let mut number = 0;
     for edit in edits {
-        lines.push(Line { number, edit })?;
         number += 1;
+        lines.push(Line { number, edit })?;
     }
     Ok(lines)
 }

@@ -2,7 +2,7 @@
 ghost use Rattle.std.specs.Prelude.{Option, List, ℕ};
 ghost use Rattle.program_commands.specs.declared.words.Request.TheVariants.{Apply, ApplyOnly};
 ghost use Rattle.sfbank.specs.EditRuns.{outcome_of};
-ghost use Rattle.sfbank.specs.Plans.{with_both, with_text, without_undo};
+ghost use Rattle.sfbank.specs.PlanParts.{with_both, with_text, without_undo};
 ghost use Rattle.sfbank.specs.Ends.{EndsFor};
 ghost use Rattle.sfbank.specs.Meanings.{Means};
 

@@ -1,7 +1,7 @@
 //! Checks of output paths, before anything is read.
 ghost use Rattle.std.specs.Prelude.{◌≡◌, ◌||◌, map};
 ghost use Rattle.file_host.specs.Checks.{is_one_file};
-ghost use Rattle.sfbank.specs.Plans.{apart, both_apart, no_bank, script_apart, undo_apart};
+ghost use Rattle.sfbank.specs.PlanParts.{apart, both_apart, no_bank, script_apart, undo_apart};
 ghost use Rattle.sfbank.specs.Steps.{Passes, edit_part, undo_part, fault_of_check};
 
 use base_outputs::OutputFault;

@@ -1,7 +1,7 @@
 //! The command `diff`.
 ghost use Rattle.program_commands.specs.declared.words.Request.TheVariants.{Diff};
 ghost use Rattle.sfbank.specs.Differences.{two_banks_of};
-ghost use Rattle.sfbank.specs.Plans.{with_difference};
+ghost use Rattle.sfbank.specs.PlanParts.{with_difference};
 ghost use Rattle.sfbank.specs.Ends.{EndsFor};
 ghost use Rattle.sfbank.specs.Meanings.{Means};
 

@@ -44,6 +44,7 @@ pub(super) fn read_two<'a, H: Host>(
 pub(super) fn remark_on_input(end: &Result<(), Fault<'_>>, remarks: &mut Remarks) {
     match end {
         Err(Fault::File(path, _)) => remark_on_path(path.as_bytes(), remarks),
+        Err(Fault::RowFile(row, _)) => remark_on_path(row.path.as_bytes(), remarks),
         _ => {}
     }
 }

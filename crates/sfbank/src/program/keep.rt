@@ -5,7 +5,7 @@ ghost use Rattle.program_commands.specs.declared.plans.Kept.TheVariants as kept;
 ghost use Rattle.program_commands.specs.declared.words.Request.TheVariants as request;
 ghost use Rattle.sfbank.specs.Outcome.{after_reading, bank_in};
 ghost use Rattle.sfbank.specs.Purposes.{keeping_listed, keeping_of, keeping_played};
-ghost use Rattle.sfbank.specs.Plans.{edits_at, with_edits};
+ghost use Rattle.sfbank.specs.PlanParts.{edits_at, with_edits};
 ghost use Rattle.sfbank.specs.Ends.{EndsFor};
 ghost use Rattle.sfbank.specs.Meanings.{Means};
 ghost use Rattle.sfbank.specs.Steps.{IsReadAs};

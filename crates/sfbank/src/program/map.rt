@@ -1,7 +1,7 @@
 //! The command `map`.
 ghost use Rattle.program_commands.specs.declared.words.Request.TheVariants.{Map};
 ghost use Rattle.sfbank.specs.Maps.{map_outcome};
-ghost use Rattle.sfbank.specs.Plans.{with_text};
+ghost use Rattle.sfbank.specs.PlanParts.{with_text};
 ghost use Rattle.sfbank.specs.Ends.{EndsFor};
 ghost use Rattle.sfbank.specs.Meanings.{Means};
 

@@ -1,7 +1,7 @@
 //! The command `new`.
 ghost use Rattle.program_commands.specs.declared.words.Request.TheVariants.{New};
 ghost use Rattle.sfbank.specs.NewBanks.{new_outcome};
-ghost use Rattle.sfbank.specs.Plans.{with_text};
+ghost use Rattle.sfbank.specs.PlanParts.{with_text};
 ghost use Rattle.sfbank.specs.Ends.{EndsFor};
 ghost use Rattle.sfbank.specs.Meanings.{Means};
 

@@ -1,6 +1,6 @@
 //! Outputs: files that are saved whole, and the standard output.
 ghost use Rattle.std.specs.Prelude.{◌≡◌, Ok};
-ghost use Rattle.sfbank.specs.Plans.{Content, put_at, standard_output};
+ghost use Rattle.sfbank.specs.PlanParts.{Content, put_at, standard_output};
 ghost use Rattle.sfbank.specs.Prepared.{texts_of_bank};
 ghost use Rattle.sfbank.specs.Ends.{EndsFor, IsContent, path_of};
 ghost use Rattle.sfbank.specs.Outputs.{PrintsAt, SavesAt, SavesPairAt, write_fault};

@@ -4,7 +4,7 @@ ghost use Rattle.bank_edits.specs.Runs.{AllAccepted};
 ghost use Rattle.bank_format.specs.ReadChecks.{fault_of};
 ghost use Rattle.sfbank.specs.Outcome.{after_reading, both_texts};
 ghost use Rattle.sfbank.specs.Purposes.{Purpose, Serves, promise_of};
-ghost use Rattle.sfbank.specs.Plans.{SavesAll, edits_at, with_edits};
+ghost use Rattle.sfbank.specs.PlanParts.{SavesAll, edits_at, with_edits};
 ghost use Rattle.sfbank.specs.Ends.{EndsFor};
 ghost use Rattle.sfbank.specs.Outputs.{SavesPairAt};
 ghost use Rattle.sfbank.specs.Steps.{IsReadAs};

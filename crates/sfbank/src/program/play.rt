@@ -1,7 +1,7 @@
 //! The command `play`.
 ghost use Rattle.program_commands.specs.declared.words.Request.TheVariants.{Play};
 ghost use Rattle.sfbank.specs.Outcome.{play_outcome};
-ghost use Rattle.sfbank.specs.Plans.{with_text};
+ghost use Rattle.sfbank.specs.PlanParts.{with_text};
 ghost use Rattle.sfbank.specs.Ends.{EndsFor};
 ghost use Rattle.sfbank.specs.Meanings.{Means};
 ghost use Rattle.sfbank.specs.Steps.{Passes, play_part};

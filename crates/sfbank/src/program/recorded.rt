@@ -2,7 +2,7 @@
 ghost use Rattle.std.specs.Prelude.{Option, List, ℕ};
 ghost use Rattle.program_commands.specs.declared.words.Request.{Request};
 ghost use Rattle.sfbank.specs.Recordings.{change_of, recording_outcome};
-ghost use Rattle.sfbank.specs.Plans.{with_both};
+ghost use Rattle.sfbank.specs.PlanParts.{with_both};
 ghost use Rattle.sfbank.specs.Ends.{EndsFor};
 ghost use Rattle.sfbank.specs.Meanings.{MeansPlan};
 ghost use Rattle.sfbank.specs.RecordingPlans.{RecordsBy};

@@ -2,7 +2,7 @@
 ghost use Rattle.program_commands.specs.declared.words.Request.TheVariants.{Script};
 ghost use Rattle.std.specs.Prelude.{◌≡◌};
 ghost use Rattle.sfbank.specs.BankScripts.{script_outcome};
-ghost use Rattle.sfbank.specs.Plans.{points_of, with_text};
+ghost use Rattle.sfbank.specs.PlanParts.{points_of, with_text};
 ghost use Rattle.sfbank.specs.Ends.{EndsFor};
 ghost use Rattle.sfbank.specs.Meanings.{Means};
 

@@ -2,7 +2,7 @@
 ghost use Rattle.std.specs.Prelude.{◌≡◌, ◌||◌, Ok};
 ghost use Rattle.show_listing.specs.Details.{detailed_listing};
 ghost use Rattle.program_commands.specs.declared.words.Request.TheVariants.{Show};
-ghost use Rattle.sfbank.specs.Plans.{details_of, listing_outcome};
+ghost use Rattle.sfbank.specs.PlanParts.{details_of, listing_outcome};
 ghost use Rattle.sfbank.specs.Meanings.{Means};
 ghost use Rattle.sfbank.specs.Outputs.{PrintsOutcome};
 

@@ -1,7 +1,7 @@
 //! The command `tidy`.
 ghost use Rattle.program_commands.specs.declared.words.Request.TheVariants as request;
 ghost use Rattle.sfbank.specs.Purposes.{tidying};
-ghost use Rattle.sfbank.specs.Plans.{with_edits};
+ghost use Rattle.sfbank.specs.PlanParts.{with_edits};
 ghost use Rattle.sfbank.specs.Ends.{EndsFor};
 ghost use Rattle.sfbank.specs.Meanings.{Means};
 

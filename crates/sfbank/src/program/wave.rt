@@ -1,7 +1,7 @@
 //! The command `wave`.
 ghost use Rattle.program_commands.specs.declared.words.Request.TheVariants.{Wave};
 ghost use Rattle.sfbank.specs.Recordings.{pair_outcome, wave_outcome};
-ghost use Rattle.sfbank.specs.Plans.{export_outcome, with_text};
+ghost use Rattle.sfbank.specs.PlanParts.{export_outcome, with_text};
 ghost use Rattle.sfbank.specs.Ends.{EndsFor};
 ghost use Rattle.sfbank.specs.Meanings.{Means};
 

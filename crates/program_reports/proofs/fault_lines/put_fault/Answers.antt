@@ -64,3 +64,11 @@ returns-in-Presets g c = rw c.in-Presets.is c.put_preset_fault.ensures
 pub returns-in-Full : goal.returns-in-Full
 unfolding fault_line
 returns-in-Full g c = rw c.in-Full.is c.put_full.ensures
+
+pub returns-in-Table : goal.returns-in-Table
+unfolding fault_line
+returns-in-Table g c = rw c.in-Table.is c.put_table_fault.ensures
+
+pub returns-in-InRecording : goal.returns-in-InRecording
+unfolding fault_line
+returns-in-InRecording g c = rw c.in-InRecording.is c.put_in_recording.ensures

@@ -33,3 +33,11 @@ returns-in-Words g c = rw c.in-Words.is (puts_nothing c.args.output.now)
 pub returns-in-PipeClosed : goal.returns-in-PipeClosed
 unfolding line_of
 returns-in-PipeClosed g c = rw c.in-PipeClosed.is (puts_nothing c.args.output.now)
+
+pub returns-in-RowFile : goal.returns-in-RowFile
+unfolding line_of
+returns-in-RowFile g c = rw c.in-RowFile.is c.put_row_file.ensures
+
+pub returns-in-RowRecording : goal.returns-in-RowRecording
+unfolding line_of
+returns-in-RowRecording g c = rw c.in-RowRecording.is c.put_row_recording.ensures

@@ -1,4 +1,5 @@
-use Rattle.sfbank.proofs.UndoneFiles.{undo_restores_files, undo_removes_recordings, undo_restores_plans, undo_ends_sessions}
+use Rattle.sfbank.proofs.UndoneFiles.{undo_restores_files, undo_removes_kits, undo_removes_recordings}
+use Rattle.sfbank.proofs.UndoneFiles.{undo_restores_plans, undo_ends_sessions}
 use Rattle.sfbank.proofs.laws.undo_restores_files.Goals as goal
 
 pub returns-clause-apply : goal.returns-clause-apply
@@ -6,6 +7,9 @@ returns-clause-apply c = undo_restores_files
 
 pub returns-clause-import : goal.returns-clause-import
 returns-clause-import c = undo_removes_recordings
+
+pub returns-clause-kits : goal.returns-clause-kits
+returns-clause-kits c = undo_removes_kits
 
 pub returns-clause-plans : goal.returns-clause-plans
 returns-clause-plans c = undo_restores_plans

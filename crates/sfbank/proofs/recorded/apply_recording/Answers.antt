@@ -3,11 +3,8 @@ use Rattle.sfbank.specs.Recordings.{after_edits, change_of}
 use Rattle.sfbank.proofs.Endings.{fails_through}
 use Rattle.sfbank.proofs.recorded.apply_recording.Goals as goal
 
-pub apply_numbered-requires : goal.apply_numbered-requires
-apply_numbered-requires c = c.in-Ok.ensures.1
-
 pub returns-in-Ok : goal.returns-in-Ok
-returns-in-Ok c = rw (ap (after_edits c.args.bank) c.in-Ok.ensures.0) c.apply_numbered.ensures
+returns-in-Ok c = rw (ap (after_edits c.args.bank) c.in-Ok.ensures) c.apply_numbered.ensures
 
 pub returns : goal.returns
 returns c =

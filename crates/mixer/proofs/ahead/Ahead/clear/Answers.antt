@@ -16,17 +16,17 @@ returns-clause-silent c =
     let middle_size : length middle ≡ n = c.fill-2.ensures.len ∙ length-middle n was.middle c.requires (omega arith) in
     let side : (i : ℕ) → i < 2 * n
     → get_or
-    (take (2 * (512 - n)) was.sides
-    ++ (sides ++ drop (1024 - 2 * (512 - n)) (drop (2 * (512 - n)) was.sides)))
-    (1024 - 2 * n + i) (pos 0)
+    (take (2 * (1024 - n)) was.sides
+    ++ (sides ++ drop (2048 - 2 * (1024 - n)) (drop (2 * (1024 - n)) was.sides)))
+    (2048 - 2 * n + i) (pos 0)
     ≡ pos 0 =
     λ i l.
     let h : i < length sides = omega (arith, l, sides_size) in
     sides_written n was.sides sides _ i c.requires (omega arith) h
     ∙ (let zero : get_or sides i (pos 0) ≡ pos 0 = search (rules, places) in zero) in
     let both : (k : ℕ) → k < n
-    → get_or (take (512 - n) was.middle ++ (middle ++ drop (512 - (512 - n)) (drop (512 - n) was.middle)))
-    (512 - n + k) (pos 0)
+    → get_or (take (1024 - n) was.middle ++ (middle ++ drop (1024 - (1024 - n)) (drop (1024 - n) was.middle)))
+    (1024 - n + k) (pos 0)
     ≡ pos 0 =
     λ k l.
     let h : k < length middle = omega (arith, l, middle_size) in

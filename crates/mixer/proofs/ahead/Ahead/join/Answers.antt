@@ -43,9 +43,9 @@ returns-clause-sums c ps h =
     let here : i < length sides = omega (arith, l, sides_size) in
     let half : i / 2 < length middle = omega (arith, l, middle_size) in
     let both : i / 2 < a.left = omega (arith, l) in
-    (λ j. sides_written a.left a.sides sides (drop (1024 - 2 * (512 - a.left))
-    (drop (2 * (512 - a.left)) a.sides)) i most (omega arith) here j
-    +ℤ middle_written a.left a.middle middle (drop (512 - (512 - a.left)) (drop (512 - a.left) a.middle)) (i / 2)
+    (λ j. sides_written a.left a.sides sides (drop (2048 - 2 * (1024 - a.left))
+    (drop (2 * (1024 - a.left)) a.sides)) i most (omega arith) here j
+    +ℤ middle_written a.left a.middle middle (drop (1024 - (1024 - a.left)) (drop (1024 - a.left) a.middle)) (i / 2)
     most (omega arith) half j)
     ∙ c.add_voices.ensures.value i here
     ∙ (λ j. sides_borrowed a.left a.sides i most l j +ℤ middle_borrowed a.left a.middle (i / 2) most both j +ℤ total_at qs i))

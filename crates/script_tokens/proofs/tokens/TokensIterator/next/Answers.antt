@@ -1,22 +1,14 @@
-use Rattle.std.proofs.Common.{◌∙◌, sym, ap}
-use Rattle.script_tokens.specs.Tokens.{token_at}
-use Rattle.script_tokens.proofs.LexLaws.{tokens_end, tokens_front, tokens_nothing, blanks_gone, fewer}
+use Rattle.std.proofs.Common.{◌∙◌, sym}
+use Rattle.script_tokens.proofs.LexLaws.{tokens_end, tokens_front, tokens_nothing, fewer}
 use Rattle.script_tokens.proofs.tokens.TokensIterator.next.Goals as goal
 
 pub returns-in-Some-clause-steps : goal.returns-in-Some-clause-steps
-returns-in-Some-clause-steps c =
-    sym c.self.view_is
-    ∙ tokens_front c.self.inside.rest.now _
-    (ap token_at (blanks_gone _ _ _ c.blanks_before-blanks.ensures c.rest_from.ensures) ∙ c.in-Some.ensures)
+returns-in-Some-clause-steps c = sym c.self.view_is ∙ tokens_front c.self.inside.rest.now _ c.in-Some.ensures
 
 pub returns-in-Some-clause-goes : goal.returns-in-Some-clause-goes
 returns-in-Some-clause-goes c =
     record { on = λ _. (tt, tt, fewer _ _ _ (returns-in-Some-clause-steps c)); keeps = tt; rests = λ _. tt }
 
 pub returns-in-None-clause-steps : goal.returns-in-None-clause-steps
-returns-in-None-clause-steps c = (
-  sym c.self.view_is
-      ∙ tokens_end c.self.inside.rest.now
-      (ap token_at (blanks_gone _ _ _ c.blanks_before-blanks.ensures c.rest_from.ensures) ∙ c.in-None.ensures),
-  tokens_nothing,
-)
+returns-in-None-clause-steps c =
+    (sym c.self.view_is ∙ tokens_end c.self.inside.rest.now c.in-None.ensures, tokens_nothing)

@@ -1,6 +1,6 @@
 use Rattle.std.proofs.Common.{◌∙◌, ap, refl}
 use Rattle.sfbank.specs.EditRuns.{outcome_of}
-use Rattle.sfbank.specs.Plans.{Text, without_undo}
+use Rattle.sfbank.specs.PlanParts.{Text, without_undo}
 use Rattle.sfbank.proofs.Faults.{at_bank}
 use Rattle.sfbank.proofs.OutcomeLaws.{only_fails, text_put}
 use Rattle.sfbank.proofs.program.apply.put_edited.Goals as goal

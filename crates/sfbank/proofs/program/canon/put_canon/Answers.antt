@@ -1,7 +1,7 @@
 use Rattle.std.proofs.Common.{refl}
 use Rattle.sfbank.specs.Outcome.{canon_outcome}
 use Rattle.sfbank.proofs.OneText.{canon_text}
-use Rattle.sfbank.specs.Plans.{Text}
+use Rattle.sfbank.specs.PlanParts.{Text}
 use Rattle.sfbank.proofs.OutcomeLaws.{text_put, text_fails}
 use Rattle.sfbank.proofs.CommandLaws.{canon_fails}
 use Rattle.sfbank.proofs.program.canon.put_canon.Goals as goal

@@ -1,5 +1,5 @@
 use Rattle.std.proofs.Common.{◌∷◌, []}
-use Rattle.sfbank.specs.Plans.{apart}
+use Rattle.sfbank.specs.PlanParts.{apart}
 use Rattle.sfbank.specs.Steps.{undo_part}
 use Rattle.sfbank.proofs.PlanLaws.{both_pass, first_fails}
 use Rattle.sfbank.proofs.program.checks.reject_outputs.Goals as goal

@@ -1,5 +1,5 @@
 use Rattle.std.proofs.Common.{◌∷◌, []}
-use Rattle.sfbank.specs.Plans.{apart, no_bank, script_apart}
+use Rattle.sfbank.specs.PlanParts.{apart, no_bank, script_apart}
 use Rattle.sfbank.proofs.PlanLaws.{both_pass, first_fails}
 use Rattle.sfbank.proofs.program.checks.reject_undo_of_plan.Goals as goal
 

@@ -1,5 +1,5 @@
 use Rattle.sfbank.proofs.OutcomeLaws.{difference_put, difference_fails}
-use Rattle.sfbank.specs.Plans.{Difference}
+use Rattle.sfbank.specs.PlanParts.{Difference}
 use Rattle.sfbank.specs.Prepared.{text_of_difference}
 use Rattle.sfbank.proofs.program.diff.put_difference.Goals as goal
 

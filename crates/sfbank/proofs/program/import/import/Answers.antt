@@ -2,7 +2,7 @@ use Rattle.std.proofs.Common.{◌≡◌, ◌∙◌, ℕ, List, Option, ap, refl,
 use Rattle.std.specs.Option.{option_map_or}
 use Rattle.program_commands.specs.declared.words.Request.TheVariants.{Import}
 use Rattle.sfbank.specs.Recordings.{import_outcome}
-use Rattle.sfbank.specs.Plans.{import_name, name_in, with_both, with_input}
+use Rattle.sfbank.specs.PlanParts.{import_name, name_in, with_both, with_input}
 use Rattle.sfbank.specs.Steps.{edit_part}
 use Rattle.sfbank.proofs.program.import.import.Goals as goal
 
@@ -15,7 +15,7 @@ returns-in-Some g c printed =
           (with_input p.input.now i.first
           (λ file. with_input p.wave.now i.second
           (λ wave. with_both p.out.now p.undo.now (import_outcome p.options (name j) file wave))));
-      inputs = λ w r s h k. (h, k);
+      inputs = λ w r s others h k. (h, k, tt);
     })
 
 pub returns-in-None : goal.returns-in-None
@@ -27,5 +27,5 @@ returns-in-None g c printed =
           (with_input p.input.now i.first
           (λ file. with_input p.wave.now i.second
           (λ wave. with_both p.out.now p.undo.now (import_outcome p.options (name j) file wave))));
-      inputs = λ w r s h k. (h, k);
+      inputs = λ w r s others h k. (h, k, tt);
     })

@@ -1,5 +1,5 @@
 use Rattle.std.proofs.Common.{◌∷◌, []}
-use Rattle.sfbank.specs.Plans.{apart, no_bank}
+use Rattle.sfbank.specs.PlanParts.{apart, no_bank}
 use Rattle.sfbank.proofs.PlanLaws.{both_pass, first_fails}
 use Rattle.sfbank.proofs.program.live.reject_frames.Goals as goal
 

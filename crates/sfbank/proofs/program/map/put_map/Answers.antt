@@ -1,6 +1,6 @@
 use Rattle.std.proofs.Common.{refl}
 use Rattle.sfbank.specs.Maps.{map_outcome}
-use Rattle.sfbank.specs.Plans.{Text}
+use Rattle.sfbank.specs.PlanParts.{Text}
 use Rattle.sfbank.proofs.OutcomeLaws.{text_put, text_fails}
 use Rattle.sfbank.proofs.program.map.put_map.Goals as goal
 

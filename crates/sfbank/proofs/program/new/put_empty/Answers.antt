@@ -1,7 +1,7 @@
 use Rattle.std.proofs.Common.{refl}
 use Rattle.program_reports.specs.declared.run_fault.RunFault.TheVariants as run
 use Rattle.sfbank.specs.NewBanks.{new_outcome}
-use Rattle.sfbank.specs.Plans.{Text}
+use Rattle.sfbank.specs.PlanParts.{Text}
 use Rattle.sfbank.proofs.OutcomeLaws.{text_fails}
 use Rattle.sfbank.proofs.program.new.put_empty.Goals as goal
 

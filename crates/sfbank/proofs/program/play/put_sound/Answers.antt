@@ -1,7 +1,7 @@
 use Rattle.std.proofs.Common.{refl}
 use Rattle.sfbank.specs.Outcome.{play_outcome}
 use Rattle.sfbank.proofs.RenderLaws.{fits_wave}
-use Rattle.sfbank.specs.Plans.{Text}
+use Rattle.sfbank.specs.PlanParts.{Text}
 use Rattle.sfbank.proofs.OutcomeLaws.{text_put, text_fails}
 use Rattle.sfbank.proofs.program.play.put_sound.Goals as goal
 

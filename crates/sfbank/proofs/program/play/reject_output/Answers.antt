@@ -1,6 +1,6 @@
 use Rattle.std.proofs.Common.{◌∷◌, [], ◌||◌}
 use Rattle.file_host.specs.Checks.{is_one_file}
-use Rattle.sfbank.specs.Plans.{apart, no_bank}
+use Rattle.sfbank.specs.PlanParts.{apart, no_bank}
 use Rattle.sfbank.proofs.PlanLaws.{both_pass, first_fails}
 use Rattle.sfbank.proofs.program.play.reject_output.Goals as goal
 

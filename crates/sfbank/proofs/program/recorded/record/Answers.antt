@@ -1,5 +1,5 @@
 use Rattle.sfbank.specs.Recordings.{change_of, recording_outcome}
-use Rattle.sfbank.specs.Plans.{with_both}
+use Rattle.sfbank.specs.PlanParts.{with_both}
 use Rattle.sfbank.specs.Steps.{edit_part}
 use Rattle.sfbank.proofs.PlanLaws.{after_two, checks_fail, two_go_on, two_fail}
 use Rattle.sfbank.proofs.program.recorded.record.Goals as goal

@@ -4,4 +4,4 @@ use Rattle.sfbank.proofs.program.replace.replace.Goals as goal
 
 pub returns : goal.returns
 returns g c printed =
-    c.record.ensures (Replace c.args.paths) printed (record { plans = λ w i. refl; inputs = λ w r s h k. (h, k) })
+    c.record.ensures (Replace c.args.paths) printed (record { plans = λ w i. refl; inputs = λ w r s others h k. (h, k, tt) })

@@ -1,8 +1,8 @@
 use Rattle.std.proofs.Common.{refl}
 use Rattle.sfbank.specs.BankScripts.{script_outcome}
-use Rattle.sfbank.specs.Plans.{points_of}
+use Rattle.sfbank.specs.PlanParts.{points_of}
 use Rattle.sfbank.proofs.BankScripts.{script_text}
-use Rattle.sfbank.specs.Plans.{Text}
+use Rattle.sfbank.specs.PlanParts.{Text}
 use Rattle.sfbank.proofs.OutcomeLaws.{text_put, text_fails}
 use Rattle.sfbank.proofs.CommandLaws.{script_fails}
 use Rattle.sfbank.proofs.program.script.put_script.Goals as goal

@@ -1,7 +1,7 @@
 use Rattle.std.proofs.Common.{◌∙◌, sym, inl, refl}
 use Rattle.std.proofs.KnownBytes.{Keeps-refl}
 use Rattle.show_listing.specs.Listing.{listing}
-use Rattle.sfbank.specs.Plans.{listing_outcome}
+use Rattle.sfbank.specs.PlanParts.{listing_outcome}
 use Rattle.sfbank.proofs.OutcomeLaws.{prints_same, prints_text}
 use Rattle.sfbank.proofs.CommandLaws.{listing_fails, listing_is_plain, listing_is_detailed}
 use Rattle.sfbank.proofs.program.show.print_listing.Goals as goal

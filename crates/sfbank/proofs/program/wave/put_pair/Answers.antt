@@ -1,5 +1,5 @@
 use Rattle.std.proofs.Common.{refl, ◌∙◌}
-use Rattle.sfbank.specs.Plans.{Text}
+use Rattle.sfbank.specs.PlanParts.{Text}
 use Rattle.sfbank.specs.Recordings.{pair_outcome}
 use Rattle.sfbank.proofs.Recordings.{few_points, pair_on, pair_not_found}
 use Rattle.sfbank.proofs.OutcomeLaws.{text_put, text_fails}

@@ -1,7 +1,7 @@
 use Rattle.std.proofs.Common.{refl}
 use Rattle.edit_forms.specs.declared.cause.Cause.TheVariants.{NoSuchSample}
 use Rattle.program_reports.specs.declared.run_fault.RunFault.TheVariants as run
-use Rattle.sfbank.specs.Plans.{Text}
+use Rattle.sfbank.specs.PlanParts.{Text}
 use Rattle.sfbank.specs.Recordings.{wave_outcome}
 use Rattle.sfbank.proofs.Recordings.{few_points}
 use Rattle.sfbank.proofs.OutcomeLaws.{text_put, text_fails}

@@ -1,7 +1,7 @@
 use Rattle.std.proofs.Common.{refl}
 use Rattle.program_commands.specs.declared.words.Request.TheVariants.{Wave}
-use Rattle.sfbank.specs.Plans.{export_outcome}
-use Rattle.sfbank.specs.Plans.{no_bank, with_text}
+use Rattle.sfbank.specs.PlanParts.{export_outcome}
+use Rattle.sfbank.specs.PlanParts.{no_bank, with_text}
 use Rattle.sfbank.proofs.PlanLaws.{after_one, checks_fail, one_goes_on, one_fails}
 use Rattle.sfbank.proofs.program.wave.wave.Goals as goal
 
@@ -11,7 +11,7 @@ returns-in-Ok-read_input g c =
     let old = g.H.Host.world c.args.host.now in
     one_goes_on (Wave p) (λ w rest. no_bank w p.out.now p.force rest) (λ w file. with_text w p.out.now (export_outcome p file)) p.input.now old
     (g.H.Host.world c.reject_bank.new.host) _ _ _ _ c.put_wave.result tt c.in-Ok-read_input.file.items (λ w i. refl)
-    (λ w r s h k. (h, tt)) c.in-Ok.ensures c.in-Ok-read_input.ensures (rw c.as_slice.ensures.value at c.put_wave.ensures)
+    (λ w r s others h k. (h, tt, tt)) c.in-Ok.ensures c.in-Ok-read_input.ensures (rw c.as_slice.ensures.value at c.put_wave.ensures)
 
 pub returns-in-Err-read_input : goal.returns-in-Err-read_input
 returns-in-Err-read_input g c =
@@ -19,11 +19,11 @@ returns-in-Err-read_input g c =
     let old = g.H.Host.world c.args.host.now in
     one_fails (Wave p) (λ w rest. no_bank w p.out.now p.force rest) (λ w file. with_text w p.out.now (export_outcome p file)) p.input.now old
     (g.H.Host.world c.reject_bank.new.host) _ _ _ c.in-Err-read_input.fault tt (λ w i. refl)
-    (λ w r s h k. (h, tt)) c.in-Ok.ensures c.in-Err-read_input.ensures
+    (λ w r s others h k. (h, tt, tt)) c.in-Ok.ensures c.in-Err-read_input.ensures
 
 pub returns-in-Err : goal.returns-in-Err
 returns-in-Err g c =
     let p = c.args.paths in
     checks_fail (Wave p) (λ w rest. no_bank w p.out.now p.force rest)
     (after_one p.input.now (λ w file. with_text w p.out.now (export_outcome p file))) p.input.now p.input.now _ _ _ _ c.in-Err.fault
-    (λ w i. refl) (λ w r s h k. (h, tt)) c.in-Err.ensures
+    (λ w i. refl) (λ w r s others h k. (h, tt, tt)) c.in-Err.ensures

@@ -1,0 +1,5 @@
+mod SearchLaws
+pub mod NameLaws
+mod ZoneLaws
+mod AppendingLaws
+pub mod FitLaws

@@ -1,0 +1,4 @@
+pub mod BareLaws
+pub mod PathLaws
+pub mod RowLaws
+pub mod FileLaws

@@ -1,0 +1,5 @@
+pub mod Faults
+pub mod Zones
+pub mod ZoneParsers
+pub mod Rows
+pub mod Files

@@ -1,0 +1,7 @@
+use Rattle.base_outputs.proofs.OutputLaws.{puts_then}
+use Rattle.program_reports.proofs.fault_lines.put_row_recording.Goals as goal
+
+pub returns : goal.returns
+returns g c =
+    puts_then _ _ c.put_row_start.ensures
+    (puts_then _ _ (rw c.as_bytes.ensures.value at c.put_pieces.ensures) c.put_recording_text.ensures)

@@ -1,0 +1,15 @@
+use Rattle.std.proofs.Common.{map}
+use Rattle.sfbank.specs.Kits.{Design, source_of}
+use Rattle.sfbank.proofs.KitRuns.{kit_restores, kit_scripted}
+use Rattle.sfbank.proofs.Restores.{are_bytes}
+use Rattle.sfbank.proofs.kits.kit_run.Goals as goal
+
+pub returns-clause-script : goal.returns-clause-script
+returns-clause-script g c fits =
+    kit_scripted (record { zones = c.args.zones.now; members = c.args.members }) c.args.options (map source_of c.args.waves.items)
+    c.args.file.now c.key_fits.ensures fits.designed fits.given (are_bytes c.args.file.now c.type_inv.file)
+
+pub returns-clause-restores : goal.returns-clause-restores
+returns-clause-restores g c fits =
+    kit_restores (record { zones = c.args.zones.now; members = c.args.members }) c.args.options (map source_of c.args.waves.items)
+    c.args.file.now c.key_fits.ensures fits.designed fits.given (are_bytes c.args.file.now c.type_inv.file)
