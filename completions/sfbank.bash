@@ -5,7 +5,7 @@ _sfbank_options() {
   case $1 in
     apply) echo --force --neutral --no-undo --explain --help ;;
     copy) echo --as --dry-run --force --name --script --explain --help ;;
-    diff | map) echo --force --explain --help ;;
+    diff | map | pack | unpack) echo --force --explain --help ;;
     import) echo --channel --dither --force --instrument --key --kit --name --preset --explain --help ;;
     keep) echo --dry-run --force --notes --preset --script --zones --explain --help ;;
     live | play) echo --force --report --explain --help ;;
@@ -22,7 +22,8 @@ _sfbank_options() {
   esac
 }
 
-# The extensions of the files of a command, in order; - is an argument that is no file, preset/inst one of these words.
+# The extensions of the files of a command, in order; - is an argument that is no file, preset/inst one of these words,
+# and folder a folder.
 _sfbank_endings() {
   case $1 in
     apply) echo sf2 txt sf2 txt ;;
@@ -36,9 +37,11 @@ _sfbank_endings() {
     map) echo sf2 preset/inst - svg ;;
     merge | take) echo sf2 sf2 sf2 txt ;;
     new | show) echo sf2 ;;
+    pack) echo folder sf2 ;;
     play) echo sf2 txt wav ;;
     replace) echo sf2 - wav sf2 txt ;;
     script) echo sf2 txt ;;
+    unpack) echo sf2 folder ;;
     wave) echo sf2 - wav ;;
   esac
 }
@@ -70,6 +73,10 @@ _sfbank_files() {
   local ending=$1 word=$2
   if [[ $ending == - ]]; then
     return
+  elif [[ $ending == folder ]]; then
+    compopt -o filenames 2> /dev/null
+    mapfile -t COMPREPLY < <(compgen -d -- "$word")
+    return
   elif [[ $ending == */* ]]; then
     mapfile -t COMPREPLY < <(compgen -W "${ending//\// }" -- "$word")
     return
@@ -87,7 +94,7 @@ _sfbank_files() {
 _sfbank() {
   local word=${COMP_WORDS[COMP_CWORD]} before=${COMP_WORDS[COMP_CWORD - 1]}
   local given endings
-  local commands="apply canon copy diff explain help import keep live map merge new play replace script show take tidy wave"
+  local commands="apply canon copy diff explain help import keep live map merge new pack play replace script show take tidy unpack wave"
   COMPREPLY=()
   mapfile -t given < <(_sfbank_given)
   read -ra endings < <(_sfbank_endings "${given[0]}")

@@ -56,12 +56,16 @@ function __sfbank_files
             set endings sf2 sf2 sf2 txt
         case new show
             set endings sf2
+        case pack
+            set endings folder sf2
         case play
             set endings sf2 txt wav
         case replace
             set endings sf2 - wav sf2 txt
         case script
             set endings sf2 txt
+        case unpack
+            set endings sf2 folder
         case wave
             set endings sf2 - wav
     end
@@ -75,6 +79,8 @@ function __sfbank_files
     set -q endings[$place]; or return
     switch $endings[$place]
         case -
+        case folder
+            __fish_complete_directories
         case '*/*'
             string split / $endings[$place]
         case '*'
@@ -82,7 +88,7 @@ function __sfbank_files
     end
 end
 
-set -l commands apply canon copy diff explain import keep live map merge new play replace script show take tidy wave
+set -l commands apply canon copy diff explain import keep live map merge new pack play replace script show take tidy unpack wave
 
 complete -c sfbank -f
 complete -c sfbank -n __sfbank_is_bare -a apply -d 'Run a script of edits on a bank, and write its undo script'
@@ -97,12 +103,14 @@ complete -c sfbank -n __sfbank_is_bare -a live -d 'Edit and play a bank live, by
 complete -c sfbank -n __sfbank_is_bare -a map -d 'Draw the ranges of a preset or an instrument as an SVG picture'
 complete -c sfbank -n __sfbank_is_bare -a merge -d 'Add all that another bank has after what a bank has'
 complete -c sfbank -n __sfbank_is_bare -a new -d 'Write an empty bank'
+complete -c sfbank -n __sfbank_is_bare -a pack -d 'Make the bank of a folder that unpack made'
 complete -c sfbank -n __sfbank_is_bare -a play -d 'Play notes on a bank into a WAVE file'
 complete -c sfbank -n __sfbank_is_bare -a script -d 'Write a script that makes the bank from the empty bank'
 complete -c sfbank -n __sfbank_is_bare -a show -d 'List what a bank has, and what was dropped or repaired in reading it'
 complete -c sfbank -n __sfbank_is_bare -a take -d 'Copy presets of another bank into a bank, with what they need'
 complete -c sfbank -n __sfbank_is_bare -a tidy -d 'Remove what a bank does not use, and change no sound'
 complete -c sfbank -n __sfbank_is_bare -a replace -d 'Put a recording in the place of a sample, or of a pair'
+complete -c sfbank -n __sfbank_is_bare -a unpack -d 'Write a bank as a folder of its script and WAVE files'
 complete -c sfbank -n __sfbank_is_bare -a wave -d 'Write a sample of a bank as a WAVE file'
 complete -c sfbank -n 'test "$(__sfbank_given)" = help' -a "$commands"
 complete -c sfbank -n "__sfbank_is $commands" -k -a '(__sfbank_files)'
@@ -132,11 +140,13 @@ complete -c sfbank -n '__sfbank_is live' -l report -d 'Report silent notes, the 
 complete -c sfbank -n '__sfbank_is map' -l force -d 'Write OUT even if a bank is there'
 complete -c sfbank -n '__sfbank_is merge' -l force -d 'Write UNDO and FILE even if a bank is there'
 complete -c sfbank -n '__sfbank_is new' -l force -d 'Write OUT even if a bank is there'
+complete -c sfbank -n '__sfbank_is pack' -l force -d 'Write OUT even if a bank is there'
 complete -c sfbank -n '__sfbank_is play' -l force -d 'Write OUT even if a bank is there'
 complete -c sfbank -n '__sfbank_is play' -l report -d 'Report silent notes, the peak and clipping at the end'
 complete -c sfbank -n '__sfbank_is script' -l force -d 'Write OUT even if a bank is there'
 complete -c sfbank -n '__sfbank_is take' -l force -d 'Write UNDO and FILE even if a bank is there'
 complete -c sfbank -n '__sfbank_is tidy' -l force -d 'Write UNDO and FILE even if a bank is there'
+complete -c sfbank -n '__sfbank_is unpack' -l force -d 'Write into a folder that is there'
 complete -c sfbank -n '__sfbank_is wave' -l force -d 'Write OUT even if a bank is there'
 complete -c sfbank -n '__sfbank_is wave' -l pair -d 'Write the left and the right sample of its pair'
 complete -c sfbank -n '__sfbank_is apply' -l neutral -d 'Accept only edits of the thirteen neutral forms'

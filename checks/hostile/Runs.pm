@@ -19,6 +19,7 @@ our %FAULTS = (
     59 => 'NoData', 60 => 'HalfFrame', 61 => 'ShortSampler', 62 => 'UnityNote', 63 => 'LoopOutside',
     71 => 'NoSuchChannel', 72 => 'TwoChannels', 73 => 'NotAPair', 74 => 'SidesDiffer',
     75 => 'BadRow', 76 => 'TooManyRows', 77 => 'NoRows',
+    78 => 'NotSixteenBits', 79 => 'OtherRate', 80 => 'ShortForLoop',
 );
 our %REFUSALS = (
     20 => 'NoSuchPreset', 21 => 'NoSuchInstrument', 22 => 'NoSuchSample', 23 => 'NoSuchZone', 24 => 'NoSuchModulator',
@@ -82,12 +83,12 @@ sub status_of {
     return 0 if $line eq '';
     return is_fault($1, $2, 1, 18) ? 2 : undef if $line =~ /^sfbank: (?:FROM: )?read fault (\d+) (\w+)\n\z/;
     return is_fault($1, $2, 41, 47) || is_fault($1, $2, 75, 77) ? 3 : undef if $line =~ /^sfbank: line [1-9]\d*: fault (\d+) (\w+)\n\z/;
-    return is_fault($1, $2, 53, 74) ? 2 : undef if $line =~ /^sfbank: (?:(?:line [1-9]\d*: )?[^\n]+: )?wave fault (\d+) (\w+)\n\z/;
+    return is_fault($1, $2, 53, 74) || is_fault($1, $2, 78, 80) ? 2 : undef if $line =~ /^sfbank: (?:(?:line [1-9]\d*: )?[^\n]+: )?wave fault (\d+) (\w+)\n\z/;
     return 4 if $line =~ /^sfbank: line [1-9]\d*: refused 50 NotNeutral\n\z/;
     return 4 if $line =~ /^sfbank: refused (?:67 NoSuchNumbers|68 NumbersInUse|69 BankTooHigh|70 NoFreeNumbers) \d+:\d+\n\z/;
     return is_cause($1) ? 4 : undef if $line =~ /^sfbank: refused (37 Full \w+|\d+ NoSuch\w+)\n\z/;
     return is_cause($1) ? 4 : undef if $line =~ /^sfbank: line [1-9]\d*: refused (?:48 GroupRefused \d+ )?(.*)\n\z/;
-    return 5 if $line =~ /^sfbank: (?:(?:line [1-9]\d*: )?file fault [^\n]*|write fault [^\n]* after \d+ bytes|output fault 6[45] \w+ [^\n]*)\n\z/;
+    return 5 if $line =~ /^sfbank: (?:(?:line [1-9]\d*: )?file fault [^\n]*|write fault [^\n]* after \d+ bytes|output fault (?:6[45]|81) \w+ [^\n]*)\n\z/;
     return;
 }
 

@@ -10,7 +10,7 @@ use Cases;
 use Exporter 'import';
 our @EXPORT = qw(try_new make_banks try_texts try_streams try_faults remade run_over);
 
-my $without = ' without points: to read and compare alone';
+my $without = ' without points';
 
 # Returns what is wrong with the empty bank of a minor version, or undef.
 sub wrong_of_new {

@@ -3,7 +3,7 @@ use Rattle.std.specs.Prelude.{◌≡◌, ◌≢◌, ◌⊎◌, ℕ, List, Option
 use Rattle.std.specs.Option.{option_map}
 use Rattle.file_host.specs.declared.input_fault.InputFault.{InputFault}
 use Rattle.file_host.specs.declared.input_fault.InputFault.TheVariants.{NotFound, Unreadable}
-use Rattle.file_host.specs.World.{World, place_of, held_at, stores_at, with_file}
+use Rattle.file_host.specs.World.{World, place_of, held_at, stores_at, with_file, with_folder_there}
 use Rattle.file_disk.specs.Frames.{Frame, IfKnown, held_of}
 
 -- ---- what the calls of a device do to what a crash leaves
@@ -97,6 +97,10 @@ IsBeside old path left = Frame old (Some left) path
 abbrev pub HoldsText : Option World → List ℕ → List ℕ → Type 0
 HoldsText None path text = ⊤
 HoldsText (Some world) path text = held_at world path ≡ Ok text
+
+-- all is as it was, or a folder was made where nothing was
+abbrev pub LeavesFolder : List ℕ → World → World → Type 0
+LeavesFolder path old left = (left ≡ old) ⊎ (left ≡ with_folder_there path old)
 
 -- ---- saves
 

@@ -13,7 +13,7 @@ pub trait Device {
     ghost use Rattle.std.specs.Prelude.{◌≡◌, ◌<◌, ◌≤◌, List, ℕ, [], Option, Some, None, Bool, false, Ok, take, length, IfOk, IfErr, OnOk, OnErr};
     ghost use Rattle.std.specs.Option.{option_map};
     ghost use Rattle.std.specs.Io.{WritesAtMost};
-    ghost use Rattle.file_host.specs.World.{World, with_file, without_file, with_stream};
+    ghost use Rattle.file_host.specs.World.{World, IsMade, with_file, without_file, with_folder_there, with_stream};
     ghost use Rattle.file_host.specs.Saving.{ReadFails};
     ghost use Rattle.file_host.specs.Checks.{IsOneFile, IsOutput};
     ghost use Rattle.file_disk.specs.Devices.{Leads, IsNew, IsDirect, IsOpen, dirty_after, grown, moved, linked};
@@ -149,6 +149,14 @@ pub trait Device {
         ensures left { ChangesIfOk result (without_file path.now) (durable self.old) (durable self.new) }
         ensures crash { Passes (past self.old) (past self.new) (durable self.old) (durable self.new) };
 
+    /// Makes a folder at a path where nothing is, and returns true; or returns false where something is already.
+    fn make_folder(&mut self, path: &str) -> io::Result<bool>
+        ensures made { OnOk result (world self.new ≡ option_map (with_folder_there path.now) (world self.old)) }
+        ensures is_new { IfOk result (IsMade (world self.old) path.now) }
+        ensures stays { OnErr result (world self.new ≡ world self.old) }
+        ensures left { ChangesIfOk result (with_folder_there path.now) (durable self.old) (durable self.new) }
+        ensures crash { Passes (past self.old) (past self.new) (durable self.old) (durable self.new) };
+
     /// Syncs the folder of a file, if it can be opened.
     fn sync_folder(&mut self, path: &str)
         ensures stays { world self.new ≡ world self.old }
@@ -207,7 +215,7 @@ pub trait Device {
         ensures left { ChangesIfOk result (with_stream path.now) (durable self.old) (durable self.new) }
         ensures crash { Passes (past self.old) (past self.new) (durable self.old) (durable self.new) };
 
-    /// The kind of the error by which the last save failed by a write fault, if the system reported one. `BrokenPipe`
-    /// where nothing reads the other end of a pipe.
+    /// The kind of the error of the last write fault, of a save or of making a folder, if the system reported one.
+    /// `BrokenPipe` where nothing reads the other end of a pipe.
     fn last_error(&self) -> Option<ErrorKind>;
 }

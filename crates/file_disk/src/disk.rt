@@ -1,10 +1,10 @@
 //! Files on a device.
-ghost use Rattle.std.specs.Prelude.{◌≡◌, IfErr, OnOk};
+ghost use Rattle.std.specs.Prelude.{◌≡◌, IfErr, IfOk, OnErr, OnOk};
 ghost use Rattle.std.specs.Option.{option_map};
-ghost use Rattle.file_host.specs.World.{with_pair, with_text};
+ghost use Rattle.file_host.specs.World.{IsMade, with_folder_there, with_pair, with_text};
 ghost use Rattle.file_host.specs.Saving.{Counts, CountsPair, PairFails, SaveFails};
 ghost use Rattle.file_disk.specs.Devices.{world_in};
-ghost use Rattle.file_disk.specs.Crashes.{FromKnown, LeavesPair, LeavesText, Since, past_in};
+ghost use Rattle.file_disk.specs.Crashes.{FromKnown, LeavesFolder, LeavesPair, LeavesText, Since, past_in};
 
 use crate::bank::has_bank;
 use crate::device::Device;
@@ -25,7 +25,7 @@ pub struct Disk<D> {
     alloc: Global,
     // The device, which is moved out while a text is saved.
     device: Option<D>,
-    // How many bytes of its text the last save wrote that failed by a write fault.
+    // How many bytes of its text the last save wrote that failed by a write fault; none if that was making a folder.
     written: u64,
 }
 
@@ -102,6 +102,26 @@ impl<D: Device + Drop> Host for Disk<D> {
             self.written = written;
         }
         answer
+    }
+
+    // After a crash at any moment, all is as it was, or the folder is made.
+    fn make_folder(&mut self, path: &str) -> Result<bool, Failure<WriteFault>>
+        ensures made { OnOk result (world_in D.world self.new.device ≡ option_map (with_folder_there path.now) (world_in D.world self.old.device)) }
+        ensures is_new { IfOk result (IsMade (world_in D.world self.old.device) path.now) }
+        ensures stays { OnErr result (world_in D.world self.new.device ≡ world_in D.world self.old.device) }
+        ensures counted { IfErr result (Counts self.new.written) }
+        ensures crash { Since (past_in D.past self.old.device) (past_in D.past self.new.device) (FromKnown (LeavesFolder path.now) (world_in D.durable self.old.device)) }
+    {
+        let Some(device) = &mut self.device else {
+            return Err(Failure::OutOfMemory);
+        };
+        match device.make_folder(path) {
+            Ok(is_made) => Ok(is_made),
+            Err(_) => {
+                self.written = 0;
+                Err(Failure::Fault(WriteFault { written: 0 }))
+            }
+        }
     }
 
     fn is_one_file(&mut self, one: &str, other: &str) -> Result<bool, AllocError> {

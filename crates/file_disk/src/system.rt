@@ -31,8 +31,8 @@ pub struct System<'a, R: Files> {
     rt: &'a R,
     output: Option<R::File>,
     input: Option<R::File>,
-    // The first error since a file was last checked, opened for writing or linked: none of these calls cleans up after
-    // an error that makes a save fail.
+    // The first error since a file was last checked, opened for writing or linked, or a folder was made: none of these
+    // calls cleans up after an error that makes a save fail.
     last_error: Option<ErrorKind>,
 }
 
@@ -186,6 +186,15 @@ impl<'a, R: Files + AllocGlobal> Device for System<'a, R> {
         self.noted(answer)
     }
 
+    fn make_folder(&mut self, path: &str) -> io::Result<bool> {
+        self.last_error = None;
+        match fs::create_dir(self.rt, path) {
+            Ok(()) => Ok(true),
+            Err(error) if is_there(self.rt, path, &error) => Ok(false),
+            Err(error) => self.noted(Err(error)),
+        }
+    }
+
     fn sync_folder(&mut self, path: &str) {
         if let Ok(folder) = File::open(self.rt, folder_of(path)) {
             let _ = folder.sync_all();
@@ -236,6 +245,18 @@ impl<'a, R: Files + AllocGlobal> Device for System<'a, R> {
 
     fn last_error(&self) -> Option<ErrorKind> {
         self.last_error
+    }
+}
+
+/// Whether no folder could be made because something is at its path. The error is the same at a link that leads to
+/// nothing.
+fn is_there<R: Files>(rt: &R, path: &str, error: &io::Error) -> bool {
+    if error.kind() != ErrorKind::AlreadyExists {
+        return false;
+    }
+    match fs::metadata(rt, path) {
+        Ok(_) => true,
+        Err(error) => !matches!(error.kind(), ErrorKind::NotFound | ErrorKind::OutOfMemory),
     }
 }
 

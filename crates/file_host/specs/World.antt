@@ -3,7 +3,7 @@ use Rattle.std.specs.Prelude.{◌≡◌, ℕ, List, length, Option, Some, None, 
 use Rattle.std.specs.Prelude.{if◌then◌else◌, nat_le, ⊤}
 use Rattle.std.specs.Str.{bytes_eq}
 use Rattle.file_host.specs.declared.input_fault.InputFault.{InputFault}
-use Rattle.file_host.specs.declared.input_fault.InputFault.TheVariants.{NotFound, TooLong}
+use Rattle.file_host.specs.declared.input_fault.InputFault.TheVariants.{NotFound, IsFolder, TooLong}
 
 -- where paths lead
 pub record Paths : Type 0 where
@@ -84,7 +84,29 @@ with_stream path world = record {
   files = world.files;
 }
 
+-- whether nothing is there
+abbrev pub is_nothing : Result (List ℕ) InputFault → Bool
+is_nothing (Ok bytes) = false
+is_nothing (Err NotFound) = true
+is_nothing (Err _) = false
+
+-- a world with a new folder at this path: nothing that is written at its place can be read there
+abbrev pub with_folder : List ℕ → World → World
+with_folder path world = record {
+  paths = record world.paths { stores = stores_but world.paths.stores (place_of world path) };
+  files = file_put world.files (place_of world path) (Err IsFolder);
+}
+
+-- the same, where nothing is at this path; else the world as it is
+abbrev pub with_folder_there : List ℕ → World → World
+with_folder_there path world = if is_nothing (held_at world path) then with_folder path world else world
+
 -- a read at this path gives this, as far as is known
 abbrev pub Gives : Option World → List ℕ → Result (List ℕ) InputFault → Type 0
 Gives None path given = ⊤
 Gives (Some world) path given = stores_at world path ≡ true → file_at world path ≡ given
+
+-- a folder was made at this path just if nothing was there, as far as is known
+abbrev pub IsMade : Option World → List ℕ → Bool → Type 0
+IsMade None path made = ⊤
+IsMade (Some world) path made = made ≡ is_nothing (held_at world path)

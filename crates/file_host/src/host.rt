@@ -12,7 +12,7 @@ use std::io::{ErrorKind, Write};
 pub trait Host {
     ghost use Rattle.std.specs.Prelude.{◌≡◌, ℕ, Option, Ok, IfOk, IfErr, OnOk, OnErr};
     ghost use Rattle.std.specs.Option.{option_map};
-    ghost use Rattle.file_host.specs.World.{World, Gives, with_text, with_pair, with_stream};
+    ghost use Rattle.file_host.specs.World.{World, Gives, IsMade, with_text, with_pair, with_folder_there, with_stream};
     ghost use Rattle.file_host.specs.Saving.{ReadFails, SaveFails, PairFails, Counts, CountsPair};
     ghost use Rattle.file_host.specs.Checks.{IsOneFile, IsOutput, HasBank};
 
@@ -22,7 +22,7 @@ pub trait Host {
     // The world, or None where nothing is known of it.
     ghost world: { Self → Option World };
 
-    // How many bytes of its text the last save wrote that failed by a write fault.
+    // How many bytes of its text the last save wrote that failed by a write fault; none if that was making a folder.
     ghost written: { Self → ℕ };
 
     /// Reads a whole file.
@@ -52,6 +52,13 @@ pub trait Host {
         ensures failed { IfErr result (PairFails (world self.old) (world self.new) undo_path.now (U.bytes undo.now) path.now (T.bytes text.now)) }
         ensures counted { IfErr result (CountsPair (written self.new)) };
 
+    /// Makes a folder at a path where nothing is, and returns true; or returns false where something is already.
+    fn make_folder(&mut self, path: &str) -> Result<bool, Failure<WriteFault>>
+        ensures made { OnOk result (world self.new ≡ option_map (with_folder_there path.now) (world self.old)) }
+        ensures is_new { IfOk result (IsMade (world self.old) path.now) }
+        ensures stays { OnErr result (world self.new ≡ world self.old) }
+        ensures counted { IfErr result (Counts (written self.new)) };
+
     /// Whether two paths lead to one file: by links, by hard links, or as a new file in one folder. Never for a
     /// character device, such as /dev/null.
     fn is_one_file(&mut self, one: &str, other: &str) -> Result<bool, AllocError>
@@ -74,7 +81,7 @@ pub trait Host {
         ensures opened { OnOk result (world self.new ≡ option_map (with_stream path.now) (world self.old)) }
         ensures stays { OnErr result (world self.new ≡ world self.old) };
 
-    /// The kind of the error by which the last save failed by a write fault, if the system reported one. `BrokenPipe`
-    /// where nothing reads the other end of a pipe.
+    /// The kind of the error of the last write fault, of a save or of making a folder, if the system reported one.
+    /// `BrokenPipe` where nothing reads the other end of a pipe.
     fn last_error(&self) -> Option<ErrorKind>;
 }

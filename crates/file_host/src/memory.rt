@@ -1,14 +1,14 @@
 //! A host in memory, for tests.
-ghost use Rattle.std.specs.Prelude.{◌≡◌, ℕ, [], Some, OnOk, OnErr, IfOk, IfErr};
+ghost use Rattle.std.specs.Prelude.{◌≡◌, ℕ, [], Ok, Some, true, not, OnOk, OnErr, IfOk, IfErr};
 ghost use Rattle.std.specs.Option.{option_map};
 ghost use Rattle.file_host.specs.Saving.{Counts, CountsPair};
-ghost use Rattle.file_host.specs.Journal.{Pushes, no_files, held_after, found_or_not, world_of};
+ghost use Rattle.file_host.specs.Journal.{IsFile, Pushes, can_store, no_files, held_after, held_in, found_or_not, world_of};
 
 use crate::checks::begins_as_bank;
 use crate::faults::{PairFault, Which};
 use crate::host::Host;
 use crate::input_fault::InputFault;
-use crate::saved::SavedFile;
+use crate::saved::{Content, Entry};
 use base_outputs::WriteFault;
 use base_texts::{Text, write_text};
 use sf_base::Failure;
@@ -21,8 +21,8 @@ use std::io::{ErrorKind, Write};
 #[derive(Drop)]
 pub struct MemoryHost {
     alloc: Global,
-    // What was saved, the newest last.
-    files: Vec<SavedFile>,
+    // What was saved or made, the newest last.
+    entries: Vec<Entry>,
     // How many more bytes can be saved.
     room: usize,
     // How many bytes of its text the last save wrote that failed.
@@ -30,13 +30,13 @@ pub struct MemoryHost {
 }
 
 impl MemoryHost {
-    /// A host without files, which fails to write more than `room` bytes in all.
+    /// A host without files or folders, which fails to write more than `room` bytes in all.
     pub fn new(alloc: Global, room: usize) -> MemoryHost
-        ensures { result.files.items ≡ [] }
+        ensures { result.entries.items ≡ [] }
     {
         MemoryHost {
             alloc,
-            files: Vec::new(alloc),
+            entries: Vec::new(alloc),
             room,
             written: 0,
         }
@@ -44,17 +44,32 @@ impl MemoryHost {
 
     /// Returns the bytes of the file at a path.
     pub fn file(&self, path: &str) -> Option<&[u8]>
-        ensures { found_or_not (option_map (λ bytes. bytes.now) result) ≡ held_after no_files self.now.files.items path.now }
+        ensures { IsFile (held_after no_files self.now.entries.items path.now) (option_map (λ bytes. bytes.now) result) }
     {
-        newest(self.files.as_slice(), path)
+        match newest(self.entries.as_slice(), path) {
+            Some(Content::File(bytes)) => Some(bytes.as_slice()),
+            _ => None,
+        }
     }
 
-    // Saves a text as the file at a path. If that fails, nothing is changed.
+    // Whether there is a folder at a path.
+    fn has_folder(&self, path: &str) -> bool
+        ensures { result ≡ not (can_store (held_after no_files self.now.entries.items path.now)) }
+    {
+        matches!(newest(self.entries.as_slice(), path), Some(Content::Folder))
+    }
+
+    // Saves a text as the file at a path, which fails at a folder. If it fails, nothing is changed.
     fn push<T: Text>(&mut self, path: &str, text: &T) -> Result<(), Failure<WriteFault>>
-        ensures pushed { OnOk result (Pushes self.old.files.items self.new.files.items path.now (T.bytes text.now)) }
-        ensures failed { OnErr result (self.new.files.items ≡ self.old.files.items) }
+        ensures pushed { OnOk result (Pushes self.old.entries.items self.new.entries.items path.now (Ok (T.bytes text.now))) }
+        ensures stores { OnOk result (can_store (held_after no_files self.old.entries.items path.now) ≡ true) }
+        ensures failed { OnErr result (self.new.entries.items ≡ self.old.entries.items) }
         ensures counted { IfErr result (Counts self.new.written) }
     {
+        if self.has_folder(path) {
+            self.written = 0;
+            return Err(Failure::Fault(WriteFault { written: 0 }));
+        }
         let Ok(bytes) = written(self.alloc, text) else {
             return Err(Failure::OutOfMemory);
         };
@@ -64,31 +79,31 @@ impl MemoryHost {
             self.written = written;
             return Err(Failure::Fault(WriteFault { written }));
         }
-        self.keep(path, bytes)?;
+        self.keep(path, Content::File(bytes))?;
         self.room -= length;
         Ok(())
     }
 
-    // Keeps a file.
-    fn keep(&mut self, path: &str, bytes: Vec<u8>) -> Result<(), AllocError>
-        ensures kept { OnOk result (Pushes self.old.files.items self.new.files.items path.now bytes.items) }
+    // Keeps a file or a folder.
+    fn keep(&mut self, path: &str, content: Content) -> Result<(), AllocError>
+        ensures kept { OnOk result (Pushes self.old.entries.items self.new.entries.items path.now (held_in content)) }
         ensures room { self.new.room ≡ self.old.room }
-        ensures failed { OnErr result (self.new.files.items ≡ self.old.files.items) }
+        ensures failed { OnErr result (self.new.entries.items ≡ self.old.entries.items) }
     {
         let path = String::from_str(self.alloc, path)?;
-        self.files.push(SavedFile { path, bytes })?;
+        self.entries.push(Entry { path, content })?;
         Ok(())
     }
 }
 
-// The bytes that were saved last at a path.
-fn newest<'a>(files: &'a [SavedFile], path: &str) -> Option<&'a [u8]>
-    ensures { found_or_not (option_map (λ bytes. bytes.now) result) ≡ held_after no_files files.now path.now }
+// What was saved or made last at a path.
+fn newest<'a>(entries: &'a [Entry], path: &str) -> Option<&'a Content>
+    ensures { found_or_not (option_map (λ content. content.now) result) ≡ held_after no_files entries.now path.now }
 {
     let mut found = None;
-    for file in files {
-        if path == file.path.as_str() {
-            found = Some(file.bytes.as_slice());
+    for entry in entries {
+        if path == entry.path.as_str() {
+            found = Some(&entry.content);
         }
     }
     found
@@ -109,15 +124,17 @@ impl Write for MemoryStream {
 }
 
 impl Host for MemoryHost {
-    ghost world = { λ host. Some (world_of host.files.items) };
+    ghost world = { λ host. Some (world_of host.entries.items) };
 
     ghost written = { λ host. host.written };
 
     type Stream = MemoryStream;
 
     fn read(&mut self, alloc: Global, path: &str) -> Result<Vec<u8>, Failure<InputFault>> {
-        let Some(bytes) = newest(self.files.as_slice(), path) else {
-            return Err(Failure::Fault(InputFault::NotFound));
+        let bytes = match newest(self.entries.as_slice(), path) {
+            Some(Content::File(bytes)) => bytes.as_slice(),
+            Some(Content::Folder) => return Err(Failure::Fault(InputFault::IsFolder)),
+            None => return Err(Failure::Fault(InputFault::NotFound)),
         };
         if bytes.len() as u64 > FILE_LENGTH {
             return Err(Failure::Fault(InputFault::TooLong));
@@ -146,10 +163,18 @@ impl Host for MemoryHost {
         match self.push(path, text) {
             Ok(()) => Ok(()),
             Err(failure) => {
-                let _undo = self.files.pop();
+                let _undo = self.entries.pop();
                 Err(pair_fault(Which::Out, failure))
             }
         }
+    }
+
+    fn make_folder(&mut self, path: &str) -> Result<bool, Failure<WriteFault>> {
+        if newest(self.entries.as_slice(), path).is_some() {
+            return Ok(false);
+        }
+        self.keep(path, Content::Folder)?;
+        Ok(true)
     }
 
     fn is_one_file(&mut self, one: &str, other: &str) -> Result<bool, AllocError> {
@@ -157,7 +182,7 @@ impl Host for MemoryHost {
     }
 
     fn has_bank(&mut self, path: &str) -> Result<bool, AllocError> {
-        match newest(self.files.as_slice(), path) {
+        match self.file(path) {
             Some(bytes) => Ok(begins_as_bank(bytes)),
             None => Ok(false),
         }

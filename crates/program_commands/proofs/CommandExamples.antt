@@ -82,6 +82,12 @@ live_words = codes "sfbank" ∷ codes "live" ∷ codes "--report" ∷ codes "in.
 abbrev pub live_standard_words : List Text
 live_standard_words = codes "sfbank" ∷ codes "live" ∷ codes "in.sf2" ∷ codes "-" ∷ []
 
+abbrev pub unpack_words : List Text
+unpack_words = codes "sfbank" ∷ codes "unpack" ∷ codes "--force" ∷ codes "in.sf2" ∷ codes "organ" ∷ []
+
+abbrev pub pack_words : List Text
+pack_words = codes "sfbank" ∷ codes "pack" ∷ codes "organ" ∷ codes "-" ∷ []
+
 abbrev pub report_words : List Text
 report_words = codes "sfbank" ∷ codes "canon" ∷ codes "--report" ∷ codes "in.sf2" ∷ codes "out.sf2" ∷ []
 
@@ -316,6 +322,26 @@ pub live_standard_asks_none : AsksForNone (subcommand_of sfbank_app live_standar
 live_standard_asks_none = live_asks_none (subcommand_of sfbank_app live_standard_words) live_standard_used
     live_standard_frames
 
+pub unpack_input : input_given unpack_words (codes "IN") ≡ Some (Some (codes "in.sf2"))
+unfolding clap_on_literals
+unpack_input = refl
+
+pub unpack_folder : word_given unpack_words (codes "FOLDER") ≡ Some (Some (codes "organ"))
+unfolding clap_on_literals
+unpack_folder = refl
+
+pub unpack_force : value_given unpack_words (codes "force") ≡ Some (Some (codes "true"))
+unfolding clap_on_literals
+unpack_force = refl
+
+pub pack_folder : word_given pack_words (codes "FOLDER") ≡ Some (Some (codes "organ"))
+unfolding clap_on_literals
+pack_folder = refl
+
+pub pack_output : output_given pack_words (codes "OUT") ≡ Some (Some (codes "/dev/stdout"))
+unfolding clap_on_literals
+pack_output = refl
+
 pub play_report_asked : asks_for_explanations play_words ≡ true
 play_report_asked = refl
 
@@ -399,3 +425,11 @@ live_passes = refl
 pub live_standard_passes : fault_of sfbank_app live_standard_words ≡ []
 unfolding clap_on_literals
 live_standard_passes = refl
+
+pub unpack_passes : fault_of sfbank_app unpack_words ≡ []
+unfolding clap_on_literals
+unpack_passes = refl
+
+pub pack_passes : fault_of sfbank_app pack_words ≡ []
+unfolding clap_on_literals
+pack_passes = refl

@@ -57,6 +57,9 @@ output_path = Path (codes "OUT")
 abbrev pub undo_path : Argument
 undo_path = Path (codes "UNDO")
 
+abbrev pub folder_path : Argument
+folder_path = Path (codes "FOLDER")
+
 abbrev pub force_flag : Argument
 force_flag = Flag (codes "force")
 
@@ -130,12 +133,14 @@ commands_from_map =
     (codes "map", force_flag ∷ input_path ∷ Level (codes "LEVEL") ∷ Number (codes "N") ∷ output_path ∷ [])
     ∷ (codes "merge", Small (codes "shift") (codes "0") ∷ second_bank_arguments)
     ∷ (codes "new", force_flag ∷ Small (codes "minor") (codes "4") ∷ output_path ∷ [])
+    ∷ (codes "pack", force_flag ∷ folder_path ∷ output_path ∷ [])
     ∷ (codes "play", force_flag ∷ report_flag ∷ input_path ∷ Path (codes "NOTES") ∷ output_path ∷ [])
     ∷ (codes "replace", replace_arguments)
     ∷ (codes "script", force_flag ∷ Flag (codes "no-points") ∷ input_path ∷ output_path ∷ [])
     ∷ (codes "show", Flag (codes "zones") ∷ Flag (codes "uses") ∷ input_path ∷ [])
     ∷ (codes "take", Repeated (codes "preset") ∷ second_bank_arguments)
     ∷ (codes "tidy", Flag (codes "merge") ∷ plan_arguments)
+    ∷ (codes "unpack", force_flag ∷ input_path ∷ folder_path ∷ [])
     ∷ (codes "wave", Flag (codes "pair") ∷ force_flag ∷ input_path ∷ Number (codes "S") ∷ output_path ∷ [])
     ∷ []
 
@@ -211,6 +216,15 @@ parsers_of levels members = record { levels = parser.Names levels; members = par
 -- what clap reads of sfbank: the program with its commands and their arguments
 abbrev pub sfbank_app : App
 sfbank_app = app_with (parsers_of (at_no_address level_words) (at_no_address member_words))
+
+-- these are the parsers of operands that are one of some words, with the words at any addresses
+abbrev pub AreWordParsers : WordParsers → Type 0
+AreWordParsers parsers =
+    (levels : WordList)
+    × (members : WordList)
+    × (texts_of levels ≡ level_words)
+    × (texts_of members ≡ member_words)
+    × (parsers ≡ parsers_of levels members)
 
 -- this is sfbank_app, with the words at any addresses
 abbrev pub IsSfbankApp : App → Type 0

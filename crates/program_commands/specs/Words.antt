@@ -40,8 +40,8 @@ use Rattle.program_commands.specs.declared.recordings.ReplacePaths.{ReplacePaths
 use Rattle.program_commands.specs.declared.words.Request.{Request}
 use Rattle.program_commands.specs.declared.words.Request.TheVariants.{Apply, ApplyOnly, Canon, Copy, Diff}
 use Rattle.program_commands.specs.declared.words.Request.TheVariants.{Explain, Import, ImportKit, Keep, Live, Map}
-use Rattle.program_commands.specs.declared.words.Request.TheVariants.{Merge, New, Play, Replace, Script, Show, Take}
-use Rattle.program_commands.specs.declared.words.Request.TheVariants.{Tidy, Wave}
+use Rattle.program_commands.specs.declared.words.Request.TheVariants.{Merge, New, Pack, Play, Replace, Script, Show}
+use Rattle.program_commands.specs.declared.words.Request.TheVariants.{Take, Tidy, Unpack, Wave}
 use Rattle.program_commands.specs.declared.words.Forms.{Forms}
 use Rattle.program_commands.specs.declared.words.Forms.TheVariants.{Every, Neutral}
 
@@ -301,6 +301,8 @@ operands_of (Map paths) =
 operands_of (Merge merge) = merge_operands merge
 operands_of (New bank) =
     Output (codes "OUT") bank.out.now ∷ Number (codes "minor") 16 bank.minor ∷ Flag (codes "force") bank.force ∷ []
+operands_of (Pack paths) =
+    Path (codes "FOLDER") paths.folder.now ∷ Output (codes "OUT") paths.out.now ∷ Flag (codes "force") paths.force ∷ []
 operands_of (Play paths) =
     Input (codes "IN") paths.input.now
     ∷ Input (codes "NOTES") paths.notes.now
@@ -318,6 +320,8 @@ operands_of (Show paths) =
     Input (codes "IN") paths.input.now ∷ Flag (codes "zones") paths.zones ∷ Flag (codes "uses") paths.uses ∷ []
 operands_of (Take take) = take_operands take
 operands_of (Tidy tidy) = tidy_operands tidy
+operands_of (Unpack paths) =
+    Input (codes "IN") paths.input.now ∷ Path (codes "FOLDER") paths.folder.now ∷ Flag (codes "force") paths.force ∷ []
 operands_of (Wave paths) =
     Input (codes "IN") paths.input.now
     ∷ Number (codes "S") 32 paths.sample
@@ -341,12 +345,14 @@ command_of (Live paths) = codes "live"
 command_of (Map paths) = codes "map"
 command_of (Merge merge) = codes "merge"
 command_of (New bank) = codes "new"
+command_of (Pack paths) = codes "pack"
 command_of (Play paths) = codes "play"
 command_of (Replace paths) = codes "replace"
 command_of (Script paths) = codes "script"
 command_of (Show paths) = codes "show"
 command_of (Take take) = codes "take"
 command_of (Tidy tidy) = codes "tidy"
+command_of (Unpack paths) = codes "unpack"
 command_of (Wave paths) = codes "wave"
 
 -- what clap found for a command, under the names of its operands

@@ -1,9 +1,10 @@
 //! The program's commands, described for clap.
-ghost use Rattle.std.specs.Prelude.{◌≡◌, IfOk, false, fold, map};
+ghost use Rattle.std.specs.Prelude.{◌≡◌, IfOk, IfSome, false, fold, map};
 ghost use Rattle.clap.specs.Words.{app_of, new_app, rule_of, shape_of, with_subcommand};
 ghost use Rattle.program_commands.specs.Commands.{argument_of, command_in, commands_from_map, commands_to_live};
 ghost use Rattle.program_commands.specs.Commands.{program_app, rule_for, rule_for_option};
-ghost use Rattle.program_commands.specs.Commands.{rule_for_positional, rule_for_required, shape_for, IsSfbankApp};
+ghost use Rattle.program_commands.specs.Commands.{rule_for_positional, rule_for_required, shape_for};
+ghost use Rattle.program_commands.specs.Commands.{AreWordParsers, IsSfbankApp};
 
 use clap::builder::ValueParser;
 use clap::{Arg, ArgAction, Command, value_parser};
@@ -80,6 +81,12 @@ enum Operand {
 
 /// The flag that lets OUT replace a bank.
 const FORCE: Operand = Operand::Flag("force", "Writes OUT even if a bank is there");
+
+/// The flag that lets `unpack` write into a folder that is there.
+const FOLDER_FORCE: Operand = Operand::Flag(
+    "force",
+    "Writes into FOLDER even if it is there, and replaces files in it",
+);
 
 /// The flag that lets UNDO replace a bank.
 const UNDO_FORCE: Operand = Operand::Flag("force", "Writes UNDO even if a bank is there");
@@ -288,7 +295,7 @@ static COMMANDS_TO_LIVE: [Entry; 8] = [
 ];
 
 /// The commands from `map` on.
-static COMMANDS_FROM_MAP: [Entry; 10] = [
+static COMMANDS_FROM_MAP: [Entry; 12] = [
     Entry {
         name: "map",
         about: "Draws the key and velocity ranges of a preset or an instrument as an SVG picture",
@@ -338,6 +345,20 @@ static COMMANDS_FROM_MAP: [Entry; 10] = [
             Operand::Path("OUT", "Where the empty bank is written"),
         ],
         example: "Example: sfbank new empty.sf2",
+    },
+    Entry {
+        name: "pack",
+        about: "Makes the bank of a folder that `unpack` wrote",
+        usage: None,
+        operands: &[
+            FORCE,
+            Operand::Path(
+                "FOLDER",
+                "The folder to read; each WAVE file in it must be 16-bit mono, of the rate of its sample",
+            ),
+            Operand::Path("OUT", "Where the bank of the folder is written"),
+        ],
+        example: "Example: sfbank pack organ changed.sf2",
     },
     Entry {
         name: "play",
@@ -434,6 +455,21 @@ static COMMANDS_FROM_MAP: [Entry; 10] = [
         example: "Example: sfbank tidy organ.sf2 tidy.sf2 undo.txt",
     },
     Entry {
+        name: "unpack",
+        about: "Writes a bank as a folder: a script, and a WAVE file for each sample",
+        usage: None,
+        operands: &[
+            FOLDER_FORCE,
+            Operand::Path("IN", "The bank to read"),
+            Operand::Path(
+                "FOLDER",
+                "Where the folder is written: bank.txt, the script, and in samples/ a file NUMBER NAME.wav for each \
+                 sample, with _ in NAME for characters that file systems can't have",
+            ),
+        ],
+        example: "Example: sfbank unpack organ.sf2 organ",
+    },
+    Entry {
         name: "wave",
         about: "Writes a sample of a bank as a WAVE file",
         usage: None,
@@ -456,12 +492,49 @@ pub(crate) fn sfbank_command<'a>(alloc: Global) -> Result<Command<'a>, AllocErro
     ensures { IfOk result (λ command. IsSfbankApp (app_of command)) }
 {
     let command = bare_program(alloc)?;
-    let parsers = WordParsers {
-        levels: ValueParser::from(LEVELS.as_slice()),
-        members: ValueParser::from(MEMBERS.as_slice()),
-    };
+    let parsers = word_parsers();
     let begun = with_commands(alloc, command, commands_to_live(), parsers)?;
     with_commands(alloc, begun, commands_from_map(), parsers)
+}
+
+/// Describes the command of this name, if there is one, with the usage that it has in the program.
+pub(crate) fn command_named<'a>(
+    alloc: Global,
+    name: &str,
+) -> Result<Option<Command<'a>>, AllocError>
+    ensures { IfOk result (λ found. IfSome found (λ command. (app_of command).top.name ≡ name.now)) }
+{
+    let Some(entry) = entry_named(name) else {
+        return Ok(None);
+    };
+    let full_name = format!(in alloc; "{NAME} {name}")?;
+    let command = command_of(alloc, entry, word_parsers())?.bin_name(full_name.as_str())?;
+    Ok(Some(command))
+}
+
+// Returns the command of this name.
+fn entry_named(name: &str) -> Option<&'static Entry>
+    ensures { IfSome result (λ entry. entry.now.name.now ≡ name.now) }
+{
+    match entry_in(commands_to_live(), name) {
+        Some(entry) => Some(entry),
+        None => entry_in(commands_from_map(), name),
+    }
+}
+
+fn entry_in<'e>(entries: &'e [Entry], name: &str) -> Option<&'e Entry>
+    ensures { IfSome result (λ entry. entry.now.name.now ≡ name.now) }
+{
+    entries.iter().find(|entry| entry.name == name)
+}
+
+fn word_parsers<'a>() -> WordParsers<'a>
+    ensures { AreWordParsers result }
+{
+    WordParsers {
+        levels: ValueParser::from(LEVELS.as_slice()),
+        members: ValueParser::from(MEMBERS.as_slice()),
+    }
 }
 
 // The tables as results of functions, so that each is proved alone.

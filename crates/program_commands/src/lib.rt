@@ -3,6 +3,7 @@
 
 mod commands;
 mod explain;
+mod folders;
 mod kits;
 mod names;
 mod paths;
@@ -18,5 +19,5 @@ pub use plans::{CopyPaths, KeepPaths, Kept, MergePaths, PlanPaths, TakePaths, Ti
 pub use recordings::{ImportPaths, ReplacePaths, WavePaths};
 pub use words::{
     ApplyOnlyPaths, ApplyPaths, CanonPaths, DiffPaths, Forms, LivePaths, MapPaths, NewBank,
-    PlayPaths, Request, ScriptPaths, ShowPaths, request_of,
+    PackPaths, PlayPaths, Request, ScriptPaths, ShowPaths, UnpackPaths, request_of,
 };

@@ -6,8 +6,9 @@ ghost use Rattle.program_commands.specs.Words.{Number, Flag, is_neutral, owner_o
 ghost use Rattle.program_commands.specs.Words.{rows_in, AreGiven, AsksFor, FailsByFault, FindsOne, IsGiven};
 ghost use Rattle.program_commands.specs.Words.{IsParsedBy};
 
-use crate::commands::sfbank_command;
+use crate::commands::{command_named, sfbank_command};
 use crate::explain::{Topic, read_topic};
+use crate::folders::{read_pack, read_unpack};
 use crate::kits::{KitPaths, read_kit};
 use crate::paths::{read_input, read_output, read_path};
 use crate::plans::{
@@ -52,6 +53,8 @@ pub enum Request<'a> {
     Merge(MergePaths<'a>),
     /// Write an empty bank.
     New(NewBank<'a>),
+    /// Make the bank of a folder.
+    Pack(PackPaths<'a>),
     /// Play notes on a bank into a WAVE file.
     Play(PlayPaths<'a>),
     /// Put a recording in the place of a sample.
@@ -64,6 +67,8 @@ pub enum Request<'a> {
     Take(TakePaths<'a>),
     /// Remove what a bank doesn't use, and change no sound.
     Tidy(TidyPaths<'a>),
+    /// Write a bank as a folder.
+    Unpack(UnpackPaths<'a>),
     /// Write a sample as a WAVE file.
     Wave(WavePaths<'a>),
 }
@@ -144,6 +149,15 @@ pub struct NewBank<'a> {
     pub force: bool,
 }
 
+/// The operands of `pack`.
+#[derive(Clone, Copy)]
+pub struct PackPaths<'a> {
+    pub folder: &'a str,
+    pub out: &'a str,
+    /// Whether the bank may replace a bank.
+    pub force: bool,
+}
+
 /// The operands of `play`.
 #[derive(Clone, Copy)]
 pub struct PlayPaths<'a> {
@@ -175,6 +189,15 @@ pub struct ShowPaths<'a> {
     pub uses: bool,
 }
 
+/// The operands of `unpack`.
+#[derive(Clone, Copy)]
+pub struct UnpackPaths<'a> {
+    pub input: &'a str,
+    pub folder: &'a str,
+    /// Whether the folder may be there already, and files in it be replaced.
+    pub force: bool,
+}
+
 /// Returns what the words ask for. The first word is the program's name. For `--help` and `--version` it returns an
 /// error of clap's that has the text to print.
 pub fn request_of<'a, S: AsStr>(alloc: Global, words: &'a [S]) -> Result<Request<'a>, Error>
@@ -198,12 +221,30 @@ fn parse_request<'a, S: AsStr>(
     let found = request_in(alloc, &matches)?;
     match found {
         Some(request) => Ok(request),
-        None => Err(command.error(ErrorKind::MissingSubcommand, no_request(&matches))?),
+        None => Err(no_request(alloc, command, &matches)?),
+    }
+}
+
+/// Returns the error for words in which clap finds no fault, but which make no request. It shows the usage of the
+/// command that they use.
+fn no_request(
+    alloc: Global,
+    program: &mut Command<'_>,
+    matches: &ArgMatches<'_>,
+) -> Result<Error, AllocError> {
+    let message = rejection(matches);
+    let Some(name) = matches.subcommand_name() else {
+        return program.error(ErrorKind::MissingSubcommand, message);
+    };
+    let found = command_named(alloc, name)?;
+    match found {
+        Some(mut command) => command.error(ErrorKind::ValueValidation, message),
+        None => program.error(ErrorKind::MissingSubcommand, message),
     }
 }
 
 /// Returns the message for words in which clap finds no fault, but which make no request.
-fn no_request(matches: &ArgMatches<'_>) -> &'static str {
+fn rejection(matches: &ArgMatches<'_>) -> &'static str {
     match matches.subcommand() {
         Some((_, words)) if saves_in_dry_run(words) => {
             "--script saves the edits that --dry-run prints: give one of the two"
@@ -219,6 +260,7 @@ fn no_request(matches: &ArgMatches<'_>) -> &'static str {
         Some(("live", _)) => {
             "live writes its answers to the standard output, so PCM can't be -: name a pipe or a file"
         }
+        Some(("pack", _)) | Some(("unpack", _)) => "FOLDER can't be -: name a folder",
         Some(("replace", _)) => {
             "replace takes --channel from 1 on, --key from 0 to 127, and --dither SEED"
         }
@@ -341,11 +383,13 @@ fn request_of_command<'a>(name: &str, words: &ArgMatches<'a>) -> Option<Request<
         "map" => Request::Map(read_map(words)?),
         "merge" => Request::Merge(read_merge(words)?),
         "new" => Request::New(read_new(words)?),
+        "pack" => Request::Pack(read_pack(words)?),
         "play" => Request::Play(read_play(words)?),
         "replace" => Request::Replace(read_replace(words)?),
         "script" => Request::Script(read_script(words)?),
         "show" => Request::Show(read_show(words)?),
         "tidy" => Request::Tidy(read_tidy(words)?),
+        "unpack" => Request::Unpack(read_unpack(words)?),
         "wave" => Request::Wave(read_wave(words)?),
         _ => return None,
     })

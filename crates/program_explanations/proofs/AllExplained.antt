@@ -27,7 +27,7 @@ use Rattle.plan_presets.specs.declared.fault.PresetFault.TheVariants as preset
 use Rattle.program_explanations.specs.declared.explanations.FaultCode.{FaultCode}
 use Rattle.program_explanations.specs.declared.explanations.FaultCode.TheVariants.{Reading, Script, Notes, Recording, Output}
 use Rattle.program_explanations.specs.declared.explanations.FaultCode.TheVariants.{Refused, NotNeutral, OtherVersion}
-use Rattle.program_explanations.specs.declared.explanations.FaultCode.TheVariants.{Presets, PlanFailed, Table}
+use Rattle.program_explanations.specs.declared.explanations.FaultCode.TheVariants.{Presets, PlanFailed, Table, FolderThere}
 use Rattle.program_explanations.specs.declared.explanations.TheConstants.{ALL}
 use Rattle.program_explanations.specs.Explanations.{number_of, name_of}
 
@@ -102,6 +102,9 @@ of_recording wave.NoSuchChannel = refl
 of_recording wave.TwoChannels = refl
 of_recording wave.NotAPair = refl
 of_recording wave.SidesDiffer = refl
+of_recording wave.NotSixteenBits = refl
+of_recording wave.OtherRate = refl
+of_recording wave.ShortForLoop = refl
 
 of_output : (it : OutputFault) → IsListed (Output it)
 of_output output.SameFile = refl
@@ -152,6 +155,7 @@ all_listed NotNeutral = refl
 all_listed OtherVersion = refl
 all_listed (Presets it) = of_presets it
 all_listed PlanFailed = refl
+all_listed FolderThere = refl
 
 -- a fault or refusal with this number is found
 abbrev pub Found : ℕ → Type 0

@@ -45,6 +45,8 @@ pub enum FaultCode {
     Presets(PresetFault),
     /// A plan that failed.
     PlanFailed,
+    /// A folder that is there already, where a new one is made.
+    FolderThere,
 }
 
 /// The explanation of a fault or refusal.
@@ -68,7 +70,7 @@ pub struct Explanations<'t>(pub &'t [Explanation]);
 const ANY_NUMBERS: PresetNumbers = PresetNumbers { bank: 0, number: 0 };
 
 /// One fault or refusal for each number, in the order of the numbers. The fields of a variant have any value.
-static ALL: [FaultCode; 72] = [
+static ALL: [FaultCode; 76] = [
     FaultCode::Reading(ReadFault::NotRiff),
     FaultCode::Reading(ReadFault::NotSfbk),
     FaultCode::Reading(ReadFault::Truncated),
@@ -141,6 +143,10 @@ static ALL: [FaultCode; 72] = [
     FaultCode::Table(KitFault::BadRow(1)),
     FaultCode::Table(KitFault::TooManyRows(1)),
     FaultCode::Table(KitFault::NoRows(1)),
+    FaultCode::Recording(WaveFault::NotSixteenBits),
+    FaultCode::Recording(WaveFault::OtherRate),
+    FaultCode::Recording(WaveFault::ShortForLoop),
+    FaultCode::FolderThere,
 ];
 
 impl FaultCode {
@@ -174,6 +180,7 @@ impl FaultCode {
             FaultCode::OtherVersion => 51,
             FaultCode::Presets(fault) => fault.number(),
             FaultCode::PlanFailed => 66,
+            FaultCode::FolderThere => 81,
         }
     }
 
@@ -193,6 +200,7 @@ impl FaultCode {
             FaultCode::OtherVersion => "OtherVersion",
             FaultCode::Presets(fault) => fault.name(),
             FaultCode::PlanFailed => "PlanFailed",
+            FaultCode::FolderThere => "FolderThere",
         }
     }
 
@@ -226,6 +234,10 @@ impl FaultCode {
             FaultCode::PlanFailed => (
                 "The command found no edits that do what it promises: a defect.",
                 "Report the bank and the command; no file was changed.",
+            ),
+            FaultCode::FolderThere => (
+                "FOLDER is there already, and files in it could be replaced.",
+                "Give a new folder, or add --force to write into this one.",
             ),
         }
     }
@@ -517,7 +529,7 @@ fn of_recording(fault: WaveFault) -> (&'static str, &'static str) {
         ),
         WaveFault::TwoChannels => (
             "The recording is stereo, but the sample is mono.",
-            "Give one channel by `--channel N`.",
+            "Give one channel: `sox IN OUT.wav remix 1`, or `--channel N` of `replace`.",
         ),
         WaveFault::NotAPair => (
             "The sample is not one of a left and a right sample that link to each other.",
@@ -526,6 +538,18 @@ fn of_recording(fault: WaveFault) -> (&'static str, &'static str) {
         WaveFault::SidesDiffer => (
             "The samples of the pair differ in length or in rate.",
             "Export each one without `--pair`.",
+        ),
+        WaveFault::NotSixteenBits => (
+            "The samples of the file don't have 16 bits, as those of a folder must.",
+            "Convert it: `sox IN -b 16 OUT.wav`.",
+        ),
+        WaveFault::OtherRate => (
+            "The file has another rate than the sample has in bank.txt.",
+            "Change the rate in its line, or the rate of the file: `sox IN -r RATE OUT.wav`.",
+        ),
+        WaveFault::ShortForLoop => (
+            "The loop of the sample's line in bank.txt ends after the last point of the file.",
+            "Change the loop in its line, or give a longer file.",
         ),
     }
 }
@@ -551,7 +575,7 @@ fn of_presets(fault: PresetFault) -> (&'static str, &'static str) {
         ),
         PresetFault::InUse(_) => (
             "Another preset has these numbers, or two copies would get them.",
-            "Give other numbers by `--preset A:B=C:D`, `--shift` or `--as`.",
+            "Give other numbers by `--preset`, `--shift` or `--as`.",
         ),
         PresetFault::BankTooHigh(_) => (
             "The bank number of this preset would be above 65,535.",

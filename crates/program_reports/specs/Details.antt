@@ -12,7 +12,7 @@ use Rattle.program_reports.specs.declared.details.Details.{Details}
 use Rattle.program_reports.specs.declared.details.Advice.{Advice}
 use Rattle.program_reports.specs.declared.details.Advice.TheVariants.{Nothing, Line, Explained}
 use Rattle.program_reports.specs.declared.fault.Fault.{Fault}
-use Rattle.program_reports.specs.declared.fault.Fault.TheVariants.{File, Output, RowFile, RowRecording, Run}
+use Rattle.program_reports.specs.declared.fault.Fault.TheVariants.{File, FolderThere, Output, RowFile, RowRecording, Run}
 use Rattle.program_reports.specs.declared.run_fault.RunFault.{RunFault}
 use Rattle.program_reports.specs.declared.run_fault.RunFault.TheVariants.{Read, ReadFirst, ReadSecond, ReadFrom, Script}
 use Rattle.program_reports.specs.declared.run_fault.RunFault.TheVariants.{Refused, NotNeutral, OtherVersion, Notes}
@@ -65,6 +65,7 @@ IsAdvice (File path why) text = text ≡ indented (reason_of why)
 IsAdvice (RowFile row why) text = text ≡ indented (reason_of why)
 IsAdvice (RowRecording row fault) text = IsExplained (Some (code.Recording fault)) text
 IsAdvice (Output fault path) text = IsExplained (Some (code.Output fault)) text
+IsAdvice (FolderThere path) text = IsExplained (Some code.FolderThere) text
 IsAdvice (Run fault path) text = IsExplained (code_of fault) text
 IsAdvice fault text = text ≡ []
 

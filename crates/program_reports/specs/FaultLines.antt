@@ -23,6 +23,8 @@ use Rattle.plan_presets.specs.declared.numbers.PresetNumbers.{PresetNumbers}
 use Rattle.plan_presets.specs.PresetFaults as presets
 use Rattle.base_outputs.specs.declared.output_fault.OutputFault.{OutputFault}
 use Rattle.base_outputs.specs.OutputFaults as rejected
+use Rattle.program_explanations.specs.Explanations as explanations
+use Rattle.program_explanations.specs.declared.explanations.FaultCode.TheVariants as code
 use Rattle.program_reports.specs.declared.fault.RowPath.{RowPath}
 use Rattle.program_reports.specs.declared.run_fault.RunFault.{RunFault}
 use Rattle.program_reports.specs.declared.run_fault.RunFault.TheVariants.{Read, ReadFirst, ReadSecond, ReadFrom, Script}
@@ -140,6 +142,11 @@ rejected_line number name path =
 
 abbrev pub output_line : List ℕ → OutputFault → List ℕ
 output_line path fault = rejected_line (rejected.number_of fault) (rejected.name_of fault) path
+
+-- a folder that is there already
+abbrev pub folder_there_line : List ℕ → List ℕ
+folder_there_line path =
+    rejected_line (explanations.number_of code.FolderThere) (explanations.name_of code.FolderThere) path
 
 -- a number, or a name, that no fault and no refusal has
 abbrev pub no_number_line : ℕ → List ℕ

@@ -61,6 +61,7 @@ fn advice_on(fault: &Fault<'_>) -> Advice
             Advice::Explained(FaultCode::Recording(*fault).explanation())
         }
         Fault::Output(fault, _) => Advice::Explained(FaultCode::Output(*fault).explanation()),
+        Fault::FolderThere(_) => Advice::Explained(FaultCode::FolderThere.explanation()),
         Fault::Run(fault, _) => advice_on_run(fault),
         Fault::Words(_)
         | Fault::NotText

@@ -36,6 +36,8 @@ pub enum Fault<'a> {
     RowRecording(RowPath, WaveFault),
     /// The output at this path is rejected.
     Output(OutputFault, &'a str),
+    /// The folder at this path is there already.
+    FolderThere(&'a str),
     /// The run failed. A write fault is about this path.
     Run(RunFault, &'a str),
     /// The reader of an output closed its pipe early, which is not reported.

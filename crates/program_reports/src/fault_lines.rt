@@ -3,7 +3,7 @@ ghost use Rattle.std.specs.Prelude.{◌≡◌, IfOk, Some};
 ghost use Rattle.base_outputs.specs.Output.{Puts};
 ghost use Rattle.base_outputs.specs.Writing.{Writes};
 ghost use Rattle.sample_view.specs.Pieces.{joined_bytes};
-ghost use Rattle.program_reports.specs.FaultLines.{fault_line, status_of, read_line, first_read_line, second_read_line, from_read_line, read_text, script_line, notes_line, table_line, text_line, refused_line, refused_start, not_neutral_line, named_line, recording_line, in_recording_line, row_start, row_file_line, row_recording_line, recording_text, no_member_line, preset_line, preset_text, full_line, write_line, file_line, output_line, rejected_line, no_number_line, no_name_line};
+ghost use Rattle.program_reports.specs.FaultLines.{fault_line, status_of, read_line, first_read_line, second_read_line, from_read_line, read_text, script_line, notes_line, table_line, text_line, refused_line, refused_start, not_neutral_line, named_line, recording_line, in_recording_line, row_start, row_file_line, row_recording_line, recording_text, no_member_line, preset_line, preset_text, full_line, write_line, file_line, output_line, rejected_line, no_number_line, no_name_line, folder_there_line};
 
 use crate::fault::RowPath;
 use crate::run_fault::RunFault;
@@ -16,6 +16,7 @@ use edit_script::RefusalText;
 use itoa::Buffer;
 use kit_tables::KitFault;
 use plan_presets::{PresetFault, PresetNumbers};
+use program_explanations::FaultCode;
 use script_notes::NoteFault;
 use script_tokens::ScriptFault;
 use std::io::Write;
@@ -362,6 +363,14 @@ pub(crate) fn put_output_fault<W: Write>(path: &str, fault: OutputFault, output:
     ensures { Puts W.contents output.old output.new (output_line path.now fault) }
 {
     put_rejected(fault.number(), fault.name(), path, output);
+}
+
+/// Puts the line of a folder that is there already.
+pub(crate) fn put_folder_there<W: Write>(path: &str, output: &mut Output<'_, W>)
+    ensures { Puts W.contents output.old output.new (folder_there_line path.now) }
+{
+    let explanation = FaultCode::FolderThere.explanation();
+    put_rejected(explanation.number, explanation.name, path, output);
 }
 
 fn put_rejected<'t, W: Write>(number: u8, name: &'t str, path: &'t str, output: &mut Output<'_, W>)

@@ -23,11 +23,11 @@ use Rattle.script_of_bank.specs.LeadsTo.{Leads, edits_between}
 use Rattle.script_of_bank.specs.BankScript.{first_line, bank_script, TextGivesBank, TextDeterminesBank, ReplacementLeads}
 use Rattle.script_of_bank.proofs.Law.{whole, anywhere}
 
-accepted_fit : (b : Parts) (es : List Edit) → AllAccepted b es → AllFit es
+pub accepted_fit : (b : Parts) (es : List Edit) → AllAccepted b es → AllFit es
 accepted_fit b [] h = tt
 accepted_fit b (e ∷ es) h = (h.0.fits, accepted_fit (raw b e) es h.1)
 
-small : (b : Parts) → IsSound b → b.minor < 2 ^ 32
+pub small : (b : Parts) → IsSound b → b.minor < 2 ^ 32
 small b s = let h = s.fits.minor in omega (arith, h)
 
 -- ---- the script of a bank

@@ -126,7 +126,7 @@ sample_turns : (how : SamplePoints) (n : ℕ) (ss : List Sample)
     → in_turn (selected_edits how) n ss ≡ in_turn sample_edits n (map (selected_sample how) ss)
 sample_turns how n ss = turns_of (selected_edits how) sample_edits (selected_sample how) (λ n s. refl) n ss
 
-link_turns : (how : SamplePoints) (n : ℕ) (ss : List Sample)
+pub link_turns : (how : SamplePoints) (n : ℕ) (ss : List Sample)
     → in_turn link_edits n ss ≡ in_turn link_edits n (map (selected_sample how) ss)
 link_turns how n ss = turns_of link_edits link_edits (selected_sample how) (λ n s. refl) n ss
 

@@ -8,7 +8,7 @@ use Rattle.script_tokens.specs.declared.printing.Piece.TheVariants.{Number, Word
 use Rattle.script_tokens.specs.Printing.{line_text}
 use Rattle.edit_script.specs.declared.parsing.Line.{Line}
 use Rattle.edit_script.specs.Script.{script_of}
-use Rattle.edit_script.specs.Printing.{texts_of}
+use Rattle.edit_script.specs.Printing.{numbered, texts_of}
 use Rattle.script_of_bank.specs.declared.samples.SamplePoints.{SamplePoints}
 use Rattle.script_of_bank.specs.declared.samples.SamplePoints.TheVariants.{Kept, LeftOut}
 use Rattle.script_of_bank.specs.BankEdits.{empty, sample_edits, edits_of_bank}
@@ -40,8 +40,7 @@ with_points LeftOut b = record b { samples = map (selected_sample LeftOut) b.sam
 unfoldable pub first_line : SamplePoints → ℕ → List ℕ
 first_line Kept minor = line_text (codes "# sfbank new --minor") (Number minor ∷ [])
 first_line LeftOut minor =
-    line_text (codes "# sfbank new --minor")
-    (Number minor ∷ Word (codes "without points: to read and compare alone") ∷ [])
+    line_text (codes "# sfbank new --minor") (Number minor ∷ Word (codes "without") ∷ Word (codes "points") ∷ [])
 
 -- the script that creates a bank from the empty bank
 unfoldable pub bank_script : SamplePoints → Parts → List ℕ
@@ -58,6 +57,12 @@ pub record IsScript (from : Parts) (text : List ℕ) (to : Parts) : Type 0 where
 -- the text of a sound bank is a script that leads to it from the empty bank
 abbrev pub TextGivesBank : Type 0
 TextGivesBank = (b : Parts) → IsSound b → IsScript (empty b.minor) (bank_script Kept b) b
+
+-- with or without points, the text is read as the edits that list the bank, from line 2 on
+abbrev pub TextListsEdits : Type 0
+TextListsEdits =
+    (how : SamplePoints) (b : Parts) → IsSound b
+    → script_of (bank_script how b) ≡ Ok (numbered 2 (edits_of_bank (with_points how b)))
 
 -- two different banks have different texts
 abbrev pub TextDeterminesBank : Type 0

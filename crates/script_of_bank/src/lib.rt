@@ -13,6 +13,7 @@ mod zones;
 
 pub use laws::{
     edits_give_bank, edits_lead_anywhere, replacement_leads, text_determines_bank, text_gives_bank,
+    text_lists_edits,
 };
 pub use replacement::Replacement;
 pub use samples::SamplePoints;

@@ -27,7 +27,7 @@ use std::io::Write;
 pub enum SamplePoints {
     /// All points, so that the script creates the bank.
     Kept,
-    /// No points: the script is short, but can only be read and compared.
+    /// No points: the script is short, to be read, compared or packed with the points in other files.
     LeftOut,
 }
 

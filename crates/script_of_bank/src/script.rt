@@ -44,10 +44,9 @@ fn put_first_line<W: Write>(points: SamplePoints, minor: u16, output: &mut Outpu
     match points {
         SamplePoints::Kept => put_line(command, &[minor], output),
         SamplePoints::LeftOut => {
-            let purpose = Piece::Word(BorrowedBytes::new(
-                b"without points: to read and compare alone",
-            ));
-            put_line(command, &[minor, purpose], output);
+            let without = Piece::Word(BorrowedBytes::new(b"without"));
+            let points = Piece::Word(BorrowedBytes::new(b"points"));
+            put_line(command, &[minor, without, points], output);
         }
     }
 }

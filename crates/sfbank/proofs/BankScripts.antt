@@ -21,6 +21,7 @@ use Rattle.script_of_bank.specs.declared.samples.SamplePoints.{SamplePoints}
 use Rattle.script_of_bank.specs.declared.samples.SamplePoints.TheVariants.{Kept}
 use Rattle.script_of_bank.specs.BankEdits.{empty}
 use Rattle.script_of_bank.specs.BankScript.{bank_script, IsScript}
+use Rattle.script_of_bank.specs.LeadsTo.{Leads}
 use Rattle.script_of_bank.proofs.AcceptedLaws.{sound_empty}
 use Rattle.script_of_bank.proofs.PrintedLaws.{text_gives, text_determines}
 use Rattle.program_reports.specs.declared.run_fault.RunFault.{RunFault}
@@ -66,16 +67,20 @@ lines_accepted : (b : Parts) (lines : List Line) → AllAccepted b (edits_of lin
 lines_accepted b [] h = refl
 lines_accepted b (l ∷ lines) h = rw h.0.accepted (lines_accepted (raw b l.edit) lines h.1)
 
-pub script_leads : (a : Parts) (text : List ℕ) (b : Parts) (s : IsScript a text b)
-    → after_script a (script_of text) ≡ Ok (record { out = canon b; undo = texts_of (undo_list a (edits_of s.lines)) })
-script_leads a text b s =
-    let es = edits_of s.lines in
-    ap (after_script a) s.read
-    ∙ ap (λ (o : Option RefusedLine). unless_refused o (both_texts a es)) (lines_accepted a s.lines s.leads.is_accepted)
+pub lines_lead : (a : Parts) (lines : List Line) (b : Parts) → Leads a (edits_of lines) b
+    → after_script a (Ok lines) ≡ Ok (record { out = canon b; undo = texts_of (undo_list a (edits_of lines)) })
+lines_lead a lines b leads =
+    let es = edits_of lines in
+    ap (λ (o : Option RefusedLine). unless_refused o (both_texts a es)) (lines_accepted a lines leads.is_accepted)
     ∙ ap
     (λ (c : Parts). let r : Result Done RunFault =
     Ok (record { out = canon c; undo = texts_of (undo_list a es) }) in r)
-    s.leads.given
+    leads.given
+
+pub script_leads : (a : Parts) (text : List ℕ) (b : Parts) (s : IsScript a text b)
+    → after_script a (script_of text) ≡ Ok (record { out = canon b; undo = texts_of (undo_list a (edits_of s.lines)) })
+script_leads a text b s =
+    ap (after_script a) s.read ∙ lines_lead a s.lines b s.leads
 
 -- ---- laws
 

@@ -16,7 +16,7 @@ use Rattle.program_commands.specs.declared.words.Request.TheVariants.{ImportKit}
 use Rattle.program_commands.specs.declared.kits.KitSource.TheVariants.{Files, Table}
 use Rattle.program_reports.specs.declared.fault.Fault.{Fault}
 use Rattle.program_reports.specs.declared.fault.Fault.TheVariants.{Words, NotText, NoNumber, NoName, File, Output, Run, PipeClosed}
-use Rattle.program_reports.specs.declared.fault.Fault.TheVariants.{RowFile, RowRecording}
+use Rattle.program_reports.specs.declared.fault.Fault.TheVariants.{FolderThere, RowFile, RowRecording}
 use Rattle.program_reports.specs.declared.run_fault.RunFault.{RunFault}
 use Rattle.program_reports.specs.declared.run_fault.RunFault.TheVariants as run
 use Rattle.wave_file.specs.declared.fault.WaveFault.{WaveFault}
@@ -27,14 +27,14 @@ use Rattle.sfbank.specs.Outcome.{Done}
 use Rattle.sfbank.specs.Written.{FailsBefore}
 use Rattle.sfbank.specs.Kits.{Source, kit_outcome}
 use Rattle.sfbank.specs.PlanParts.{Action, Why, FailsRow, UnreadRow, Known, Inputs, GivesInput, name_in, with_input}
-use Rattle.sfbank.specs.KitPlans.{Entry, Listing, GiveWaves, entries_in, entries_of, entries_of_table, fails_row, if_listed}
+use Rattle.sfbank.specs.KitPlans.{Entry, Listing, GiveWaves, entries_in, entries_of, entries_of_table, fails_recorded, fails_row, if_listed}
 use Rattle.sfbank.specs.KitPlans.{kit_plan, listed_plan, listing_in, listing_of_words, kit_members, members_of, other_name, outputs_apart, paths_of, work_of}
 use Rattle.sfbank.specs.KitPlans.{recordings_apart, source_at, table_of, tables_of, with_kit, with_listing, with_waves}
 use Rattle.sfbank.specs.KitSteps.{EndsIfListed, EndsKit, EndsListed, FailsEntry, FileRead, IsOfEntry, IsOfKit, IsOfRecording}
 use Rattle.sfbank.specs.KitSteps.{IsReadOf, StopsAtEntry, entry_of, file_of, row_zone, source_read}
 use Rattle.sfbank.specs.Ends.{Outside, IsEarly, EndsAs, EndsFor}
 use Rattle.sfbank.specs.Outputs.{SavesPairAt}
-use Rattle.sfbank.specs.Steps.{Part, Passes, PassesIn, FailsInput, ReadsInput, ReadsTwo, AreGiven}
+use Rattle.sfbank.specs.Steps.{Part, Passes, FailsInput, ReadsTwo, AreGiven}
 use Rattle.sfbank.specs.Meanings.{MeansPlan}
 use Rattle.sfbank.proofs.ListLaws.{map_split, split_at}
 use Rattle.sfbank.proofs.OutcomeLaws.{both_end, outcome_fails}
@@ -283,6 +283,7 @@ row_fails w e why (NoName n) planned is h = absurd h
 row_fails w e why (File path f) planned is h = absurd h
 row_fails w e why (Output f path) planned is h = absurd h
 row_fails w e why (RowFile row f) planned is h = absurd h
+row_fails w e why (FolderThere path) planned is h = absurd h
 row_fails w e why PipeClosed planned is h = absurd h
 row_fails w e why (Run (run.Read f) path) planned is h = absurd h
 row_fails w e why (Run (run.ReadFirst f) path) planned is h = absurd h
@@ -303,48 +304,50 @@ row_fails w e why (Run (run.InRecording i f) path) planned is h = absurd h
 row_fails w e why (Run (run.Write a n) path) planned is h = absurd h
 
 -- the fault of a recording, if it is listed
-entry_fails : (w : World) (k : KitWork) (i : ℕ) (why : WaveFault) (fault : Fault) (e : Option Entry) (planned : Result Action Why)
-    → planned ≡ fails_row k i why e → IsOfEntry e i why k.out fault → IsEarly w planned fault
-entry_fails w k i why fault (Some e) planned is h = row_fails w e why fault planned is h
-entry_fails w k i why fault None planned is h = subst (IsEarly w planned) (sym h) is
+entry_fails : (w : World) (out : Bor (List ℕ)) (i : ℕ) (why : WaveFault) (fault : Fault) (e : Option Entry)
+    (planned : Result Action Why)
+    → planned ≡ fails_row out.now i why e → IsOfEntry e i why out fault → IsEarly w planned fault
+entry_fails w out i why fault (Some e) planned is h = row_fails w e why fault planned is h
+entry_fails w out i why fault None planned is h = subst (IsEarly w planned) (sym h) is
 
-kit_fails : (w : World) (k : KitWork) (entries : List Entry) (outcome : Result Done RunFault) (why : RunFault)
-    (fault : Fault)
-    → FailsBefore why outcome → IsOfKit entries k.out why fault → IsEarly w (with_kit k entries outcome) fault
-kit_fails w k entries outcome (run.InRecording i f) fault h is =
-    entry_fails w k i f fault (slice_get entries (i - 1)) (with_kit k entries outcome) (ap (with_kit k entries) h) is
-kit_fails w k entries outcome run.Memory fault h is = subst (IsEarly w (with_kit k entries outcome)) (sym is) tt
-kit_fails w k entries outcome (run.Write a n) fault h is = absurd h
-kit_fails w k entries outcome run.PlanFailed fault h is =
-    subst (IsEarly w (with_kit k entries outcome)) (sym is) (inl (ap (with_kit k entries) h))
-kit_fails w k entries outcome (run.Full f) fault h is =
-    subst (IsEarly w (with_kit k entries outcome)) (sym is) (inl (ap (with_kit k entries) h))
-kit_fails w k entries outcome (run.Read f) fault h is =
-    subst (IsEarly w (with_kit k entries outcome)) (sym is) (ap (with_kit k entries) h)
-kit_fails w k entries outcome (run.ReadFirst f) fault h is =
-    subst (IsEarly w (with_kit k entries outcome)) (sym is) (ap (with_kit k entries) h)
-kit_fails w k entries outcome (run.ReadSecond f) fault h is =
-    subst (IsEarly w (with_kit k entries outcome)) (sym is) (ap (with_kit k entries) h)
-kit_fails w k entries outcome (run.ReadFrom f) fault h is =
-    subst (IsEarly w (with_kit k entries outcome)) (sym is) (ap (with_kit k entries) h)
-kit_fails w k entries outcome (run.Script f) fault h is =
-    subst (IsEarly w (with_kit k entries outcome)) (sym is) (ap (with_kit k entries) h)
-kit_fails w k entries outcome (run.Table f) fault h is =
-    subst (IsEarly w (with_kit k entries outcome)) (sym is) (ap (with_kit k entries) h)
-kit_fails w k entries outcome (run.Refused n f) fault h is =
-    subst (IsEarly w (with_kit k entries outcome)) (sym is) (ap (with_kit k entries) h)
-kit_fails w k entries outcome (run.NotNeutral n) fault h is =
-    subst (IsEarly w (with_kit k entries outcome)) (sym is) (ap (with_kit k entries) h)
-kit_fails w k entries outcome run.OtherVersion fault h is =
-    subst (IsEarly w (with_kit k entries outcome)) (sym is) (ap (with_kit k entries) h)
-kit_fails w k entries outcome (run.Notes f) fault h is =
-    subst (IsEarly w (with_kit k entries outcome)) (sym is) (ap (with_kit k entries) h)
-kit_fails w k entries outcome (run.Recording f) fault h is =
-    subst (IsEarly w (with_kit k entries outcome)) (sym is) (ap (with_kit k entries) h)
-kit_fails w k entries outcome (run.NoMember f) fault h is =
-    subst (IsEarly w (with_kit k entries outcome)) (sym is) (ap (with_kit k entries) h)
-kit_fails w k entries outcome (run.Presets f) fault h is =
-    subst (IsEarly w (with_kit k entries outcome)) (sym is) (ap (with_kit k entries) h)
+pub recorded_fails : {X : Type 0} (w : World) (out : Bor (List ℕ)) (entries : List Entry)
+    (planned : Result X RunFault → Result Action Why) (outcome : Result X RunFault) (why : RunFault) (fault : Fault)
+    → ((f : RunFault) → planned (Err f) ≡ fails_recorded out.now entries f)
+    → FailsBefore why outcome → IsOfKit entries out why fault → IsEarly w (planned outcome) fault
+recorded_fails w out entries planned outcome (run.InRecording i f) fault law h is =
+    entry_fails w out i f fault (slice_get entries (i - 1)) (planned outcome) (ap planned h ∙ law (run.InRecording i f)) is
+recorded_fails w out entries planned outcome run.Memory fault law h is = subst (IsEarly w (planned outcome)) (sym is) tt
+recorded_fails w out entries planned outcome (run.Write a n) fault law h is = absurd h
+recorded_fails w out entries planned outcome run.PlanFailed fault law h is =
+    subst (IsEarly w (planned outcome)) (sym is) (inl (ap planned h ∙ law run.PlanFailed))
+recorded_fails w out entries planned outcome (run.Full f) fault law h is =
+    subst (IsEarly w (planned outcome)) (sym is) (inl (ap planned h ∙ law (run.Full f)))
+recorded_fails w out entries planned outcome (run.Read f) fault law h is =
+    subst (IsEarly w (planned outcome)) (sym is) (ap planned h ∙ law (run.Read f))
+recorded_fails w out entries planned outcome (run.ReadFirst f) fault law h is =
+    subst (IsEarly w (planned outcome)) (sym is) (ap planned h ∙ law (run.ReadFirst f))
+recorded_fails w out entries planned outcome (run.ReadSecond f) fault law h is =
+    subst (IsEarly w (planned outcome)) (sym is) (ap planned h ∙ law (run.ReadSecond f))
+recorded_fails w out entries planned outcome (run.ReadFrom f) fault law h is =
+    subst (IsEarly w (planned outcome)) (sym is) (ap planned h ∙ law (run.ReadFrom f))
+recorded_fails w out entries planned outcome (run.Script f) fault law h is =
+    subst (IsEarly w (planned outcome)) (sym is) (ap planned h ∙ law (run.Script f))
+recorded_fails w out entries planned outcome (run.Table f) fault law h is =
+    subst (IsEarly w (planned outcome)) (sym is) (ap planned h ∙ law (run.Table f))
+recorded_fails w out entries planned outcome (run.Refused n f) fault law h is =
+    subst (IsEarly w (planned outcome)) (sym is) (ap planned h ∙ law (run.Refused n f))
+recorded_fails w out entries planned outcome (run.NotNeutral n) fault law h is =
+    subst (IsEarly w (planned outcome)) (sym is) (ap planned h ∙ law (run.NotNeutral n))
+recorded_fails w out entries planned outcome run.OtherVersion fault law h is =
+    subst (IsEarly w (planned outcome)) (sym is) (ap planned h ∙ law run.OtherVersion)
+recorded_fails w out entries planned outcome (run.Notes f) fault law h is =
+    subst (IsEarly w (planned outcome)) (sym is) (ap planned h ∙ law (run.Notes f))
+recorded_fails w out entries planned outcome (run.Recording f) fault law h is =
+    subst (IsEarly w (planned outcome)) (sym is) (ap planned h ∙ law (run.Recording f))
+recorded_fails w out entries planned outcome (run.NoMember f) fault law h is =
+    subst (IsEarly w (planned outcome)) (sym is) (ap planned h ∙ law (run.NoMember f))
+recorded_fails w out entries planned outcome (run.Presets f) fault law h is =
+    subst (IsEarly w (planned outcome)) (sym is) (ap planned h ∙ law (run.Presets f))
 
 pub kit_stopped : (files : Option World) (printed : Option (List ℕ)) (written : ℕ) (k : KitWork) (entries : List Entry)
     (outcome : Result Done RunFault) (why : RunFault) (fault : Fault)
@@ -353,7 +356,7 @@ pub kit_stopped : (files : Option World) (printed : Option (List ℕ)) (written 
 kit_stopped None printed written k entries outcome why fault h is = tt
 kit_stopped (Some w) printed written k entries outcome why fault h is =
     ends_early w (with_kit k entries outcome) (at (Some w) printed) (at (Some w) printed) written fault
-    (kit_fails w k entries outcome why fault h is) (untouched (Some w) (Some w) printed refl)
+    (recorded_fails w k.out entries (with_kit k entries) outcome why fault (λ f. refl) h is) (untouched (Some w) (Some w) printed refl)
 
 pub kit_saved : (files new : Option World) (printed : Option (List ℕ)) (written : ℕ) (k : KitWork) (entries : List Entry)
     (outcome : Result Done RunFault) (done : Done) (end : Result (Unit {0}) Fault)
@@ -367,17 +370,17 @@ kit_saved (Some w) new printed written k entries outcome done end e h =
 -- ---- the recordings that are read
 
 -- what they give
-abbrev given_files : List FileRead → List (Result (List ℕ) InputFault)
+abbrev pub given_files : List FileRead → List (Result (List ℕ) InputFault)
 given_files files = map (λ (f : FileRead). Ok f.bytes) files
 
-files_given : (w : World) (entries : List Entry) (files : List FileRead) → AllZip (IsReadOf (Some w)) entries files
+pub files_given : (w : World) (entries : List Entry) (files : List FileRead) → AllZip (IsReadOf (Some w)) entries files
     → GiveWaves w entries (given_files files)
 files_given w [] [] h = tt
 files_given w [] (f ∷ files) h = absurd h
 files_given w (e ∷ entries) [] h = absurd h
 files_given w (e ∷ entries) (f ∷ files) h = (h.0.1, files_given w entries files h.1)
 
-waves_pass : (w : World) (entries : List Entry) (files : List FileRead) (rest : List (List ℕ) → Result Action Why)
+pub waves_pass : (w : World) (entries : List Entry) (files : List FileRead) (rest : List (List ℕ) → Result Action Why)
     → AllZip (IsReadOf (Some w)) entries files
     → with_waves entries (given_files files) rest ≡ rest (map (λ (f : FileRead). f.bytes) files)
 waves_pass w [] [] rest h = refl
@@ -432,12 +435,12 @@ stops_here old now entries files i d fault l read same fails = record {
 }
 
 -- the recordings give this, and the plan stops in the fault
-record StopsGiven (w : World) (entries : List Entry) (fault : Fault) : Type 0 where
-  given : List (Result (List ℕ) InputFault)
-  gives : GiveWaves w entries given
-  stops : (rest : List (List ℕ) → Result Action Why) → IsEarly w (with_waves entries given rest) fault
+pub record StopsGiven (w : World) (entries : List Entry) (fault : Fault) : Type 0 where
+  pub given : List (Result (List ℕ) InputFault)
+  pub gives : GiveWaves w entries given
+  pub stops : (rest : List (List ℕ) → Result Action Why) → IsEarly w (with_waves entries given rest) fault
 
-stops_given : (w : World) (before : List Entry) (files : List FileRead) (e : Entry) (after : List Entry) (fault : Fault)
+pub stops_given : (w : World) (before : List Entry) (files : List FileRead) (e : Entry) (after : List Entry) (fault : Fault)
     → AllZip (IsReadOf (Some w)) before files → FailsEntry (Some w) e fault
     → StopsGiven w (before ++ e ∷ after) fault
 stops_given w before files e after (RowFile row why) h f = record {
@@ -458,6 +461,7 @@ stops_given w before files e after (NoName n) h f = absurd f
 stops_given w before files e after (File path g) h f = absurd f
 stops_given w before files e after (Output g path) h f = absurd f
 stops_given w before files e after (RowRecording row g) h f = absurd f
+stops_given w before files e after (FolderThere path) h f = absurd f
 stops_given w before files e after PipeClosed h f = absurd f
 stops_given w before files e after (Run (run.Read g) path) h f = absurd f
 stops_given w before files e after (Run (run.ReadFirst g) path) h f = absurd f

@@ -1,6 +1,6 @@
 -- Runs that bring several recordings into a bank, with an instrument of them and a preset.
 use Rattle.std.proofs.Common.{◌≡◌, ◌∙◌, ◌+◌, ◌++◌, ℕ, List, [], ◌∷◌, map, length, Bool, false, Option, Some, None}
-use Rattle.std.proofs.Common.{Result, Ok, Err, ap, refl, subst, sym, nat_le, if◌then◌else◌, ◌<◌, suc, drop, get_or}
+use Rattle.std.proofs.Common.{Result, Ok, Err, ap, refl, subst, sym, nat_le, if◌then◌else◌, suc}
 use Rattle.std.specs.List.{AllByRecursion}
 use Rattle.std.proofs.lemmas.List.{map-append, append_assoc, append-nil}
 use Rattle.std.specs.Option.{option_map_or}
@@ -46,7 +46,7 @@ use Rattle.sfbank.specs.Outcome.{Done, after_script, after_reading, bank_in, out
 use Rattle.sfbank.specs.Recordings.{after_edits}
 use Rattle.sfbank.specs.declared.kits.KitWave.{KitWave}
 use Rattle.sfbank.specs.Kits.{Design, Source, after_recordings, and_recordings, bare, kit_change, kit_outcome, placeless}
-use Rattle.sfbank.specs.Kits.{FitSources, FitsDesign, FitsSource, recordings_from, recordings_in, source_of}
+use Rattle.sfbank.specs.Kits.{FitSources, FitsDesign, recordings_from, recordings_in, source_of}
 use Rattle.sfbank.specs.Kits.{IsKitScripted, IsKitUndone}
 use Rattle.sfbank.specs.Steps.{ReadsBank}
 use Rattle.sfbank.specs.Written.{FailsBefore}
@@ -146,11 +146,11 @@ all_split (r ∷ rs) (s ∷ sides) h =
 -- ---- the recordings of WAVE files
 
 -- recordings before others, or their fault
-abbrev pub joined : List KitRecording → Result (List KitRecording) RunFault → Result (List KitRecording) RunFault
+abbrev pub joined : {X : Type 0} → List X → Result (List X) RunFault → Result (List X) RunFault
 joined rs (Ok more) = Ok (rs ++ more)
 joined rs (Err fault) = Err fault
 
-joined_twice : (rs more : List KitRecording) (r : Result (List KitRecording) RunFault)
+pub joined_twice : {X : Type 0} (rs more : List X) (r : Result (List X) RunFault)
     → joined rs (joined more r) ≡ joined (rs ++ more) r
 joined_twice rs more (Ok last) = ap Ok (sym (append_assoc rs more last))
 joined_twice rs more (Err fault) = refl

@@ -12,13 +12,17 @@ pub mod Differences
 pub mod RenderLaws
 pub mod Recordings
 pub mod KitRuns
+pub mod FolderRuns
 pub mod Maps
 mod PlanLaws
 mod KitPlans
+mod SavedFolders
+mod FolderPlans
 mod OutcomeLaws
 mod CommandLaws
 mod LiveLaws
 pub mod UndoneFiles
+pub mod PackedFiles
 pub mod ScriptFiles
 pub mod PlannedEdits
 mod FoundEdits

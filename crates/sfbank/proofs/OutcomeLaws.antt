@@ -14,7 +14,7 @@ use Rattle.program_commands.specs.declared.explain.Topic.{Topic}
 use Rattle.program_commands.specs.declared.words.Request.TheVariants.{Explain}
 use Rattle.program_reports.specs.declared.fault.Fault.{Fault}
 use Rattle.program_reports.specs.declared.fault.Fault.TheVariants.{Words, NotText, NoNumber, NoName, File, Output, Run, PipeClosed}
-use Rattle.program_reports.specs.declared.fault.Fault.TheVariants.{RowFile, RowRecording}
+use Rattle.program_reports.specs.declared.fault.Fault.TheVariants.{FolderThere, RowFile, RowRecording}
 use Rattle.program_reports.specs.Reporting.{Ends}
 use Rattle.program_reports.specs.declared.run_fault.RunFault.{RunFault}
 use Rattle.program_reports.specs.declared.run_fault.RunFault.TheVariants as run
@@ -141,6 +141,7 @@ prints_end w path text content planned old new written (Err (Words x)) e is h = 
 prints_end w path text content planned old new written (Err NotText) e is h = absurd h
 prints_end w path text content planned old new written (Err (RowFile row why)) e is h = absurd h
 prints_end w path text content planned old new written (Err (RowRecording row why)) e is h = absurd h
+prints_end w path text content planned old new written (Err (FolderThere p)) e is h = absurd h
 prints_end w path text content planned old new written (Err (NoNumber n)) e is h = absurd h
 prints_end w path text content planned old new written (Err (NoName n)) e is h = absurd h
 prints_end w path text content planned old new written (Err (File p f)) e is h = absurd h
@@ -261,6 +262,7 @@ both_end w out undo texts done planned new printed written (Err (Words x)) e are
 both_end w out undo texts done planned new printed written (Err NotText) e are h = absurd h
 both_end w out undo texts done planned new printed written (Err (RowFile row why)) e are h = absurd h
 both_end w out undo texts done planned new printed written (Err (RowRecording row why)) e are h = absurd h
+both_end w out undo texts done planned new printed written (Err (FolderThere path)) e are h = absurd h
 both_end w out undo texts done planned new printed written (Err (NoNumber n)) e are h = absurd h
 both_end w out undo texts done planned new printed written (Err (NoName n)) e are h = absurd h
 both_end w out undo texts done planned new printed written (Err (File p f)) e are h = absurd h

@@ -2,6 +2,7 @@
 use Rattle.std.proofs.Common.{◌≡◌, ℕ, List, [], Option, Some, None, Result, Ok, Err, Bool}
 use Rattle.std.proofs.Common.{refl, sym, ap, subst, ◌∙◌, inl}
 use Rattle.std.specs.Prelude.{◌||◌}
+use Rattle.std.specs.Option.{option_map}
 use Rattle.std.proofs.KnownBytes.{Keeps-refl}
 use Rattle.base_outputs.specs.declared.output_fault.OutputFault.TheVariants.{SameFile, HoldsBank}
 use Rattle.file_host.specs.World.{World, Gives, file_at}
@@ -11,13 +12,14 @@ use Rattle.file_host.specs.declared.input_fault.InputFault.TheVariants.{NotFound
 use Rattle.program_commands.specs.declared.words.Request.{Request}
 use Rattle.program_reports.specs.declared.fault.Fault.{Fault}
 use Rattle.program_reports.specs.declared.fault.Fault.TheVariants.{Words, NotText, NoNumber, NoName, File, Output, Run, PipeClosed}
-use Rattle.program_reports.specs.declared.fault.Fault.TheVariants.{RowFile, RowRecording}
+use Rattle.program_reports.specs.declared.fault.Fault.TheVariants.{FolderThere, RowFile, RowRecording}
 use Rattle.program_reports.specs.declared.run_fault.RunFault.TheVariants as run
 use Rattle.sfbank.specs.PlanParts.{Action, Why, Unread, Inputs, GivesInput, no_bank, with_input}
 use Rattle.sfbank.specs.Plans.{AreInputs, plan}
-use Rattle.sfbank.specs.PlanParts.{Plays, Prints, Saves, SavesAll, SavesBoth}
+use Rattle.sfbank.specs.PlanParts.{FolderStep, Plays, Prints, Saves, SavesAll, SavesBoth, SavesFolder}
 use Rattle.sfbank.specs.Ends.{Outside, IsUntouched, IsEarly, StopsForMemory, EndsAs, EndsFor}
 use Rattle.sfbank.specs.Meanings.{MeansPlan}
+use Rattle.sfbank.specs.SavedFolders.{HasSaved, saved_steps}
 use Rattle.sfbank.specs.Steps.{Part, PassesIn, Passes, FailsInput, AreGiven, StopsInInputs}
 
 -- ---- a request that does nothing
@@ -28,12 +30,23 @@ at files printed = record { files = files; printed = printed }
 pub untouched : (old new : Option World) (printed : Option (List ℕ)) → new ≡ old → IsUntouched (at old printed) (at new printed)
 untouched old new printed e = record { files = e; printed = Keeps-refl printed }
 
+pub none_saved : (old : Option World) → old ≡ option_map (saved_steps []) old
+none_saved None = refl
+none_saved (Some w) = refl
+
+-- no step of a folder is done
+pub saved_none : (steps : List FolderStep) (old new : Option World) → new ≡ old → HasSaved steps old new
+saved_none steps old new e =
+    record { before = []; after = steps; is = refl; files = e ∙ none_saved old }
+
 -- no file is changed where memory fails
 pub memory_fails : (planned : Result Action Why) (old new : Outside) → IsUntouched old new → StopsForMemory planned old new
 memory_fails (Err why) old new u = u
 memory_fails (Ok (Saves path content)) old new u = u
 memory_fails (Ok (SavesBoth out undo texts)) old new u = u
 memory_fails (Ok (SavesAll script out undo purpose file)) old new u = inl u
+memory_fails (Ok (SavesFolder folder force steps)) old new u =
+    record { files = saved_none steps old.files new.files u.files; printed = u.printed }
 memory_fails (Ok (Prints path content)) old new u = u
 memory_fails (Ok (Plays paths file)) old new u = u
 
@@ -44,6 +57,7 @@ ends_early w planned old new written (Words error) h u = absurd h
 ends_early w planned old new written NotText h u = absurd h
 ends_early w planned old new written (RowFile row why) h u = (h, u)
 ends_early w planned old new written (RowRecording row why) h u = (h, u)
+ends_early w planned old new written (FolderThere path) h u = (h, u)
 ends_early w planned old new written (NoNumber number) h u = (h, u)
 ends_early w planned old new written (NoName name) h u = (h, u)
 ends_early w planned old new written (File path why) h u = (h, u)
@@ -254,6 +268,7 @@ input_stops old new p (Words e) h = absurd h
 input_stops old new p NotText h = absurd h
 input_stops old new p (RowFile row why) h = absurd h
 input_stops old new p (RowRecording row why) h = absurd h
+input_stops old new p (FolderThere path) h = absurd h
 input_stops old new p (NoNumber n) h = absurd h
 input_stops old new p (NoName n) h = absurd h
 input_stops old new p (Output f path) h = absurd h

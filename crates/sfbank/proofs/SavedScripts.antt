@@ -1,5 +1,5 @@
 -- The script of edits that are found, saved before both texts.
-use Rattle.std.proofs.Common.{◌≡◌, ◌∙◌, ℕ, List, Option, Some, None, Result, Ok, Err, ap, refl, sym, subst, inl, inr}
+use Rattle.std.proofs.Common.{◌≡◌, ◌∙◌, ℕ, List, Option, Some, None, Result, Ok, Err, ap, refl, subst, inl, inr}
 use Rattle.std.specs.Option.{option_map}
 use Rattle.std.proofs.KnownBytes.{Keeps-refl}
 use Rattle.edit_script.specs.Printing.{texts_of}
@@ -8,7 +8,7 @@ use Rattle.file_host.specs.Saving.{SpoilsPair}
 use Rattle.file_host.specs.declared.faults.Which.TheVariants.{Out, Undo}
 use Rattle.program_reports.specs.declared.fault.Fault.{Fault}
 use Rattle.program_reports.specs.declared.fault.Fault.TheVariants.{Words, NotText, NoNumber, NoName, File, Output, Run, PipeClosed}
-use Rattle.program_reports.specs.declared.fault.Fault.TheVariants.{RowFile, RowRecording}
+use Rattle.program_reports.specs.declared.fault.Fault.TheVariants.{FolderThere, RowFile, RowRecording}
 use Rattle.program_reports.specs.declared.run_fault.RunFault.TheVariants as run
 use Rattle.sfbank.specs.Outcome.{Done}
 use Rattle.sfbank.specs.Purposes.{Purpose, promise_of}
@@ -46,6 +46,7 @@ script_stops w script out undo purpose file text new printed written (Words x) i
 script_stops w script out undo purpose file text new printed written NotText is h = absurd h
 script_stops w script out undo purpose file text new printed written (RowFile row why) is h = absurd h
 script_stops w script out undo purpose file text new printed written (RowRecording row why) is h = absurd h
+script_stops w script out undo purpose file text new printed written (FolderThere path) is h = absurd h
 script_stops w script out undo purpose file text new printed written (NoNumber n) is h = absurd h
 script_stops w script out undo purpose file text new printed written (NoName n) is h = absurd h
 script_stops w script out undo purpose file text new printed written (File p f) is h = absurd h
@@ -128,6 +129,7 @@ pair_ends w script out undo purpose file done found mid new printed written (Err
 pair_ends w script out undo purpose file done found mid new printed written (Err NotText) e h = absurd h
 pair_ends w script out undo purpose file done found mid new printed written (Err (RowFile row why)) e h = absurd h
 pair_ends w script out undo purpose file done found mid new printed written (Err (RowRecording row why)) e h = absurd h
+pair_ends w script out undo purpose file done found mid new printed written (Err (FolderThere path)) e h = absurd h
 pair_ends w script out undo purpose file done found mid new printed written (Err (NoNumber n)) e h = absurd h
 pair_ends w script out undo purpose file done found mid new printed written (Err (NoName n)) e h = absurd h
 pair_ends w script out undo purpose file done found mid new printed written (Err (File p f)) e h = absurd h

@@ -1,11 +1,11 @@
 -- How a plan ends: what it leaves of the world of files, and what it prints.
 use Rattle.std.specs.Prelude.{◌≡◌, ◌⊎◌, ◌≤◌, ℕ, List, [], length, take, string_bytes, Option, Some, None, Result, Ok, Err}
-use Rattle.std.specs.Prelude.{⊤}
+use Rattle.std.specs.Prelude.{Bool, false, ⊤}
 use Rattle.std.specs.Option.{option_map}
 use Rattle.std.specs.Io.KnownBytes.{Appends, Keeps}
 use Rattle.base_outputs.specs.declared.output_fault.OutputFault.TheVariants.{HoldsBank}
 use Rattle.edit_script.specs.Printing.{texts_of}
-use Rattle.file_host.specs.World.{World, with_pair, with_stream}
+use Rattle.file_host.specs.World.{World, held_at, is_nothing, with_pair}
 use Rattle.file_host.specs.World as world
 use Rattle.file_host.specs.Saving.{Spoils, SpoilsPair}
 use Rattle.file_host.specs.Checks.{IsUnreadable}
@@ -15,16 +15,17 @@ use Rattle.program_commands.specs.declared.explain.Topic.{Topic}
 use Rattle.program_commands.specs.declared.explain.Topic.TheVariants.{Number, Name}
 use Rattle.program_reports.specs.declared.fault.Fault.{Fault}
 use Rattle.program_reports.specs.declared.fault.Fault.TheVariants.{NoNumber, NoName, File, Output, Run}
-use Rattle.program_reports.specs.declared.fault.Fault.TheVariants.{RowFile, RowRecording, PipeClosed}
+use Rattle.program_reports.specs.declared.fault.Fault.TheVariants.{FolderThere, RowFile, RowRecording, PipeClosed}
 use Rattle.program_reports.specs.declared.run_fault.RunFault.TheVariants as run
 use Rattle.sfbank.specs.Outcome.{Done, bank_in}
 use Rattle.sfbank.specs.Differences.{IsDifference}
 use Rattle.sfbank.specs.Purposes.{Purpose, promise_of}
 use Rattle.sfbank.specs.Topics.{IsTopicText, IsUnexplained}
 use Rattle.sfbank.specs.PlannedEdits.{IsPlanned, IsScript}
-use Rattle.sfbank.specs.PlanParts.{Action, Content, Texts, Known, Found, Saves, SavesAll, SavesBoth, Prints, Plays}
+use Rattle.sfbank.specs.PlanParts.{Action, Content, FolderStep, Texts, Known, Found, Saves, SavesAll, SavesBoth, Prints, Plays}
 use Rattle.sfbank.specs.PlanParts.{Text, Difference, Edits, Explanation as Explains, Why, Rejected, Unread, Fails}
-use Rattle.sfbank.specs.PlanParts.{UnreadRow, FailsRow, standard_output}
+use Rattle.sfbank.specs.PlanParts.{SavesFolder, UnreadRow, FailsRow, standard_output}
+use Rattle.sfbank.specs.SavedFolders.{HasSaved, MayWrite, StopsAmong, saved_steps}
 
 -- the world of files, and the bytes of the standard output
 pub record Outside : Type 0 where
@@ -75,6 +76,12 @@ pub record SavesThree (script out undo : List ℕ) (purpose : Purpose) (file : L
       (option_map (world.with_text script (texts_of found.edits)) old.files)
   pub printed : Keeps old.printed new.printed
 
+-- A folder is saved, if it may be there already or nothing is there, and all else is as it was.
+pub record SavesInFolder (folder : List ℕ) (force : Bool) (steps : List FolderStep) (old new : Outside) : Type 0 where
+  pub allowed : MayWrite force folder old.files
+  pub files : new.files ≡ option_map (saved_steps steps) old.files
+  pub printed : Keeps old.printed new.printed
+
 -- a text is printed whole, and no file is changed
 pub record PrintsText (content : Content) (old new : Outside) : Type 0 where
   pub text : List ℕ
@@ -86,6 +93,7 @@ abbrev pub Does : Action → Outside → Outside → Type 0
 Does (Saves path content) old new = SavesFile path content old new
 Does (SavesBoth out undo texts) old new = SavesPair out undo texts old new
 Does (SavesAll script out undo purpose file) old new = SavesThree script out undo purpose file old new
+Does (SavesFolder folder force steps) old new = SavesInFolder folder force steps old new
 Does (Prints path content) old new = PrintsText content old new
 Does (Plays paths file) old new = ⊥
 
@@ -117,6 +125,11 @@ pub record StopsAfterScript (script out undo : List ℕ) (purpose : Purpose) (fi
       undo done.undo out done.out
   pub printed : Keeps old.printed new.printed
 
+-- the steps before one are done, which makes no folder, or leaves its file as it was or whole
+pub record StopsInFolder (steps : List FolderStep) (old new : Outside) : Type 0 where
+  pub files : StopsAmong steps old.files new.files
+  pub printed : Keeps old.printed new.printed
+
 -- exactly the first bytes are printed
 pub record StopsPrint (content : Content) (n : ℕ) (old new : Outside) : Type 0 where
   pub text : List ℕ
@@ -144,6 +157,8 @@ StopsIn (SavesBoth out undo texts) some n at written old new =
     (at ≡ path_of some out undo) × (n ≡ written) × StopsPair out undo texts old new
 StopsIn (SavesAll script out undo purpose file) some n at written old new =
     (n ≡ written) × StopsInOne some at script out undo purpose file old new
+StopsIn (SavesFolder folder force steps) which.Out n at written old new =
+    (at ≡ folder) × (n ≡ written) × StopsInFolder steps old new
 StopsIn (Prints path content) which.Out n at written old new = (at ≡ path) × StopsPrint content n old new
 StopsIn action other n at written old new = ⊥
 
@@ -160,6 +175,11 @@ FindsEdits other = ⊥
 abbrev pub PlansUnexplained : Result Action Why → Topic → Type 0
 PlansUnexplained planned topic = (planned ≡ Ok (Prints standard_output (Explains topic))) × IsUnexplained topic
 
+-- a folder may not be there already, and something is there
+abbrev pub RejectsFolder : World → Result Action Why → List ℕ → Type 0
+RejectsFolder w (Ok (SavesFolder folder false steps)) path = (path ≡ folder) × (is_nothing (held_at w folder) ≡ false)
+RejectsFolder w other path = ⊥
+
 -- The fault of a request that does nothing is the plan's. It may be out of memory in place of any answer, `PlanFailed` or
 -- `Full` where edits have to be found, and an output that can't be read to its end may be rejected as a bank.
 abbrev pub IsEarly : World → Result Action Why → Fault → Type 0
@@ -174,6 +194,7 @@ IsEarly w planned (Output HoldsBank path) = (planned ≡ Err (Rejected path.now 
 IsEarly w planned (Output fault path) = planned ≡ Err (Rejected path.now fault)
 IsEarly w planned (RowFile row why) = planned ≡ Err (UnreadRow row.line (string_bytes row.path) why)
 IsEarly w planned (RowRecording row fault) = planned ≡ Err (FailsRow row.line (string_bytes row.path) fault)
+IsEarly w planned (FolderThere path) = RejectsFolder w planned path.now
 IsEarly w planned (NoNumber number) = PlansUnexplained planned (Number number)
 IsEarly w planned (NoName name) = PlansUnexplained planned (Name name)
 IsEarly w planned other = ⊥
@@ -200,10 +221,16 @@ pub record IsCutOff (planned : Result Action Why) (old new : Outside) (written :
   pub at : List ℕ
   pub stops : StopsIn action some n at written old new
 
--- An allocation failed. Nothing is changed, but the script of edits may be saved.
+-- the first steps of a folder are done, or none
+pub record SavesSome (steps : List FolderStep) (old new : Outside) : Type 0 where
+  pub files : HasSaved steps old.files new.files
+  pub printed : Keeps old.printed new.printed
+
+-- An allocation failed. Nothing is changed, but the script of edits may be saved, or the first files of a folder.
 abbrev pub StopsForMemory : Result Action Why → Outside → Outside → Type 0
 StopsForMemory (Ok (SavesAll script out undo purpose file)) old new =
     IsUntouched old new ⊎ SavesFile script (Edits purpose file) old new
+StopsForMemory (Ok (SavesFolder folder force steps)) old new = SavesSome steps old new
 StopsForMemory planned old new = IsUntouched old new
 
 -- What is planned is done; or it stops in a write fault, or for memory; or nothing is changed, for the fault of the plan.

@@ -1,10 +1,10 @@
 -- The plan of a request that imports several recordings.
-use Rattle.std.specs.Prelude.{◌≡◌, ◌-◌, ℕ, List, [], ◌∷◌, map, length, take, slice_get, codes, bytes_eq, if◌then◌else◌}
+use Rattle.std.specs.Prelude.{◌-◌, ℕ, List, [], ◌∷◌, map, take, slice_get, codes, bytes_eq, if◌then◌else◌}
 use Rattle.std.specs.Prelude.{Option, Some, None, Result, Ok, Err}
 use Rattle.std.specs.Borrow.{Bor}
 use Rattle.std.specs.List.{AllZip, enumerate_from, zip}
-use Rattle.std.specs.Option.{option_map, option_map_or, unwrap_or}
-use Rattle.std.specs.Path.{path_file_stem, path_join, path_parent}
+use Rattle.std.specs.Option.{option_map, unwrap_or}
+use Rattle.std.specs.Path.{path_join, path_parent}
 use Rattle.sf_base.specs.Names.{before_zero}
 use Rattle.file_host.specs.declared.input_fault.InputFault.{InputFault}
 use Rattle.file_host.specs.World.{World}
@@ -150,15 +150,19 @@ with_waves (e ∷ entries) (Err why ∷ given) rest = Err (UnreadRow e.line e.pa
 with_waves entries given rest = rest []
 
 -- the fault of a recording, by its line and its path
-abbrev pub fails_row : KitWork → ℕ → WaveFault → Option Entry → Result Action Why
-fails_row k n fault (Some e) = Err (FailsRow e.line e.path fault)
-fails_row k n fault None = Err (Fails k.out.now (run.InRecording n fault))
+abbrev pub fails_row : Path → ℕ → WaveFault → Option Entry → Result Action Why
+fails_row out n fault (Some e) = Err (FailsRow e.line e.path fault)
+fails_row out n fault None = Err (Fails out (run.InRecording n fault))
+
+-- the fault of a run with recordings: that of a recording by its line and its path
+abbrev pub fails_recorded : Path → List Entry → RunFault → Result Action Why
+fails_recorded out entries (run.InRecording n fault) = fails_row out n fault (slice_get entries (n - 1))
+fails_recorded out entries fault = Err (Fails out fault)
 
 -- the outcome of a kit, at both paths
 abbrev pub with_kit : KitWork → List Entry → Result Done RunFault → Result Action Why
 with_kit k entries (Ok done) = Ok (SavesBoth k.out.now k.undo.now (Known done))
-with_kit k entries (Err (run.InRecording n fault)) = fails_row k n fault (slice_get entries (n - 1))
-with_kit k entries (Err fault) = Err (Fails k.out.now fault)
+with_kit k entries (Err fault) = fails_recorded k.out.now entries fault
 
 abbrev pub source_at : Entry × List ℕ → Source
 source_at both = record { stem = name_in both.0.path; wave = both.1 }

@@ -26,7 +26,10 @@ pub mod Maps
 pub mod Purposes
 pub mod PlannedEdits
 pub mod PlanParts
+pub mod SavedFolders
+pub mod Folders
 pub mod KitPlans
+pub mod FolderPlans
 pub mod Plans
 pub mod Topics
 pub mod Ends
@@ -34,6 +37,8 @@ pub mod LiveRuns
 pub mod Meanings
 pub mod Steps
 pub mod KitSteps
+pub mod FolderSteps
 pub mod Outputs
 pub mod UndoneFiles
+pub mod PackedFiles
 pub mod ScriptFiles

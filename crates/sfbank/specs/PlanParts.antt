@@ -46,17 +46,23 @@ pub data Texts : Type 0 where
   Known : Done → Texts
   Found : Purpose → List ℕ → Texts
 
--- What a request does: it saves a file, a bank with its undo script, or before these the script of edits that are found,
--- it prints, or it begins a session on a file.
+-- A step of saving a folder: a folder is made, unless something is there, or a file in it is saved.
+pub data FolderStep : Type 0 where
+  MakesFolder : Path → FolderStep
+  SavesFile : Path → List ℕ → FolderStep
+
+-- What a request does: it saves a file, a bank with its undo script, or before these the script of edits that are found;
+-- it saves a folder, which may be there already or not, step by step; it prints, or it begins a session on a file.
 pub data Action : Type 0 where
   Saves : Path → Content → Action
   SavesBoth : Path → Path → Texts → Action
   SavesAll : Path → Path → Path → Purpose → List ℕ → Action
+  SavesFolder : Path → Bool → List FolderStep → Action
   Prints : Path → Content → Action
   Plays : LivePaths → List ℕ → Action
 
--- Why a request does nothing: an output is rejected, an input can't be read, or a run fails; of a recording of a kit, with
--- the line that names it if it is on a table, that it can't be read, or can't be imported.
+-- Why a request does nothing: an output is rejected, an input can't be read, or a run fails; of a recording of a kit or of
+-- a folder, with the line that names it if there is one, that it can't be read, or can't be used.
 pub data Why : Type 0 where
   Rejected : Path → OutputFault → Why
   Unread : Path → InputFault → Why
@@ -70,7 +76,7 @@ pub data Why : Type 0 where
 pub record Inputs : Type 0 where
   pub first : Result (List ℕ) InputFault
   pub second : Result (List ℕ) InputFault
-  -- the recordings of a kit
+  -- the recordings of a kit or of a folder
   pub others : List (Result (List ℕ) InputFault)
 
 -- an input gives what the world says, if it is a file that stores and no pipe

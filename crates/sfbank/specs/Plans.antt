@@ -1,14 +1,13 @@
 -- What a request does, as a function of the world of files and of what its inputs give.
-use Rattle.std.specs.Prelude.{◌||◌, ℕ, List, [], ◌∷◌, Option, Some, None, Result, Ok}
+use Rattle.std.specs.Prelude.{◌||◌, [], ◌∷◌, Option, Some, None, Result, Ok}
 use Rattle.std.specs.Prelude.{⊤}
-use Rattle.file_host.specs.declared.input_fault.InputFault.{InputFault}
 use Rattle.file_host.specs.World.{World}
 use Rattle.file_host.specs.Checks.{is_one_file}
 use Rattle.script_of_bank.specs.declared.samples.SamplePoints.TheVariants.{Kept}
 use Rattle.program_commands.specs.declared.words.Request.{Request}
 use Rattle.program_commands.specs.declared.words.Request.TheVariants.{Apply, ApplyOnly, Canon, Copy, Diff, Explain, Import, ImportKit, Keep}
-use Rattle.program_commands.specs.declared.words.Request.TheVariants.{Live, Map, Merge, New, Play, Replace, Script, Show}
-use Rattle.program_commands.specs.declared.words.Request.TheVariants.{Take, Tidy, Wave}
+use Rattle.program_commands.specs.declared.words.Request.TheVariants.{Live, Map, Merge, New, Pack, Play, Replace, Script, Show}
+use Rattle.program_commands.specs.declared.words.Request.TheVariants.{Take, Tidy, Unpack, Wave}
 use Rattle.program_commands.specs.declared.plans.Kept as kept
 use Rattle.program_commands.specs.declared.plans.Kept.TheVariants.{Notes, Presets}
 use Rattle.program_commands.specs.declared.plans.PlanPaths.{PlanPaths}
@@ -22,6 +21,7 @@ use Rattle.sfbank.specs.NewBanks.{new_outcome}
 use Rattle.sfbank.specs.Maps.{map_outcome}
 use Rattle.sfbank.specs.Recordings.{import_outcome, replace_outcome}
 use Rattle.sfbank.specs.Purposes.{copying, keeping_listed, keeping_played, merging, taking, tidying}
+use Rattle.sfbank.specs.FolderPlans.{bank_outcome, entries_of_text, pack_plan, text_path, with_folder}
 use Rattle.sfbank.specs.KitPlans.{GiveWaves, entries_of, kit_plan, members_of, table_of, work_of}
 use Rattle.sfbank.specs.PlanParts.{Path, standard_output, Action, Why, Inputs, GivesInput, apart, no_bank, with_input}
 use Rattle.sfbank.specs.PlanParts.{with_text, with_print, with_both, without_undo, with_difference, with_edits}
@@ -43,12 +43,14 @@ first_input (Live paths) = Some paths.input.now
 first_input (Map paths) = Some paths.input.now
 first_input (Merge merge) = Some merge.paths.input.now
 first_input (New bank) = None
+first_input (Pack paths) = Some (text_path paths.folder.now)
 first_input (Play paths) = Some paths.input.now
 first_input (Replace paths) = Some paths.input.now
 first_input (Script paths) = Some paths.input.now
 first_input (Show paths) = Some paths.input.now
 first_input (Take take) = Some take.paths.input.now
 first_input (Tidy tidy) = Some tidy.paths.input.now
+first_input (Unpack paths) = Some paths.input.now
 first_input (Wave paths) = Some paths.input.now
 
 -- the notes whose presets are kept
@@ -69,15 +71,16 @@ second_input (Replace paths) = Some paths.wave.now
 second_input (Take take) = Some take.from.now
 second_input other = None
 
--- the recordings of a kit give what the world says
-abbrev pub GivesOthers : World → Request → Result (List ℕ) InputFault → List (Result (List ℕ) InputFault) → Type 0
-GivesOthers world (ImportKit paths) second others = GiveWaves world (entries_of paths.source second) others
-GivesOthers world request second others = ⊤
+-- the recordings of a kit or of a folder give what the world says
+abbrev pub GivesOthers : World → Request → Inputs → Type 0
+GivesOthers world (ImportKit paths) inputs = GiveWaves world (entries_of paths.source inputs.second) inputs.others
+GivesOthers world (Pack paths) inputs = GiveWaves world (entries_of_text paths.folder.now inputs.first) inputs.others
+GivesOthers world request inputs = ⊤
 
 abbrev pub AreInputs : World → Request → Inputs → Type 0
 AreInputs world request inputs =
     GivesInput world (first_input request) inputs.first × GivesInput world (second_input request) inputs.second
-    × GivesOthers world request inputs.second inputs.others
+    × GivesOthers world request inputs
 
 -- ---- the plan
 
@@ -136,6 +139,7 @@ plan (Merge merge) world inputs =
     (with_input merge.paths.input.now inputs.first
     (λ file. with_input merge.from.now inputs.second (λ other. with_edits merge.paths file (merging file other merge.shift))))
 plan (New p) world inputs = no_bank world p.out.now p.force (with_text world p.out.now (new_outcome p.minor))
+plan (Pack p) world inputs = pack_plan p inputs world
 plan (Play p) world inputs =
     apart world p.out.now (p.notes.now ∷ [])
     (no_bank world p.out.now (p.force || is_one_file world p.out.now p.input.now)
@@ -159,6 +163,8 @@ plan (Take take) world inputs =
 plan (Tidy tidy) world inputs =
     undo_apart world tidy.paths
     (with_input tidy.paths.input.now inputs.first (λ file. with_edits tidy.paths file (tidying file tidy.merge)))
+plan (Unpack p) world inputs =
+    with_input p.input.now inputs.first (λ file. with_folder p (bank_outcome file))
 plan (Wave p) world inputs =
     no_bank world p.out.now p.force
     (with_input p.input.now inputs.first (λ file. with_text world p.out.now (export_outcome p file)))

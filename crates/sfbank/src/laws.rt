@@ -1,5 +1,7 @@
 //! Laws of whole runs.
 ghost use Rattle.sfbank.specs.BankScripts.{RemadeRendersSame, ScriptsDistinguish};
+ghost use Rattle.sfbank.specs.Folders.{FoldersPackBack};
+ghost use Rattle.sfbank.specs.PackedFiles.{SavedFoldersPackBack};
 ghost use Rattle.sfbank.specs.PlannedEdits.{PlayedRendersSame};
 ghost use Rattle.sfbank.specs.SavedBanks.{SavedUndoRestores};
 ghost use Rattle.sfbank.specs.ScriptFiles.{DifferencesLead, ScriptsLead};
@@ -21,6 +23,14 @@ pub fn remade_banks_render_same()
 /// first file.
 pub fn kept_notes_render_same()
     ensures { PlayedRendersSame }
+{}
+
+/// The script of a file without points, as `script_run` writes it, and the WAVE file of each of its samples, as `wave_run`
+/// writes it, make by `pack_run` the canonical file of its bank.
+pub fn folders_pack_back()
+    ensures runs { FoldersPackBack }
+    // On files, a folder that `unpack` saved, with other files changed meanwhile, is what `pack` makes that file of.
+    ensures files { SavedFoldersPackBack }
 {}
 
 /// On files, `apply` on a bank and an undo script that were saved, with other files changed meanwhile, restores the first

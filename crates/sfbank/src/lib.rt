@@ -1,7 +1,7 @@
 //! The runs of the program, from bytes to bytes, and the program itself, from arguments to an exit status.
 //!
 //! A run edits a bank by a script, writes a bank's canonical file, listing, script or map, compares two banks, renders
-//! notes as a WAVE file, or moves a sample between a bank and a WAVE file. The program reads and writes the files that
+//! notes as a WAVE file, moves a sample between a bank and a WAVE file, or makes the bank of a folder. The program reads and writes the files that
 //! its arguments name.
 #![tactic(auto)]
 
@@ -10,6 +10,7 @@ mod copied_members;
 mod diff;
 mod edit;
 mod edited_bank;
+mod folders;
 mod kits;
 mod laws;
 mod map;
@@ -32,12 +33,13 @@ pub use canon::canon_run;
 pub use diff::diff_run;
 pub use edit::{edit_run, edit_run_with_progress, neutral_run};
 pub use file_host::Which;
+pub use folders::pack_run;
 pub use kit_edits::{KitMembers, KitPreset};
 pub use kit_tables::KitZone;
 pub use kits::{KitWave, kit_run};
 pub use laws::{
-    kept_notes_render_same, remade_banks_render_same, saved_scripts_lead, saved_undo_restores,
-    scripts_distinguish_banks, undo_restores_files,
+    folders_pack_back, kept_notes_render_same, remade_banks_render_same, saved_scripts_lead,
+    saved_undo_restores, scripts_distinguish_banks, undo_restores_files,
 };
 pub use map::map_run;
 pub use new::new_run;

@@ -9,6 +9,7 @@ mod checks;
 mod copy;
 mod diff;
 mod explain;
+mod folder_paths;
 mod import;
 mod inputs;
 mod keep;
@@ -20,6 +21,7 @@ mod map;
 mod merge;
 mod new;
 mod outputs;
+mod pack;
 mod planned;
 mod play;
 mod recorded;
@@ -28,6 +30,7 @@ mod script;
 mod show;
 mod take;
 mod tidy;
+mod unpack;
 mod wave;
 
 use apply::{apply, apply_only};
@@ -48,6 +51,7 @@ use map::map;
 use merge::merge;
 use new::new;
 use outputs::{print, remark_on_output};
+use pack::pack;
 use play::play;
 use program_commands::{Request, asks_for_explanations, request_of};
 use program_hints::Remarks;
@@ -63,6 +67,7 @@ use std::rt::Files;
 use std::{env, io};
 use take::take;
 use tidy::tidy;
+use unpack::unpack;
 use wave::wave;
 
 /// Runs the program on its arguments and on the files of a runtime, and returns its exit status.
@@ -195,12 +200,14 @@ fn serve<'a, H: Host, I: Read, O: Write + KnowsError, P: Progress>(
         Request::Map(paths) => map(host, alloc, paths, output),
         Request::Merge(operands) => merge(host, alloc, operands, output),
         Request::New(bank) => new(host, alloc, bank, output),
+        Request::Pack(paths) => pack(host, alloc, paths, output, remarks),
         Request::Play(paths) => play(host, alloc, paths, output, remarks, progress),
         Request::Replace(paths) => replace(host, alloc, paths),
         Request::Script(paths) => script(host, alloc, paths, output),
         Request::Show(paths) => show(host, alloc, paths, output),
         Request::Take(operands) => take(host, alloc, operands, output),
         Request::Tidy(operands) => tidy(host, alloc, operands, output),
+        Request::Unpack(paths) => unpack(host, alloc, paths),
         Request::Wave(paths) => wave(host, alloc, paths, output),
     }
 }

@@ -8,6 +8,8 @@ mod banks;
 #[cfg(test)]
 mod flat_banks;
 #[cfg(test)]
+mod folders;
+#[cfg(test)]
 mod imports;
 mod lists;
 #[cfg(test)]

@@ -2,6 +2,7 @@
 
 use crate::memory_device::{Behaviour, MemoryDevice};
 use crate::texts::Bytes;
+use base_outputs::WriteFault;
 use file_disk::Disk;
 use file_host::{Host, InputFault, PairFault};
 use sf_base::Failure;
@@ -316,4 +317,29 @@ fn a_pair_is_written_in_place(rt: HostRuntime) {
     }
     assert!(rt; save_piped_once(alloc, MOST_CALLS, "pipe", "bank") == Some(true));
     assert!(rt; save_piped_once(alloc, MOST_CALLS, "undo", "pipe") == Some(true));
+}
+
+#[test]
+fn a_folder_is_made_where_nothing_is(rt: HostRuntime) {
+    let alloc = rt.alloc();
+    let behaviour = Behaviour {
+        calls: 1,
+        is_broken: false,
+        has_links: true,
+    };
+    let mut device = MemoryDevice::new(alloc, behaviour);
+    assert!(rt; device.put("bank", OLD).is_ok());
+    let mut disk = Disk::new(alloc, device);
+    assert!(rt; disk.make_folder("kit") == Ok(true));
+    assert!(rt; disk.device().is_some_and(|device| device.has_folder("kit")));
+    // (this call fails)
+    let fault = Failure::Fault(WriteFault { written: 0 });
+    assert!(rt; disk.make_folder("other") == Err(fault));
+    assert!(rt; disk.last_error() == Some(ErrorKind::StorageFull));
+    assert!(rt; disk.make_folder("kit") == Ok(false));
+    assert!(rt; disk.make_folder("bank") == Ok(false));
+    assert!(rt; disk.last_error().is_none());
+    assert!(rt;
+        disk.device().is_some_and(|device| !device.has_folder("bank") && holds(device, "bank", OLD))
+    );
 }

@@ -44,6 +44,21 @@ fn a_pair_is_saved_together(rt: HostRuntime) {
 }
 
 #[test]
+fn a_folder_is_made_where_nothing_is(rt: HostRuntime) {
+    let alloc = rt.alloc();
+    let mut host = MemoryHost::new(alloc, 100);
+    assert!(rt; host.save("file", &Bytes(b"text")).is_ok());
+    assert!(rt; host.make_folder("folder") == Ok(true));
+    assert!(rt; host.make_folder("folder") == Ok(false));
+    assert!(rt; host.make_folder("file") == Ok(false));
+    assert!(rt; host.read(alloc, "folder") == Err(Failure::Fault(InputFault::IsFolder)));
+    let fault = Failure::Fault(WriteFault { written: 0 });
+    assert!(rt; host.save("folder", &Bytes(b"text")) == Err(fault));
+    assert!(rt; host.file("folder").is_none());
+    assert!(rt; host.file("file") == Some(b"text".as_slice()));
+}
+
+#[test]
 fn an_output_is_apart(rt: HostRuntime) {
     let mut host = MemoryHost::new(rt.alloc(), 0);
     let is_rejected = Err(Failure::Fault(OutputFault::SameFile));

@@ -31,6 +31,7 @@ pub(crate) struct MemoryDevice {
     alloc: Global,
     behaviour: Behaviour,
     files: Vec<MemoryFile>,
+    folders: Vec<String>,
     output: String,
     input: String,
     read: usize,
@@ -54,6 +55,7 @@ impl MemoryDevice {
             alloc,
             behaviour,
             files: Vec::new(alloc),
+            folders: Vec::new(alloc),
             output: String::new(alloc),
             input: String::new(alloc),
             read: 0,
@@ -79,6 +81,16 @@ impl MemoryDevice {
     /// Returns how many files there are.
     pub(crate) fn count(&self) -> usize {
         self.files.len()
+    }
+
+    /// Whether a folder was made at a path.
+    pub(crate) fn has_folder(&self, path: &str) -> bool {
+        for folder in &self.folders {
+            if folder.as_str() == path {
+                return true;
+            }
+        }
+        false
     }
 
     fn find(&self, path: &str) -> Option<usize> {
@@ -135,10 +147,10 @@ impl MemoryDevice {
     }
 
     fn check_free(&self, path: &str) -> io::Result<()> {
-        match self.find(path) {
-            Some(_) => Err(io::Error::from(ErrorKind::AlreadyExists)),
-            None => Ok(()),
+        if self.find(path).is_some() || self.has_folder(path) {
+            return Err(io::Error::from(ErrorKind::AlreadyExists));
         }
+        Ok(())
     }
 
     fn create(&mut self, path: &str) -> io::Result<()> {
@@ -196,6 +208,15 @@ impl MemoryDevice {
         let bytes = Vec::from_slice(self.alloc, bytes)?;
         self.put(to, bytes.as_slice())?;
         Ok(())
+    }
+
+    fn add_folder(&mut self, path: &str) -> io::Result<bool> {
+        self.call()?;
+        if self.check_free(path).is_err() {
+            return Ok(false);
+        }
+        self.folders.push(String::from_str(self.alloc, path)?)?;
+        Ok(true)
     }
 
     fn delete(&mut self, path: &str) -> io::Result<()> {
@@ -312,6 +333,12 @@ impl Device for MemoryDevice {
 
     fn remove(&mut self, path: &str) -> io::Result<()> {
         let answer = self.delete(path);
+        self.noted(answer)
+    }
+
+    fn make_folder(&mut self, path: &str) -> io::Result<bool> {
+        self.last_error = None;
+        let answer = self.add_folder(path);
         self.noted(answer)
     }
 

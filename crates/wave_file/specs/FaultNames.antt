@@ -5,6 +5,7 @@ use Rattle.wave_file.specs.declared.fault.WaveFault.TheVariants.{NotWave, Trunca
 use Rattle.wave_file.specs.declared.fault.WaveFault.TheVariants.{SampleBits, ChannelCount, NoData, HalfFrame}
 use Rattle.wave_file.specs.declared.fault.WaveFault.TheVariants.{ShortSampler, UnityNote, LoopOutside, NoSuchChannel}
 use Rattle.wave_file.specs.declared.fault.WaveFault.TheVariants.{TwoChannels, NotAPair, SidesDiffer}
+use Rattle.wave_file.specs.declared.fault.WaveFault.TheVariants.{NotSixteenBits, OtherRate, ShortForLoop}
 
 abbrev pub number_of : WaveFault → ℕ
 number_of NotWave = 53
@@ -22,6 +23,9 @@ number_of NoSuchChannel = 71
 number_of TwoChannels = 72
 number_of NotAPair = 73
 number_of SidesDiffer = 74
+number_of NotSixteenBits = 78
+number_of OtherRate = 79
+number_of ShortForLoop = 80
 
 abbrev pub name_of : WaveFault → List ℕ
 name_of NotWave = codes "NotWave"
@@ -39,3 +43,6 @@ name_of NoSuchChannel = codes "NoSuchChannel"
 name_of TwoChannels = codes "TwoChannels"
 name_of NotAPair = codes "NotAPair"
 name_of SidesDiffer = codes "SidesDiffer"
+name_of NotSixteenBits = codes "NotSixteenBits"
+name_of OtherRate = codes "OtherRate"
+name_of ShortForLoop = codes "ShortForLoop"

@@ -40,6 +40,12 @@ pub enum WaveFault {
     NotAPair = 73,
     #[error("the samples of the pair differ in length or rate")]
     SidesDiffer = 74,
+    #[error("the samples don't have 16 bits")]
+    NotSixteenBits = 78,
+    #[error("the rate is not that of the sample's line")]
+    OtherRate = 79,
+    #[error("the loop of the sample's line ends after the data")]
+    ShortForLoop = 80,
 }
 
 impl WaveFault {
@@ -70,6 +76,9 @@ impl WaveFault {
             WaveFault::TwoChannels => "TwoChannels",
             WaveFault::NotAPair => "NotAPair",
             WaveFault::SidesDiffer => "SidesDiffer",
+            WaveFault::NotSixteenBits => "NotSixteenBits",
+            WaveFault::OtherRate => "OtherRate",
+            WaveFault::ShortForLoop => "ShortForLoop",
         }
     }
 }

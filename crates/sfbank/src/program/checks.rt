@@ -53,7 +53,8 @@ pub(super) fn reject_other_bank<'a, H: Host>(
     }
 }
 
-fn is_either(one: bool, other: bool) -> bool
+/// Whether one of two holds.
+pub(super) fn is_either(one: bool, other: bool) -> bool
     ensures { result ≡ (one || other) }
 {
     one || other
@@ -77,20 +78,20 @@ fn reject_undo<'a, H: Host>(host: &mut H, paths: EditPaths<'a>) -> Result<(), Fa
     ensures { Passes (undo_part paths.entry) (H.world host.old) (H.world host.new) result }
 {
     let others = [paths.input, paths.other, paths.out];
-    reject_script(host, paths.undo, &others, paths.force)
+    reject_output(host, paths.undo, &others, paths.force)
 }
 
-// Rejects a script that is one file with one of the others, or that would replace a bank, except with `force`.
-fn reject_script<'a, H: Host>(
+/// Rejects an output that is one file with one of the others, or that would replace a bank, except with `force`.
+pub(super) fn reject_output<'a, H: Host>(
     host: &mut H,
-    script: &'a str,
+    output: &'a str,
     others: &[&str],
     force: bool,
 ) -> Result<(), Fault<'a>>
-    ensures { Passes (λ w rest. apart w script.entry.now (map (λ other. other.now) others.now) (no_bank w script.entry.now force rest)) (H.world host.old) (H.world host.new) result }
+    ensures { Passes (λ w rest. apart w output.entry.now (map (λ other. other.now) others.now) (no_bank w output.entry.now force rest)) (H.world host.old) (H.world host.new) result }
 {
-    match reject_same_file(host, script, others) {
-        Ok(()) => reject_bank(host, script, force),
+    match reject_same_file(host, output, others) {
+        Ok(()) => reject_bank(host, output, force),
         Err(fault) => Err(fault),
     }
 }
@@ -105,7 +106,7 @@ fn reject_optional<'a, H: Host>(
     ensures { Passes (λ w rest. script_apart w script.entry (map (λ other. other.now) others.now) force rest) (H.world host.old) (H.world host.new) result }
 {
     match script {
-        Some(path) => reject_script(host, path, others, force),
+        Some(path) => reject_output(host, path, others, force),
         None => Ok(()),
     }
 }
@@ -117,7 +118,7 @@ pub(super) fn reject_undo_of_plan<'a, H: Host>(
 ) -> Result<(), Fault<'a>>
     ensures { Passes (λ w rest. undo_apart w paths.entry rest) (H.world host.old) (H.world host.new) result }
 {
-    match reject_script(host, paths.undo, &[paths.input, paths.out], paths.force) {
+    match reject_output(host, paths.undo, &[paths.input, paths.out], paths.force) {
         Ok(()) => {
             let others = [paths.input, paths.out, paths.undo];
             reject_optional(host, paths.script, &others, paths.force)

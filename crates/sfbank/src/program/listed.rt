@@ -25,7 +25,7 @@ use wave_file::WaveFault;
 #[derive(Drop)]
 pub(super) struct ReadFile {
     path: String,
-    bytes: Vec<u8>,
+    pub(super) bytes: Vec<u8>,
 }
 
 /// Imports the recordings that are listed, with an instrument of these zones and a preset if `members` asks for them.
@@ -72,8 +72,11 @@ fn reject_recordings<'a, H: Host>(
     }
 }
 
-// The paths of the recordings.
-fn paths_of<'p>(alloc: Global, entries: &[Entry<'p>]) -> Result<Vec<&'p str>, OutOfMemory>
+/// The paths of the recordings.
+pub(super) fn paths_of<'p>(
+    alloc: Global,
+    entries: &[Entry<'p>],
+) -> Result<Vec<&'p str>, OutOfMemory>
     ensures { IfOk result (λ paths. are_paths paths.items ≡ paths_of (map entry_of entries.now)) }
 {
     let mut paths = Vec::new(alloc);
@@ -83,8 +86,8 @@ fn paths_of<'p>(alloc: Global, entries: &[Entry<'p>]) -> Result<Vec<&'p str>, Ou
     Ok(paths)
 }
 
-// Reads the recordings.
-fn read_listed<'a, H: Host>(
+/// Reads the recordings.
+pub(super) fn read_listed<'a, H: Host>(
     host: &mut H,
     alloc: Global,
     out: &'a str,
@@ -106,8 +109,8 @@ fn read_listed<'a, H: Host>(
     Ok(files)
 }
 
-// Reads a recording.
-fn read_entry<'a, H: Host>(
+/// Reads a recording.
+pub(super) fn read_entry<'a, H: Host>(
     host: &mut H,
     alloc: Global,
     out: &'a str,
@@ -182,15 +185,20 @@ fn save_sources<'a, 'x, H: Host>(
         Ok((bank, recordings, sides)) => {
             match apply_kit(alloc, bank, recordings, sides.as_slice(), zones, members) {
                 Ok(edited_bank) => save_both(host, work.out, work.undo, &edited_bank),
-                Err(fault) => Err(of_kit(alloc, fault, entries, work.out)),
+                Err(fault) => Err(fault_of_recorded(alloc, fault, entries, work.out)),
             }
         }
-        Err(fault) => Err(of_kit(alloc, fault, entries, work.out)),
+        Err(fault) => Err(fault_of_recorded(alloc, fault, entries, work.out)),
     }
 }
 
-// The fault of a kit: that of a recording names its file.
-fn of_kit<'a>(alloc: Global, fault: RunFault, entries: &[Entry<'_>], out: &'a str) -> Fault<'a>
+/// The fault of a run with recordings: that of a recording names its file.
+pub(super) fn fault_of_recorded<'a>(
+    alloc: Global,
+    fault: RunFault,
+    entries: &[Entry<'_>],
+    out: &'a str,
+) -> Fault<'a>
     ensures { IsOfKit (map entry_of entries.now) out.entry fault result }
 {
     let RunFault::InRecording(number, why) = fault else {

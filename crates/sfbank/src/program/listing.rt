@@ -53,11 +53,11 @@ pub(super) fn zones_of_words(
     Ok(zones)
 }
 
-/// A recording of a table.
+/// A recording of a table or of a text.
 #[derive(Drop)]
 pub(super) struct TableFile {
-    line: u64,
-    path: PathBuf<Global>,
+    pub(super) line: u64,
+    pub(super) path: PathBuf<Global>,
 }
 
 /// The recordings and the zones of a table, each zone with the index of its recording.
@@ -130,13 +130,23 @@ impl TableListing {
     pub(super) fn entries(&self, alloc: Global) -> Result<Vec<Entry<'_>>, OutOfMemory>
         ensures { IfOk result (λ entries. map entry_of entries.items ≡ map entry_in self.now.files.items) }
     {
-        let mut entries = Vec::new(alloc);
-        for file in self.files.as_slice() {
-            entries.push(Entry {
-                line: Some(file.line),
-                path: file.path.as_str(),
-            })?;
-        }
-        Ok(entries)
+        file_entries(alloc, self.files.as_slice())
     }
+}
+
+/// The recordings of a table or of a text.
+pub(super) fn file_entries(
+    alloc: Global,
+    files: &[TableFile],
+) -> Result<Vec<Entry<'_>>, OutOfMemory>
+    ensures { IfOk result (λ entries. map entry_of entries.items ≡ map entry_in files.now) }
+{
+    let mut entries = Vec::new(alloc);
+    for file in files {
+        entries.push(Entry {
+            line: Some(file.line),
+            path: file.path.as_str(),
+        })?;
+    }
+    Ok(entries)
 }

@@ -112,8 +112,8 @@ fn path_of<'a>(which: Which, out: &'a str, undo: &'a str) -> &'a str
     }
 }
 
-// The fault of a write, which is not reported where the reader of the output closed its pipe.
-fn write_fault(which: Which, written: u64, path: &str, is_pipe_closed: bool) -> Fault<'_>
+/// The fault of a write, which is not reported where the reader of the output closed its pipe.
+pub(super) fn write_fault(which: Which, written: u64, path: &str, is_pipe_closed: bool) -> Fault<'_>
     ensures { result ≡ write_fault which written path.entry is_pipe_closed }
 {
     if is_pipe_closed {

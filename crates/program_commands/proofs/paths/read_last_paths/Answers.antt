@@ -1,5 +1,5 @@
-use Rattle.std.proofs.Common.{◌≡◌, ◌∙◌, Some, arith, refl, sym}
-use Rattle.clap.specs.Words.{all_of, found_of}
+use Rattle.std.proofs.Common.{◌∙◌, arith, refl, sym}
+use Rattle.clap.specs.Words.{found_of}
 use Rattle.clap.proofs.WalkLemmas.{raw_values-rows}
 use Rattle.program_commands.specs.Words.{rows_in}
 use Rattle.program_commands.proofs.KitLaws.{no_paths_absent, no_paths_short, paths_found}

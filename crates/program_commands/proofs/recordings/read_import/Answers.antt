@@ -1,5 +1,4 @@
-use Rattle.std.proofs.Common.{◌∷◌, List, [], ap, arith, codes, option_map}
-use Rattle.clap.specs.Words.{Text}
+use Rattle.std.proofs.Common.{◌∷◌, [], ap, arith, codes, option_map}
 use Rattle.program_commands.specs.Words.{AreGiven, IsGiven, operands_of, option_operands, optional_name, paths_in}
 use Rattle.program_commands.specs.Words.{rows_in}
 use Rattle.program_commands.specs.declared.words.Request.TheVariants.{Import}

@@ -10,11 +10,13 @@ use Rattle.program_commands.proofs.words.request_of_command.Goals.{in-live+in_ok
 use Rattle.program_commands.proofs.words.request_of_command.Goals.{in-map+in_ok-read_map-in-map}
 use Rattle.program_commands.proofs.words.request_of_command.Goals.{in-merge+in_ok-read_merge-in-merge}
 use Rattle.program_commands.proofs.words.request_of_command.Goals.{in-new+in_ok-read_new-in-new}
+use Rattle.program_commands.proofs.words.request_of_command.Goals.{in-pack+in_ok-read_pack-in-pack}
 use Rattle.program_commands.proofs.words.request_of_command.Goals.{in-play+in_ok-read_play-in-play}
 use Rattle.program_commands.proofs.words.request_of_command.Goals.{in-replace+in_ok-read_replace-in-replace}
 use Rattle.program_commands.proofs.words.request_of_command.Goals.{in-script+in_ok-read_script-in-script}
 use Rattle.program_commands.proofs.words.request_of_command.Goals.{in-show+in_ok-read_show-in-show}
 use Rattle.program_commands.proofs.words.request_of_command.Goals.{in-tidy+in_ok-read_tidy-in-tidy}
+use Rattle.program_commands.proofs.words.request_of_command.Goals.{in-unpack+in_ok-read_unpack-in-unpack}
 use Rattle.program_commands.proofs.words.request_of_command.Goals.{in-wave+in_ok-read_wave-in-wave}
 
 -- No request of `explain` is asked for without a topic.
@@ -44,6 +46,8 @@ returns c = let rows = rows_in c.args.words.now in (
         asks rows w.result-is w.in-merge.is w.in_ok-read_merge-in-merge.ensures.0
     | in-new+in_ok-read_new-in-new w ↦
         asks rows w.result-is w.in-new.is w.in_ok-read_new-in-new.ensures.0
+    | in-pack+in_ok-read_pack-in-pack w ↦
+        asks rows w.result-is w.in-pack.is w.in_ok-read_pack-in-pack.ensures.0
     | in-play+in_ok-read_play-in-play w ↦
         asks rows w.result-is w.in-play.is w.in_ok-read_play-in-play.ensures.0
     | in-replace+in_ok-read_replace-in-replace w ↦
@@ -54,6 +58,8 @@ returns c = let rows = rows_in c.args.words.now in (
         asks rows w.result-is w.in-show.is w.in_ok-read_show-in-show.ensures.0
     | in-tidy+in_ok-read_tidy-in-tidy w ↦
         asks rows w.result-is w.in-tidy.is w.in_ok-read_tidy-in-tidy.ensures.0
+    | in-unpack+in_ok-read_unpack-in-unpack w ↦
+        asks rows w.result-is w.in-unpack.is w.in_ok-read_unpack-in-unpack.ensures.0
     | in-wave+in_ok-read_wave-in-wave w ↦
         asks rows w.result-is w.in-wave.is w.in_ok-read_wave-in-wave.ensures.0
   ],

@@ -41,3 +41,7 @@ returns-in-RowFile g c = rw c.in-RowFile.is c.put_row_file.ensures
 pub returns-in-RowRecording : goal.returns-in-RowRecording
 unfolding line_of
 returns-in-RowRecording g c = rw c.in-RowRecording.is c.put_row_recording.ensures
+
+pub returns-in-FolderThere : goal.returns-in-FolderThere
+unfolding line_of
+returns-in-FolderThere g c = rw c.in-FolderThere.is c.put_folder_there.ensures

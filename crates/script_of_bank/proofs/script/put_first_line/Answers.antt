@@ -7,4 +7,5 @@ returns-in-Kept g c = rw c.in-Kept.is (rw c.from.ensures at c.put_line.ensures)
 
 pub returns-in-LeftOut : goal.returns-in-LeftOut
 unfolding first_line
-returns-in-LeftOut g c = rw c.in-LeftOut.is (rw (c.from.ensures, c.new.ensures) at c.put_line-in-LeftOut.ensures)
+returns-in-LeftOut g c =
+    rw c.in-LeftOut.is (rw (c.from.ensures, c.new.ensures, c.new-in-LeftOut.ensures) at c.put_line-in-LeftOut.ensures)

@@ -26,7 +26,7 @@ returns-in-Ok g c printed =
     kit_edited design k.options sources c.args.file.now c.in-Ok.bank c.in-Ok.ensures.0.0 (map bare c.in-Ok.recordings.items)
     c.in-Ok.ensures.0.1 c.in-Ok.ensures.1 in
     kit_stopped _ printed _ k (map entry_of c.args.entries.now) (kit_outcome design k.options sources c.args.file.now)
-    c.in-Err-apply_kit.fault c.of_kit.result (rw same c.in-Err-apply_kit.ensures) c.of_kit.ensures
+    c.in-Err-apply_kit.fault c.fault_of_recorded.result (rw same c.in-Err-apply_kit.ensures) c.fault_of_recorded.ensures
 
 pub returns : goal.returns
 returns g c printed =
@@ -34,4 +34,4 @@ returns g c printed =
     let design : Design = record { zones = c.args.zones.now; members = c.args.members } in
     let sources = map source_of c.args.sources.items in
     kit_stopped _ printed _ k (map entry_of c.args.entries.now) (kit_outcome design k.options sources c.args.file.now)
-    c.in-Err.fault c.of_kit-in-Err.result (c.in-Err.ensures design) c.of_kit-in-Err.ensures
+    c.in-Err.fault c.fault_of_recorded-in-Err.result (c.in-Err.ensures design) c.fault_of_recorded-in-Err.ensures

@@ -1,0 +1,4 @@
+pub mod SampleFiles
+pub mod Minors
+pub mod Folders
+pub mod Laws
