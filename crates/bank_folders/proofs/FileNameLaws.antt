@@ -1,14 +1,16 @@
 -- The number that the name of a file begins with.
 use Rattle.std.proofs.Common.{◌≡◌, ◌≤◌, ◌<◌, ◌+◌, ◌-◌, ◌*◌, ◌^◌, ◌++◌, ℕ, zero, suc, true, List, [], ◌∷◌, length, map}
-use Rattle.std.proofs.Common.{replicate, codes, decimal, refl, sym, ap, ◌∙◌, arith}
+use Rattle.std.proofs.Common.{replicate, codes, decimal, get_or, take, refl, sym, ap, ◌∙◌, arith}
 use Rattle.std.specs.Prelude.{if◌then◌else◌}
 use Rattle.std.specs.Fmt.{digits}
 use Rattle.std.specs.Int.Digits.{digits_of, number_from_digits_after, AllBelowBase}
 use Rattle.std.proofs.lemmas.Bool.{le-leb}
-use Rattle.std.proofs.lemmas.List.{append_assoc, length-map}
+use Rattle.std.proofs.lemmas.List.{append_assoc, length-map, map-append}
 use Rattle.std.proofs.lemmas.Fmt.{decimal-digits_of}
 use Rattle.std.proofs.lemmas.Int.Digits.{all_below_base_digits_of, number_digits_of}
 use Rattle.script_tokens.specs.Parsers.{is_digit}
+use Rattle.bank_parts.specs.declared.parts.Sample.{Sample}
+use Rattle.bank_folders.specs.Laws.{files_from}
 use Rattle.bank_folders.specs.SampleFiles.{file_digits, name_part, sample_file, SampleFilesDiffer}
 
 -- ---- the digits that are written
@@ -86,3 +88,33 @@ file_number n name =
 
 pub files_differ : SampleFilesDiffer
 files_differ m n a b same = sym (file_number m a) ∙ (ap (number_after 0) same ∙ file_number n b)
+
+-- ---- the names of the files of samples
+
+-- one more name
+names_on : (n : ℕ) (samples : List Sample) (i : ℕ) (x : Sample) → i < length samples
+    → files_from n (take (suc i) samples)
+    ≡ files_from n (take i samples) ++ sample_file (n + i) (get_or samples i x).name ∷ []
+names_on n [] i x l = absurd (omega (arith, l))
+names_on n (s ∷ samples) zero x l =
+    let e : n ≡ n + zero = omega arith in (λ i. sample_file (e i) s.name ∷ [])
+names_on n (s ∷ samples) (suc i) x l =
+    let e : suc n + i ≡ n + suc i = omega arith in
+    ap (λ (names : List (List ℕ)). sample_file n s.name ∷ names)
+    (names_on (suc n) samples i x (omega (arith, l))
+    ∙ ap (λ (m : ℕ). files_from (suc n) (take i samples) ++ sample_file m (get_or samples i x).name ∷ []) e)
+
+-- a name is pushed
+pub name_pushed : {X : Type 0} (name_of : X → List ℕ) (old new : List X) (value : X) (samples : List Sample) (i : ℕ)
+    (x : Sample) → i < length samples → x ≡ get_or samples i x → new ≡ old ++ value ∷ []
+    → name_of value ≡ sample_file i x.name → map name_of old ≡ files_from 0 (take i samples)
+    → map name_of new ≡ files_from 0 (take (i + 1) samples)
+name_pushed name_of old new value samples i x l is push named was =
+    let here : i ≡ 0 + i = omega arith in
+    let next : suc i ≡ i + 1 = omega arith in
+    ap (map name_of) push
+    ∙ map-append name_of old (value ∷ [])
+    ∙ (λ j. was j ++ named j ∷ [])
+    ∙ (λ j. files_from 0 (take i samples) ++ sample_file (here j) (is j).name ∷ [])
+    ∙ sym (names_on 0 samples i x l)
+    ∙ ap (λ (m : ℕ). files_from 0 (take m samples)) next

@@ -1,7 +1,9 @@
 //! The names of the files that hold the points of samples.
 ghost use Rattle.std.specs.Prelude.{◌≡◌, ◌<◌, ◌++◌, map, replicate, IfOk, OnOk, string_bytes};
+ghost use Rattle.bank_folders.specs.Laws.{files_from};
 ghost use Rattle.bank_folders.specs.SampleFiles.{file_digits, is_reserved, is_kept, file_byte, name_part, sample_file};
 
+use bank_parts::Sample;
 use itoa::Buffer;
 use sf_base::{Name20, OutOfMemory};
 use std::alloc::Global;
@@ -27,6 +29,17 @@ pub fn sample_file(alloc: Global, number: u64, name: &Name20) -> Result<String, 
     push_name(&mut file, name.bytes())?;
     file.push_str(".wav")?;
     Ok(file)
+}
+
+/// The names of the files of samples, of which the first has the number 0.
+pub fn sample_file_names(alloc: Global, samples: &[Sample<'_>]) -> Result<Vec<String>, OutOfMemory>
+    ensures { IfOk result (λ files. map string_bytes files.items ≡ files_from 0 samples.now) }
+{
+    let mut files = Vec::new(alloc);
+    for (number, sample) in samples.iter().enumerate() {
+        files.push(sample_file(alloc, number as u64, &sample.name)?)?;
+    }
+    Ok(files)
 }
 
 // Appends the digits of a number, at least four.

@@ -2,3 +2,4 @@ pub mod BareLaws
 pub mod PathLaws
 pub mod RowLaws
 pub mod FileLaws
+pub mod RowTextLaws

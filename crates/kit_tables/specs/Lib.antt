@@ -3,3 +3,4 @@ pub mod Zones
 pub mod ZoneParsers
 pub mod Rows
 pub mod Files
+pub mod RowTexts

@@ -11,14 +11,15 @@ use Rattle.program_commands.specs.declared.commands.Operand as operand
 use Rattle.program_commands.specs.declared.commands.Operand.TheVariants as variant
 
 -- an argument of a command with its name: any word, a path, paths, a number of 32 bits, a level and the word for a
--- member are required; a path after these is optional; a flag, a number of 16 bits with its default, a word, words given
--- one by one and this many words given together are options
+-- member are required; a path or such a number after these is optional; a flag, a number of 16 bits with its default, a
+-- word, words given one by one and this many words given together are options
 pub data Argument : Type 0 where
   Word : Text → Argument
   Path : Text → Argument
   Paths : Text → Argument
   OptionalPath : Text → Argument
   Number : Text → Argument
+  OptionalNumber : Text → Argument
   Level : Text → Argument
   Member : Text → Argument
   Flag : Text → Argument
@@ -114,6 +115,12 @@ replace_arguments =
     read_arguments
     ++ force_flag ∷ input_path ∷ Number (codes "S") ∷ Path (codes "WAVE") ∷ output_path ∷ undo_path ∷ []
 
+-- the arguments of `wave`: the number and the path are those of one sample
+abbrev pub wave_arguments : List Argument
+wave_arguments =
+    Flag (codes "pair") ∷ Single (codes "all") ∷ Single (codes "instrument") ∷ force_flag ∷ input_path
+    ∷ OptionalNumber (codes "S") ∷ OptionalPath (codes "OUT") ∷ []
+
 -- the commands up to `live`, each with its arguments
 abbrev pub commands_to_live : List (Text × List Argument)
 commands_to_live =
@@ -141,7 +148,7 @@ commands_from_map =
     ∷ (codes "take", Repeated (codes "preset") ∷ second_bank_arguments)
     ∷ (codes "tidy", Flag (codes "merge") ∷ plan_arguments)
     ∷ (codes "unpack", force_flag ∷ input_path ∷ folder_path ∷ [])
-    ∷ (codes "wave", Flag (codes "pair") ∷ force_flag ∷ input_path ∷ Number (codes "S") ∷ output_path ∷ [])
+    ∷ (codes "wave", wave_arguments)
     ∷ []
 
 -- all commands
@@ -172,6 +179,8 @@ rule_for parsers (Paths name) = record (rule_for_required name) { action = Some 
 rule_for parsers (OptionalPath name) = rule_for_positional name
 rule_for parsers (Number name) =
     record (rule_for_required name) { parser = Some (number_parser 32) }
+rule_for parsers (OptionalNumber name) =
+    record (rule_for_positional name) { parser = Some (number_parser 32) }
 rule_for parsers (Level name) = record (rule_for_required name) { parser = Some parsers.levels }
 rule_for parsers (Member name) = record (rule_for_required name) { parser = Some parsers.members }
 rule_for parsers (Flag name) = record (rule_for_option name) { action = Some SetTrue }
@@ -242,6 +251,7 @@ argument_of (variant.Path name help) = Path name.now
 argument_of (variant.Paths name help) = Paths name.now
 argument_of (variant.OptionalPath name help) = OptionalPath name.now
 argument_of (variant.Number name help) = Number name.now
+argument_of (variant.OptionalNumber name help) = OptionalNumber name.now
 argument_of (variant.Level name help) = Level name.now
 argument_of (variant.Member name help) = Member name.now
 argument_of (variant.Flag name help) = Flag name.now

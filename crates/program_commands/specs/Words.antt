@@ -37,11 +37,12 @@ use Rattle.program_commands.specs.declared.plans.Zones.{Zones}
 use Rattle.program_commands.specs.declared.plans.Zones.TheVariants as zones
 use Rattle.program_commands.specs.declared.recordings.ImportPaths.{ImportPaths}
 use Rattle.program_commands.specs.declared.recordings.ReplacePaths.{ReplacePaths}
+use Rattle.program_commands.specs.declared.recordings.WaveAllPaths.{WaveAllPaths}
 use Rattle.program_commands.specs.declared.words.Request.{Request}
 use Rattle.program_commands.specs.declared.words.Request.TheVariants.{Apply, ApplyOnly, Canon, Copy, Diff}
 use Rattle.program_commands.specs.declared.words.Request.TheVariants.{Explain, Import, ImportKit, Keep, Live, Map}
 use Rattle.program_commands.specs.declared.words.Request.TheVariants.{Merge, New, Pack, Play, Replace, Script, Show}
-use Rattle.program_commands.specs.declared.words.Request.TheVariants.{Take, Tidy, Unpack, Wave}
+use Rattle.program_commands.specs.declared.words.Request.TheVariants.{Take, Tidy, Unpack, Wave, WaveAll}
 use Rattle.program_commands.specs.declared.words.Forms.{Forms}
 use Rattle.program_commands.specs.declared.words.Forms.TheVariants.{Every, Neutral}
 
@@ -253,6 +254,23 @@ replace_operands paths =
     ∷ Flag (codes "force") paths.force
     ∷ option_operands paths.options
 
+-- an option with a number of 32 bits, if it is used
+abbrev pub optional_number : Text → Option ℕ → Operand
+optional_number option (Some n) = Decimal option 32 n
+optional_number option None = Absent option
+
+-- the operands of `wave` of all samples
+abbrev pub wave_all_operands : WaveAllPaths → List Operand
+wave_all_operands paths =
+    Input (codes "IN") paths.input.now
+    ∷ Path (codes "all") paths.folder.now
+    ∷ optional_number (codes "instrument") paths.instrument
+    ∷ Flag (codes "force") paths.force
+    ∷ Absent (codes "S")
+    ∷ Absent (codes "OUT")
+    ∷ Unset (codes "pair")
+    ∷ []
+
 -- the operand of `explain`
 abbrev pub topic_operands : Topic → List Operand
 topic_operands topic = About (codes "TOPIC") topic ∷ []
@@ -328,7 +346,10 @@ operands_of (Wave paths) =
     ∷ Output (codes "OUT") paths.out.now
     ∷ Flag (codes "pair") paths.pair
     ∷ Flag (codes "force") paths.force
+    ∷ Absent (codes "all")
+    ∷ Absent (codes "instrument")
     ∷ []
+operands_of (WaveAll paths) = wave_all_operands paths
 
 -- the command of each request
 abbrev pub command_of : Request → Text
@@ -354,6 +375,7 @@ command_of (Take take) = codes "take"
 command_of (Tidy tidy) = codes "tidy"
 command_of (Unpack paths) = codes "unpack"
 command_of (Wave paths) = codes "wave"
+command_of (WaveAll paths) = codes "wave"
 
 -- what clap found for a command, under the names of its operands
 abbrev pub rows_in : ArgMatches → List Row

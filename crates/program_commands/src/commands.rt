@@ -27,6 +27,10 @@ const DEFAULT_SHIFT: &str = "0";
 const IMPORT_USAGE: &str = "sfbank import [OPTIONS] <IN> <WAVE>... <OUT> <UNDO>
        sfbank import [OPTIONS] --kit <TABLE> <IN> <OUT> <UNDO>";
 
+/// The usage of `wave`, which writes one sample or all.
+const WAVE_USAGE: &str = "sfbank wave [--force] [--pair] <IN> <S> <OUT>
+       sfbank wave [--force] [--instrument <N>] --all <FOLDER> <IN>";
+
 /// The names of the two levels.
 static LEVELS: [&str; 2] = ["preset", "inst"];
 
@@ -63,6 +67,8 @@ enum Operand {
     OptionalPath(&'static str, &'static str),
     /// A 32-bit number, required.
     Number(&'static str, &'static str),
+    /// A 32-bit number, optional, after the required operands.
+    OptionalNumber(&'static str, &'static str),
     /// `preset` or `inst`, required.
     Level(&'static str, &'static str),
     /// `preset`, `inst` or `sample`, required.
@@ -471,17 +477,30 @@ static COMMANDS_FROM_MAP: [Entry; 12] = [
     },
     Entry {
         name: "wave",
-        about: "Writes a sample of a bank as a WAVE file",
-        usage: None,
+        about: "Writes a sample of a bank as a WAVE file, or all samples",
+        usage: Some(WAVE_USAGE),
         operands: &[
             Operand::Flag(
                 "pair",
                 "Writes the left and the right sample of its pair, as stereo",
             ),
-            FORCE,
-            Operand::Path("IN", "The bank that has the sample"),
-            Operand::Number("S", "The number that `show` lists it by"),
-            Operand::Path("OUT", "Where the WAVE file is written"),
+            Operand::Single(
+                "all",
+                "FOLDER",
+                "Writes all samples into a new folder, and a table of an instrument's zones that `import --kit` reads",
+            ),
+            Operand::Single(
+                "instrument",
+                "N",
+                "With --all, the number that `show` lists the instrument by; the first if it isn't given",
+            ),
+            Operand::Flag(
+                "force",
+                "Writes OUT even if a bank is there, or into FOLDER even if it is there",
+            ),
+            Operand::Path("IN", "The bank that has the samples"),
+            Operand::OptionalNumber("S", "The number that `show` lists the sample by"),
+            Operand::OptionalPath("OUT", "Where the WAVE file is written"),
         ],
         example: "Example: sfbank wave organ.sf2 0 sample.wav",
     },
@@ -619,6 +638,9 @@ fn arg_of<'a>(alloc: Global, operand: Operand, parsers: WordParsers<'a>) -> Arg<
         Operand::Paths(name, help) => required(alloc, name, help).action(ArgAction::Append),
         Operand::OptionalPath(name, help) => positional(alloc, name, help),
         Operand::Number(name, help) => required(alloc, name, help).value_parser(value_parser!(u32)),
+        Operand::OptionalNumber(name, help) => {
+            positional(alloc, name, help).value_parser(value_parser!(u32))
+        }
         Operand::Level(name, help) => required(alloc, name, help).value_parser(parsers.levels),
         Operand::Member(name, help) => required(alloc, name, help).value_parser(parsers.members),
         Operand::Flag(name, help) => option(alloc, name, help).action(ArgAction::SetTrue),

@@ -16,7 +16,7 @@ pub use explain::{Topic, asks_for_explanations};
 pub use kits::{KitPaths, KitSource, NewPreset};
 pub use names::recording_name;
 pub use plans::{CopyPaths, KeepPaths, Kept, MergePaths, PlanPaths, TakePaths, TidyPaths, Zones};
-pub use recordings::{ImportPaths, ReplacePaths, WavePaths};
+pub use recordings::{ImportPaths, ReplacePaths, WaveAllPaths, WavePaths};
 pub use words::{
     ApplyOnlyPaths, ApplyPaths, CanonPaths, DiffPaths, Forms, LivePaths, MapPaths, NewBank,
     PackPaths, PlayPaths, Request, ScriptPaths, ShowPaths, UnpackPaths, request_of,

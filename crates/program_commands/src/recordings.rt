@@ -1,13 +1,13 @@
 //! The operands of the commands that read or write recordings.
 ghost use Rattle.std.specs.Prelude.{◌≡◌, codes, false, suc, true};
 ghost use Rattle.program_commands.specs.declared.words.Request.TheVariants as Request;
-ghost use Rattle.program_commands.specs.Words.{no_kit_operands, operands_of, optional_channel, optional_key};
+ghost use Rattle.program_commands.specs.Words.{no_kit_operands, operands_of, optional_channel, optional_key, optional_number};
 ghost use Rattle.program_commands.specs.Words.{optional_seed, option_operands, rows_in, AreGiven, FindsOne};
 ghost use Rattle.program_commands.specs.Words.{IsDecimal, IsGiven};
 
 use crate::names::read_optional_name;
-use crate::paths::{input_named, read_input, read_last_paths, read_output};
-use crate::words::{read_flag, read_number, read_word};
+use crate::paths::{input_named, read_input, read_last_paths, read_output, read_path};
+use crate::words::{is_set, read_flag, read_number, read_word};
 use clap::ArgMatches;
 use sf_base::Name20;
 use wave_file::ReadOptions;
@@ -50,6 +50,17 @@ pub struct WavePaths<'a> {
     /// Whether the pair that the sample is one of is written, as stereo.
     pub pair: bool,
     /// Whether the WAVE file may replace a bank.
+    pub force: bool,
+}
+
+/// The operands of `wave` of all samples.
+#[derive(Clone, Copy)]
+pub struct WaveAllPaths<'a> {
+    pub input: &'a str,
+    pub folder: &'a str,
+    /// The number of the instrument whose zones are listed, if it is given.
+    pub instrument: Option<u32>,
+    /// Whether the folder may be there already, and files in it be replaced.
     pub force: bool,
 }
 
@@ -100,10 +111,13 @@ pub(crate) fn read_replace<'a>(matches: &ArgMatches<'a>) -> Option<ReplacePaths<
     })
 }
 
-/// Returns the operands of `wave`, if the words give them.
+/// Returns the operands of `wave` of one sample, if the words give them.
 pub(crate) fn read_wave<'a>(matches: &ArgMatches<'a>) -> Option<WavePaths<'a>>
     ensures { FindsOne result (λ paths. AreGiven (rows_in matches.now) (operands_of (Request.Wave paths))) }
 {
+    if read_word(matches, "all").is_some() || read_word(matches, "instrument").is_some() {
+        return None;
+    }
     Some(WavePaths {
         input: read_input(matches, "IN")?,
         sample: read_number(matches, "S")?,
@@ -111,6 +125,34 @@ pub(crate) fn read_wave<'a>(matches: &ArgMatches<'a>) -> Option<WavePaths<'a>>
         pair: read_flag(matches, "pair"),
         force: read_flag(matches, "force"),
     })
+}
+
+/// Returns the operands of `wave` of all samples, if the words give them.
+pub(crate) fn read_wave_all<'a>(matches: &ArgMatches<'a>) -> Option<WaveAllPaths<'a>>
+    ensures { FindsOne result (λ paths. AreGiven (rows_in matches.now) (operands_of (Request.WaveAll paths))) }
+{
+    if read_word(matches, "S").is_some()
+        || read_word(matches, "OUT").is_some()
+        || is_set(matches, "pair")
+    {
+        return None;
+    }
+    Some(WaveAllPaths {
+        input: read_input(matches, "IN")?,
+        folder: read_path(matches, "all")?,
+        instrument: read_instrument(matches)?,
+        force: read_flag(matches, "force"),
+    })
+}
+
+// Returns the number of the instrument.
+fn read_instrument(matches: &ArgMatches<'_>) -> Option<Option<u32>>
+    ensures { FindsOne result (λ n. IsGiven (rows_in matches.now) (optional_number (codes "instrument") n)) }
+{
+    match read_word(matches, "instrument") {
+        Some(text) => Some(Some(text.parse().ok()?)),
+        None => Some(None),
+    }
 }
 
 /// Returns how a recording is read.

@@ -16,7 +16,8 @@ use crate::plans::{
     read_take, read_tidy, saves_in_dry_run,
 };
 use crate::recordings::{
-    ImportPaths, ReplacePaths, WavePaths, asks_for_kit, read_import, read_replace, read_wave,
+    ImportPaths, ReplacePaths, WaveAllPaths, WavePaths, asks_for_kit, read_import, read_replace,
+    read_wave, read_wave_all,
 };
 use bank_changes::Owner;
 use clap::error::ErrorKind;
@@ -71,6 +72,8 @@ pub enum Request<'a> {
     Unpack(UnpackPaths<'a>),
     /// Write a sample as a WAVE file.
     Wave(WavePaths<'a>),
+    /// Write all samples as WAVE files, and the zones of an instrument as a table.
+    WaveAll(WaveAllPaths<'a>),
 }
 
 /// The forms of edits that `apply` accepts.
@@ -267,6 +270,9 @@ fn rejection(matches: &ArgMatches<'_>) -> &'static str {
         Some(("take", _)) => {
             "take needs --preset BANK:NUMBER[=BANK:NUMBER], such as --preset 0:24 or --preset 0:24=8:24"
         }
+        Some(("wave", _)) => {
+            "wave needs S and OUT, or --all FOLDER, which --instrument N and no --pair can follow"
+        }
         _ => "no command was given",
     }
 }
@@ -366,6 +372,16 @@ fn request_to_copy<'a>(words: &ArgMatches<'a>) -> Option<Request<'a>>
     }
 }
 
+/// Returns the request of `wave`: that of one sample, or that of all. No words ask for both.
+fn request_to_wave<'a>(words: &ArgMatches<'a>) -> Option<Request<'a>>
+    ensures { FindsOne result (AsksFor (Some (codes "wave", rows_in words.now))) }
+{
+    match read_wave(words) {
+        Some(paths) => Some(Request::Wave(paths)),
+        None => Some(Request::WaveAll(read_wave_all(words)?)),
+    }
+}
+
 /// Returns the request of a command other than `import`, `keep` and `take`.
 fn request_of_command<'a>(name: &str, words: &ArgMatches<'a>) -> Option<Request<'a>>
     requires not_import { name.now ≢ codes "import" }
@@ -390,7 +406,7 @@ fn request_of_command<'a>(name: &str, words: &ArgMatches<'a>) -> Option<Request<
         "show" => Request::Show(read_show(words)?),
         "tidy" => Request::Tidy(read_tidy(words)?),
         "unpack" => Request::Unpack(read_unpack(words)?),
-        "wave" => Request::Wave(read_wave(words)?),
+        "wave" => return request_to_wave(words),
         _ => return None,
     })
 }

@@ -23,6 +23,7 @@ mod CommandLaws
 mod LiveLaws
 pub mod UndoneFiles
 pub mod PackedFiles
+pub mod SavedKits
 pub mod ScriptFiles
 pub mod PlannedEdits
 mod FoundEdits

@@ -111,7 +111,7 @@ apart_kept (s ∷ steps) w t h k =
 -- ---- what is saved is there
 
 -- a file is there, and can be read
-abbrev IsThere : World → FolderStep → Type 0
+abbrev pub IsThere : World → FolderStep → Type 0
 IsThere w (MakesFolder path) = Unit {0}
 IsThere w (SavesFile path text) = file_at w path ≡ Ok text
 
@@ -146,7 +146,7 @@ there_after (SavesFile p text) steps w k l h =
     ∙ put_there w p text k)
     ∙ short_read text l
 
-all_there : (steps : List FolderStep) (w : World) → AreApart w steps → AllByRecursion IsShort steps
+pub all_there : (steps : List FolderStep) (w : World) → AreApart w steps → AllByRecursion IsShort steps
     → AllByRecursion (IsThere (saved_steps steps w)) steps
 all_there [] w h k = tt
 all_there (s ∷ steps) w h k =
@@ -157,7 +157,7 @@ there_now : (s : FolderStep) (left now : World) → ReadsAlike left now s → Is
 there_now (MakesFolder p) left now e h = tt
 there_now (SavesFile p text) left now e h = e ∙ h
 
-all_there_now : (steps : List FolderStep) (left now : World) → AllByRecursion (ReadsAlike left now) steps
+pub all_there_now : (steps : List FolderStep) (left now : World) → AllByRecursion (ReadsAlike left now) steps
     → AllByRecursion (IsThere left) steps → AllByRecursion (IsThere now) steps
 all_there_now [] left now e h = tt
 all_there_now (s ∷ steps) left now e h = (there_now s left now e.0 h.0, all_there_now steps left now e.1 h.1)

@@ -9,18 +9,16 @@ use Rattle.bank_changes.proofs.PointLaws.{among}
 use Rattle.std.specs.Borrow.{Bor}
 use Rattle.std.proofs.KnownBytes.{Keeps-refl}
 use Rattle.std.proofs.lemmas.List.{append_assoc, append-nil, take_all}
-use Rattle.bank_parts.specs.declared.parts.Parts.{Parts}
 use Rattle.bank_parts.specs.declared.parts.Sample.{Sample}
 use Rattle.file_host.specs.World.{World, IsMade, held_at, is_nothing, with_folder_there, with_text}
 use Rattle.file_host.specs.Saving.{Spoils}
 use Rattle.file_host.specs.declared.faults.Which.TheVariants.{Out, Undo}
-use Rattle.program_commands.specs.declared.words.UnpackPaths.{UnpackPaths}
 use Rattle.program_reports.specs.declared.fault.Fault.{Fault}
 use Rattle.program_reports.specs.declared.fault.Fault.TheVariants.{Words, NotText, NoNumber, NoName, File, Output, Run, PipeClosed}
 use Rattle.program_reports.specs.declared.fault.Fault.TheVariants.{FolderThere, RowFile, RowRecording}
 use Rattle.program_reports.specs.declared.run_fault.RunFault.TheVariants as run
 use Rattle.sfbank.specs.Ends.{EndsAs, EndsFor, RejectsFolder}
-use Rattle.sfbank.specs.FolderPlans.{folder_steps, sample_steps, sample_path, with_folder}
+use Rattle.sfbank.specs.FolderPlans.{sample_steps, sample_path}
 use Rattle.sfbank.specs.Outputs.{write_fault}
 use Rattle.sfbank.specs.PlanParts.{FolderStep, MakesFolder, SavesFile, SavesFolder}
 use Rattle.sfbank.specs.SavedFolders.{HasSaved, MayWrite, SavesSteps, SpoilsStep, StopsAmong, saved_step, saved_steps}
@@ -231,28 +229,28 @@ may_write w folder false true made may = sym made
 may_write w folder false false made may = absurd cc
 
 -- the first folder is made, and then the files are saved
-pub unpacked : (p : UnpackPaths) (b : Parts) (old mid new : Option World) (printed : Option (List ℕ)) (written : ℕ)
-    (end : Result (Unit {0}) Fault) (is_new : Bool)
-    → IsMade old p.folder.now is_new × (mid ≡ option_map (with_folder_there p.folder.now) old)
-    → (is_new || p.force) ≡ true
-    → SavesSteps p.folder.now (drop 1 (folder_steps p.folder.now b)) mid new written end
-    → EndsFor (λ w. with_folder p (Ok b)) (at old printed) (at new printed) written end
-unpacked p b None mid new printed written end is_new made may h = tt
-unpacked p b (Some w) mid new printed written end is_new made may h =
-    folder_ends w p.folder.now p.force (folder_steps p.folder.now b) new printed written end
-    (may_write w p.folder.now p.force is_new made.0 may)
-    (steps_then p.folder.now (MakesFolder p.folder.now ∷ []) (drop 1 (folder_steps p.folder.now b)) (Some w) mid new written end
-    (made_one p.folder.now (Some w) mid made.1) h)
+pub inner_saved : (folder : List ℕ) (force : Bool) (inner : List FolderStep) (old mid new : Option World)
+    (printed : Option (List ℕ)) (written : ℕ) (end : Result (Unit {0}) Fault) (is_new : Bool)
+    → IsMade old folder is_new × (mid ≡ option_map (with_folder_there folder) old)
+    → (is_new || force) ≡ true
+    → SavesSteps folder inner mid new written end
+    → EndsFor (λ w. Ok (SavesFolder folder force (MakesFolder folder ∷ inner))) (at old printed) (at new printed) written end
+inner_saved folder force inner None mid new printed written end is_new made may h = tt
+inner_saved folder force inner (Some w) mid new printed written end is_new made may h =
+    folder_ends w folder force (MakesFolder folder ∷ inner) new printed written end (may_write w folder force is_new made.0 may)
+    (steps_then folder (MakesFolder folder ∷ []) inner (Some w) mid new written end
+    (made_one folder (Some w) mid made.1) h)
 
 -- the first folder is not made
-pub not_made : (p : UnpackPaths) (b : Parts) (old new : Option World) (printed : Option (List ℕ)) (written : ℕ)
-    (fault : Fault)
-    → SavesSteps {U = Unit {0}} p.folder.now (MakesFolder p.folder.now ∷ []) old new written (Err fault)
-    → EndsFor {U = Unit {0}} (λ w. with_folder p (Ok b)) (at old printed) (at new printed) written (Err fault)
-not_made p b None new printed written fault h = tt
-not_made p b (Some w) new printed written fault h =
-    folder_fails w p.folder.now p.force (folder_steps p.folder.now b) new printed written fault
-    (first_fail p.folder.now (MakesFolder p.folder.now ∷ []) (drop 1 (folder_steps p.folder.now b)) (Some w) new written fault h)
+pub not_made : (folder : List ℕ) (force : Bool) (inner : List FolderStep) (old new : Option World)
+    (printed : Option (List ℕ)) (written : ℕ) (fault : Fault)
+    → SavesSteps {U = Unit {0}} folder (MakesFolder folder ∷ []) old new written (Err fault)
+    → EndsFor {U = Unit {0}} (λ w. Ok (SavesFolder folder force (MakesFolder folder ∷ inner))) (at old printed)
+    (at new printed) written (Err fault)
+not_made folder force inner None new printed written fault h = tt
+not_made folder force inner (Some w) new printed written fault h =
+    folder_fails w folder force (MakesFolder folder ∷ inner) new printed written fault
+    (first_fail folder (MakesFolder folder ∷ []) inner (Some w) new written fault h)
 
 -- the folder is there already, and may not be
 there_stays : (w : World) (path : List ℕ) → is_nothing (held_at w path) ≡ false → with_folder_there path w ≡ w
@@ -262,21 +260,22 @@ neither : (a b : Bool) → (a || b) ≡ false → (a ≡ false) × (b ≡ false)
 neither true b e = absurd cc
 neither false b e = (refl, e)
 
-pub is_there : (p : UnpackPaths) (b : Parts) (old new : Option World) (printed : Option (List ℕ)) (written : ℕ)
-    (is_new : Bool)
-    → IsMade old p.folder.now is_new × (new ≡ option_map (with_folder_there p.folder.now) old)
-    → (is_new || p.force) ≡ false
-    → EndsFor {U = Unit {0}} (λ w. with_folder p (Ok b)) (at old printed) (at new printed) written (Err (FolderThere p.folder))
-is_there p b None new printed written is_new made e = tt
-is_there p b (Some w) new printed written is_new made e =
-    let both = neither is_new p.force e in
-    let nothing : is_nothing (held_at w p.folder.now) ≡ false = sym made.0 ∙ both.0 in
-    (by_force p.force both.1, untouched (Some w) new printed (made.1 ∙ ap Some (there_stays w p.folder.now nothing)))
+pub is_there : (folder : Bor (List ℕ)) (force : Bool) (inner : List FolderStep) (old new : Option World)
+    (printed : Option (List ℕ)) (written : ℕ) (is_new : Bool)
+    → IsMade old folder.now is_new × (new ≡ option_map (with_folder_there folder.now) old)
+    → (is_new || force) ≡ false
+    → EndsFor {U = Unit {0}} (λ w. Ok (SavesFolder folder.now force (MakesFolder folder.now ∷ inner))) (at old printed)
+    (at new printed) written (Err (FolderThere folder))
+is_there folder force inner None new printed written is_new made e = tt
+is_there folder force inner (Some w) new printed written is_new made e =
+    let both = neither is_new force e in
+    let nothing : is_nothing (held_at w folder.now) ≡ false = sym made.0 ∙ both.0 in
+    (by_force force both.1, untouched (Some w) new printed (made.1 ∙ ap Some (there_stays w folder.now nothing)))
   where
-    by_force : (force : Bool) → force ≡ false
-        → RejectsFolder w (Ok (SavesFolder p.folder.now force (folder_steps p.folder.now b))) p.folder.now
+    by_force : (f : Bool) → f ≡ false
+        → RejectsFolder w (Ok (SavesFolder folder.now f (MakesFolder folder.now ∷ inner))) folder.now
     by_force true g = absurd cc
-    by_force false g = (refl, sym made.0 ∙ (neither is_new p.force e).0)
+    by_force false g = (refl, sym made.0 ∙ (neither is_new force e).0)
 
 -- ---- one file
 

@@ -25,9 +25,13 @@ use Rattle.sfbank.specs.PlanParts.{Inputs, apart, no_bank, put_at}
 
 -- ---- the files of a folder
 
--- its text
+-- the name of the text of a bank
+abbrev pub bank_file : List ℕ
+bank_file = codes "bank.txt"
+
+-- the path of its text
 abbrev pub text_path : Path → Path
-text_path folder = path_join folder (codes "bank.txt")
+text_path folder = path_join folder bank_file
 
 -- the folder of its WAVE files
 abbrev pub samples_path : Path → Path
@@ -37,7 +41,7 @@ samples_path folder = path_join folder (codes "samples")
 abbrev pub sample_path : Path → ℕ → List ℕ → Path
 sample_path folder number name = path_join (samples_path folder) (sample_file number name)
 
--- ---- a bank as a folder
+-- ---- a folder with WAVE files
 
 -- a WAVE file for each sample, of which the first has the number n
 abbrev pub sample_steps : Path → ℕ → List Sample → List FolderStep
@@ -45,13 +49,22 @@ sample_steps folder n [] = []
 sample_steps folder n (s ∷ samples) =
     SavesFile (sample_path folder n s.name) (sample_wave s) ∷ sample_steps folder (suc n) samples
 
--- the text, then the WAVE files
-abbrev pub files_steps : Path → Parts → List FolderStep
-files_steps folder b = SavesFile (text_path folder) (bank_script LeftOut b) ∷ sample_steps folder 0 b.samples
+-- a text in this file, then the WAVE files
+abbrev pub files_steps : Path → List ℕ → List ℕ → List Sample → List FolderStep
+files_steps folder file text samples = SavesFile (path_join folder file) text ∷ sample_steps folder 0 samples
 
--- the folder, the folder of the WAVE files, and all files
+-- the folder of the WAVE files, and all files
+abbrev pub inner_steps : Path → List ℕ → List ℕ → List Sample → List FolderStep
+inner_steps folder file text samples = MakesFolder (samples_path folder) ∷ files_steps folder file text samples
+
+-- the folder, and all in it
+abbrev pub steps_with : Path → List ℕ → List ℕ → List Sample → List FolderStep
+steps_with folder file text samples = MakesFolder folder ∷ inner_steps folder file text samples
+
+-- ---- a bank as a folder
+
 abbrev pub folder_steps : Path → Parts → List FolderStep
-folder_steps folder b = MakesFolder folder ∷ MakesFolder (samples_path folder) ∷ files_steps folder b
+folder_steps folder b = steps_with folder bank_file (bank_script LeftOut b) b.samples
 
 -- the bank of a file, or its first failed check
 abbrev pub bank_outcome : List ℕ → Result Parts RunFault

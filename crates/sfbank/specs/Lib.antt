@@ -30,6 +30,7 @@ pub mod SavedFolders
 pub mod Folders
 pub mod KitPlans
 pub mod FolderPlans
+pub mod KitFolders
 pub mod Plans
 pub mod Topics
 pub mod Ends
@@ -41,4 +42,5 @@ pub mod FolderSteps
 pub mod Outputs
 pub mod UndoneFiles
 pub mod PackedFiles
+pub mod SavedKits
 pub mod ScriptFiles

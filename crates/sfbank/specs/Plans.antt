@@ -7,7 +7,7 @@ use Rattle.script_of_bank.specs.declared.samples.SamplePoints.TheVariants.{Kept}
 use Rattle.program_commands.specs.declared.words.Request.{Request}
 use Rattle.program_commands.specs.declared.words.Request.TheVariants.{Apply, ApplyOnly, Canon, Copy, Diff, Explain, Import, ImportKit, Keep}
 use Rattle.program_commands.specs.declared.words.Request.TheVariants.{Live, Map, Merge, New, Pack, Play, Replace, Script, Show}
-use Rattle.program_commands.specs.declared.words.Request.TheVariants.{Take, Tidy, Unpack, Wave}
+use Rattle.program_commands.specs.declared.words.Request.TheVariants.{Take, Tidy, Unpack, Wave, WaveAll}
 use Rattle.program_commands.specs.declared.plans.Kept as kept
 use Rattle.program_commands.specs.declared.plans.Kept.TheVariants.{Notes, Presets}
 use Rattle.program_commands.specs.declared.plans.PlanPaths.{PlanPaths}
@@ -22,6 +22,7 @@ use Rattle.sfbank.specs.Maps.{map_outcome}
 use Rattle.sfbank.specs.Recordings.{import_outcome, replace_outcome}
 use Rattle.sfbank.specs.Purposes.{copying, keeping_listed, keeping_played, merging, taking, tidying}
 use Rattle.sfbank.specs.FolderPlans.{bank_outcome, entries_of_text, pack_plan, text_path, with_folder}
+use Rattle.sfbank.specs.KitFolders.{with_samples}
 use Rattle.sfbank.specs.KitPlans.{GiveWaves, entries_of, kit_plan, members_of, table_of, work_of}
 use Rattle.sfbank.specs.PlanParts.{Path, standard_output, Action, Why, Inputs, GivesInput, apart, no_bank, with_input}
 use Rattle.sfbank.specs.PlanParts.{with_text, with_print, with_both, without_undo, with_difference, with_edits}
@@ -52,6 +53,7 @@ first_input (Take take) = Some take.paths.input.now
 first_input (Tidy tidy) = Some tidy.paths.input.now
 first_input (Unpack paths) = Some paths.input.now
 first_input (Wave paths) = Some paths.input.now
+first_input (WaveAll paths) = Some paths.input.now
 
 -- the notes whose presets are kept
 abbrev pub notes_in : kept.Kept → Option Path
@@ -168,3 +170,5 @@ plan (Unpack p) world inputs =
 plan (Wave p) world inputs =
     no_bank world p.out.now p.force
     (with_input p.input.now inputs.first (λ file. with_text world p.out.now (export_outcome p file)))
+plan (WaveAll p) world inputs =
+    with_input p.input.now inputs.first (λ file. with_samples p (bank_outcome file))

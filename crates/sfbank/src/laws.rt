@@ -4,6 +4,7 @@ ghost use Rattle.sfbank.specs.Folders.{FoldersPackBack};
 ghost use Rattle.sfbank.specs.PackedFiles.{SavedFoldersPackBack};
 ghost use Rattle.sfbank.specs.PlannedEdits.{PlayedRendersSame};
 ghost use Rattle.sfbank.specs.SavedBanks.{SavedUndoRestores};
+ghost use Rattle.sfbank.specs.SavedKits.{SavedKitsReadBack};
 ghost use Rattle.sfbank.specs.ScriptFiles.{DifferencesLead, ScriptsLead};
 ghost use Rattle.sfbank.specs.UndoneFiles.{UndoEndsSessions, UndoRemovesKits, UndoRemovesRecordings, UndoRestoresFiles, UndoRestoresPlans};
 
@@ -31,6 +32,13 @@ pub fn folders_pack_back()
     ensures runs { FoldersPackBack }
     // On files, a folder that `unpack` saved, with other files changed meanwhile, is what `pack` makes that file of.
     ensures files { SavedFoldersPackBack }
+{}
+
+/// On files, what `wave --all` saved, with other files changed meanwhile: the table reads as the zones of the instrument
+/// that notes select, and the file that it names for each sample, from the folder on, gives the WAVE file of the sample.
+#[tactic(auto, using(crate::proofs::SavedKits::saved_kits))]
+pub fn kits_read_back()
+    ensures { SavedKitsReadBack }
 {}
 
 /// On files, `apply` on a bank and an undo script that were saved, with other files changed meanwhile, restores the first

@@ -26,12 +26,14 @@ mod planned;
 mod play;
 mod recorded;
 mod replace;
+mod saved_folder;
 mod script;
 mod show;
 mod take;
 mod tidy;
 mod unpack;
 mod wave;
+mod wave_all;
 
 use apply::{apply, apply_only};
 use base_progress::Progress;
@@ -69,6 +71,7 @@ use take::take;
 use tidy::tidy;
 use unpack::unpack;
 use wave::wave;
+use wave_all::wave_all;
 
 /// Runs the program on its arguments and on the files of a runtime, and returns its exit status.
 pub fn run_with_arguments<R: Env + Files + AllocGlobal, I: Read, O: Write, E: Write, P: Progress>(
@@ -209,6 +212,7 @@ fn serve<'a, H: Host, I: Read, O: Write + KnowsError, P: Progress>(
         Request::Tidy(operands) => tidy(host, alloc, operands, output),
         Request::Unpack(paths) => unpack(host, alloc, paths),
         Request::Wave(paths) => wave(host, alloc, paths, output),
+        Request::WaveAll(paths) => wave_all(host, alloc, paths),
     }
 }
 

@@ -9,3 +9,4 @@ mod shapes;
 
 pub use laws::rectangles_select;
 pub use map::ZoneMap;
+pub use rectangle::{Area, Rectangle, zone_rectangle};

@@ -1,5 +1,5 @@
 //! The keys and velocities for which notes select a zone.
-ghost use Rattle.std.specs.Prelude.{◌≡◌, ◌<◌, not};
+ghost use Rattle.std.specs.Prelude.{◌≡◌, ◌<◌, None, not};
 ghost use Rattle.bank_changes.specs.declared.members.Owner.TheVariants as owner;
 ghost use Rattle.zone_select.specs.Remaining.{zones_in};
 ghost use Rattle.show_zone_map.specs.Rectangles.{effective_range, area_of, everything, common, intersection, has_notes, key_or, sample_root, root_key, rectangle_at};
@@ -15,22 +15,33 @@ const HIGHEST: u8 = 127;
 /// The root key of a sample that has none: middle C.
 const MIDDLE_KEY: u8 = 60;
 
-// A range of keys, and a range of velocities.
+/// A range of keys, and a range of velocities.
 #[derive(Debug, Clone, Copy, PartialEq, Eq)]
-pub(crate) struct Area {
-    pub(crate) keys: Range,
-    pub(crate) velocities: Range,
+pub struct Area {
+    pub keys: Range,
+    pub velocities: Range,
 }
 
-// The area in which notes select a zone of an instrument, alone or through a zone of a preset.
+/// The area in which notes select a zone of an instrument, alone or through a zone of a preset.
 #[derive(Debug, Clone, Copy, PartialEq, Eq)]
-pub(crate) struct Rectangle {
-    pub(crate) preset_zone: Option<u32>,
-    pub(crate) zone: u32,
-    pub(crate) sample: u16,
-    pub(crate) area: Area,
-    // The root key.
-    pub(crate) root: u8,
+pub struct Rectangle {
+    /// The zone of the preset, if there is one.
+    pub preset_zone: Option<u32>,
+    /// The zone of the instrument.
+    pub zone: u32,
+    pub sample: u16,
+    pub area: Area,
+    /// The key at which the sample plays as recorded, 0 to 127.
+    pub root: u8,
+}
+
+/// Returns the keys and velocities for which notes select a zone of an instrument, which exists; `None` if no note
+/// does.
+pub fn zone_rectangle(bank: &Bank<'_>, instrument: u32, zone: u32) -> Option<Rectangle>
+    requires { zone < zones_in bank.now (owner.Inst instrument) }
+    ensures { result ≡ rectangle_at bank.now None everything instrument zone }
+{
+    rectangle_at(bank, None, Area::everything(), instrument, zone)
 }
 
 impl Area {

@@ -1,6 +1,6 @@
 //! The paths of the files of a folder.
 ghost use Rattle.std.specs.Prelude.{◌≡◌, IfOk, Ok, map};
-ghost use Rattle.std.specs.Path.{path_buf_bytes};
+ghost use Rattle.std.specs.Path.{path_buf_bytes, path_join};
 ghost use Rattle.edit_script.specs.Script.{script_of};
 ghost use Rattle.script_tokens.specs.Pool.{pool_bytes};
 ghost use Rattle.sfbank.specs.FolderPlans.{entries_due, sample_entry, sample_path, samples_path, text_path};
@@ -16,8 +16,11 @@ use sf_base::{Name20, OutOfMemory};
 use std::alloc::Global;
 use std::path::{Path, PathBuf};
 
-/// The name of the text in a folder.
-const TEXT: &str = "bank.txt";
+/// The name of the text of a bank in a folder.
+pub(super) const BANK: &str = "bank.txt";
+
+/// The name of the table of a kit in a folder.
+pub(super) const KIT: &str = "kit.txt";
 
 /// The name of the folder of WAVE files in a folder.
 const SAMPLES: &str = "samples";
@@ -26,7 +29,14 @@ const SAMPLES: &str = "samples";
 pub(super) fn text_path(alloc: Global, folder: &str) -> Result<PathBuf<Global>, OutOfMemory>
     ensures { IfOk result (λ path. path_buf_bytes path ≡ text_path folder.now) }
 {
-    Ok(Path::new(folder).join(alloc, TEXT)?)
+    path_in(alloc, folder, BANK)
+}
+
+/// The path of a file in a folder.
+pub(super) fn path_in(alloc: Global, folder: &str, file: &str) -> Result<PathBuf<Global>, OutOfMemory>
+    ensures { IfOk result (λ path. path_buf_bytes path ≡ path_join folder.now file.now) }
+{
+    Ok(Path::new(folder).join(alloc, file)?)
 }
 
 /// The path of the folder of WAVE files in a folder.

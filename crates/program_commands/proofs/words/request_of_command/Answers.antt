@@ -17,7 +17,6 @@ use Rattle.program_commands.proofs.words.request_of_command.Goals.{in-script+in_
 use Rattle.program_commands.proofs.words.request_of_command.Goals.{in-show+in_ok-read_show-in-show}
 use Rattle.program_commands.proofs.words.request_of_command.Goals.{in-tidy+in_ok-read_tidy-in-tidy}
 use Rattle.program_commands.proofs.words.request_of_command.Goals.{in-unpack+in_ok-read_unpack-in-unpack}
-use Rattle.program_commands.proofs.words.request_of_command.Goals.{in-wave+in_ok-read_wave-in-wave}
 
 -- No request of `explain` is asked for without a topic.
 pub returns-in_err-read_topic-in-explain : goal.returns-in_err-read_topic-in-explain
@@ -60,8 +59,6 @@ returns c = let rows = rows_in c.args.words.now in (
         asks rows w.result-is w.in-tidy.is w.in_ok-read_tidy-in-tidy.ensures.0
     | in-unpack+in_ok-read_unpack-in-unpack w ↦
         asks rows w.result-is w.in-unpack.is w.in_ok-read_unpack-in-unpack.ensures.0
-    | in-wave+in_ok-read_wave-in-wave w ↦
-        asks rows w.result-is w.in-wave.is w.in_ok-read_wave-in-wave.ensures.0
   ],
   λ request asked. refl,
 )

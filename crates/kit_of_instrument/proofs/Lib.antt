@@ -1,0 +1,4 @@
+pub mod PlaceLaws
+pub mod PutLaws
+pub mod FileLaws
+pub mod KitLaws

@@ -1,0 +1,3 @@
+pub mod KitZones
+pub mod KitLines
+pub mod Laws
