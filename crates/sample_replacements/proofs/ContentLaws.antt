@@ -1,6 +1,7 @@
 -- The edits of a replacement, one after the other, replace the content of a sample.
 use Rattle.std.proofs.Common.{◌≡◌, ◌-◌, ◌++◌, ℕ, zero, suc, List, [], ◌∷◌, length, slice_get, slice_set, slice_range}
 use Rattle.std.proofs.Common.{Some, None, refl, sym, ◌∙◌, ap, arith}
+use Rattle.std.specs.Prelude.{unwrap_or}
 use Rattle.base_numbered_lists.specs.Moved.{changed}
 use Rattle.base_numbered_lists.proofs.Lists.{changed-found, slice_get-changed}
 use Rattle.bank_parts.specs.declared.parts.Sample.{Sample}
@@ -8,8 +9,10 @@ use Rattle.bank_parts.specs.declared.parts.Parts.{Parts}
 use Rattle.bank_changes.specs.Points.{points_of, sample_changed, trimmed, extended, with_loop, with_tune}
 use Rattle.edit_refusals.specs.Edits.{raw}
 use Rattle.edit_refusals.specs.Sequences.{after_all}
+use Rattle.wave_file.specs.declared.recording.Pitch.{Pitch}
 use Rattle.wave_file.specs.declared.recording.Sampler.{Sampler}
-use Rattle.sample_replacements.specs.Replacements.{content_edits, with_content}
+use Rattle.wave_file.specs.Recordings.{own_pitch}
+use Rattle.sample_replacements.specs.Replacements.{content_edits, pitch_at, with_content}
 
 -- ---- changes of one member of a list
 
@@ -64,27 +67,30 @@ all_gone : (points : List ℕ) (n : ℕ) → n ≡ length points → slice_range
 all_gone points n e = let none : length points - 0 - n ≡ 0 = omega (arith, e) in rw none refl
 
 module _ (rate : ℕ) (sampler : Sampler) (points : List ℕ) where
+  abbrev tuned : Pitch → Sample → Sample
+  tuned pitch = with_tune rate pitch.key pitch.correction
+
   -- the changes of a sample by the edits of a replacement, after the first
-  abbrev later_changes : ℕ → List (Sample → Sample)
-  later_changes count =
-      trimmed count 0 ∷ extended [] points ∷ with_loop sampler.looped
-      ∷ with_tune rate sampler.pitch.key sampler.pitch.correction ∷ []
+  abbrev later_changes : ℕ → Pitch → List (Sample → Sample)
+  later_changes count own =
+      trimmed count 0 ∷ extended [] points ∷ with_loop sampler.looped ∷ tuned (unwrap_or sampler.pitch own) ∷ []
 
-  abbrev changes : ℕ → List (Sample → Sample)
-  changes count = with_loop None ∷ later_changes count
+  abbrev changes : ℕ → Pitch → List (Sample → Sample)
+  changes count own = with_loop None ∷ later_changes count own
 
-  -- a sample with so many points after them
-  changes_replace : (count : ℕ) (s : Sample) → count ≡ length s.points
-      → composed (changes count) s ≡ with_content rate sampler points s
-  changes_replace count s e =
-      ap (λ (own : List ℕ). with_content rate sampler (own ++ points) s) (all_gone s.points count e)
+  -- a sample with so many points and this pitch after them
+  changes_replace : (count : ℕ) (own : Pitch) (s : Sample) → count ≡ length s.points → own ≡ own_pitch s
+      → composed (changes count own) s ≡ with_content rate sampler points s
+  changes_replace count own s e p =
+      ap (λ (q : Pitch). composed (changes count q) s) p
+      ∙ ap (λ (old : List ℕ). with_content rate sampler (old ++ points) s) (all_gone s.points count e)
 
-  -- the edits replace the content of a sample with so many points
-  pub content_replaced : (b : Parts) (n count : ℕ) → count ≡ length (points_of b n)
-      → after_all raw b (content_edits n count rate sampler points)
+  -- the edits replace the content of a sample with so many points and this pitch
+  pub content_replaced : (b : Parts) (n count : ℕ) (own : Pitch) → count ≡ length (points_of b n) → own ≡ pitch_at b n
+      → after_all raw b (content_edits n count own rate sampler points)
       ≡ sample_changed b n (with_content rate sampler points)
-  content_replaced b n count counted =
+  content_replaced b n count own counted pitched =
       ap (λ (samples : List Sample). (let c : Parts = record b { samples = samples } in c))
-      (changed_once b.samples n (with_loop None) (later_changes count)
-      ∙ changed-alike b.samples n (composed (changes count)) (with_content rate sampler points)
-      (λ s e. changes_replace count s (rw e at counted)))
+      (changed_once b.samples n (with_loop None) (later_changes count own)
+      ∙ changed-alike b.samples n (composed (changes count own)) (with_content rate sampler points)
+      (λ s e. changes_replace count own s (rw e at counted) (rw e at pitched)))

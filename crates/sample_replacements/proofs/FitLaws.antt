@@ -11,6 +11,9 @@ use Rattle.bank_parts.specs.declared.parts.Kind.TheVariants.{Mono, Right, Left, 
 use Rattle.bank_parts.specs.declared.parts.Sample.{Sample}
 use Rattle.bank_parts.specs.declared.parts.Parts.{Parts}
 use Rattle.bank_parts.specs.Valid.{IsValid}
+use Rattle.bank_parts.specs.Fits.{Fits, FitsSample}
+use Rattle.bank_parts.specs.Sound.{IsSound}
+use Rattle.bank_parts.proofs.ListLaws.{everywhere-found}
 use Rattle.bank_changes.specs.Points.{points_of}
 use Rattle.bank_changes.proofs.PointLaws.{among}
 use Rattle.bank_format.proofs.AllLaws.{all-append}
@@ -18,14 +21,17 @@ use Rattle.edit_forms.specs.declared.edit.Edit.{Edit}
 use Rattle.edit_forms.specs.Fits.{FitsEdit}
 use Rattle.wave_file.specs.declared.recording.Channels.{Channels}
 use Rattle.wave_file.specs.declared.recording.Channels.TheVariants as recorded
+use Rattle.wave_file.specs.declared.recording.Pitch.{Pitch}
 use Rattle.wave_file.specs.declared.recording.Sampler.{Sampler}
 use Rattle.wave_file.specs.declared.recording.Recording.{Recording}
-use Rattle.wave_file.proofs.FitLaws.{FitChannels, FitsRecording, FitsSampler}
+use Rattle.wave_file.specs.Recordings.{default_pitch, own_pitch}
+use Rattle.wave_file.proofs.FitLaws.{FitChannels, FitsPitch, FitsRecording, FitsSampler, default_fits, pitch_or_fits}
 use Rattle.sample_replacements.specs.declared.fault.ReplaceFault.{ReplaceFault}
 use Rattle.sample_replacements.specs.declared.fault.ReplaceFault.TheVariants.{NoSuchSample}
 use Rattle.sample_replacements.specs.Pairs.{has_kind, is_left_of, is_right_of, pair_by_kind, pair_in}
 use Rattle.sample_replacements.specs.Replacements.{Target, channel_targets, content_edits, edits_of, mono_targets}
-use Rattle.sample_replacements.specs.Replacements.{pair_targets, replacement_edits, stereo_targets, target_edits, targets}
+use Rattle.sample_replacements.specs.Replacements.{pair_targets, pitch_at, replacement_edits, stereo_targets}
+use Rattle.sample_replacements.specs.Replacements.{target_edits, targets}
 
 -- ---- pairs
 
@@ -128,33 +134,45 @@ count_fits b n v =
       | Some s ↦ λ e. let some = among b.samples n s e in let most = v.limits.points in omega (arith, some, most)
     ]) refl
 
-content_fits : (n count rate : ℕ) (sampler : Sampler) (points : List ℕ) → n < 2 ^ 32 → count < 2 ^ 32 → rate < 2 ^ 32
-    → FitsSampler sampler → AreWords points → AllByRecursion FitsEdit (content_edits n count rate sampler points)
-content_fits n count rate sampler points small c r s p = (
-  (small, tt),
-  (
-    (small, (c, omega arith)),
-    (
-      (small, (tt, p)),
-      (
-        (small, s.looped),
-        ((small, (r, s.pitch.key, s.pitch.correction)), tt),
-      ),
-    ),
-  ),
-)
+pitch_fits : (b : Parts) (n : ℕ) → Fits b → FitsPitch (pitch_at b n)
+pitch_fits b n f =
+    (elim (slice_get b.samples n) as
+    (λ o. slice_get b.samples n ≡ o → FitsPitch (option_map_or own_pitch o default_pitch)) [
+      | None ↦ λ e. default_fits
+      | Some s ↦ λ e.
+          let fits = everywhere-found FitsSample b.samples n s e f.samples in
+          record { key = fits.key; correction = fits.correction }
+    ]) refl
 
-all_fit : (b : Parts) (rate : ℕ) (sampler : Sampler) (ts : List Target) → IsValid b → rate < 2 ^ 32
+content_fits : (n count : ℕ) (own : Pitch) (rate : ℕ) (sampler : Sampler) (points : List ℕ) → n < 2 ^ 32
+    → count < 2 ^ 32 → FitsPitch own → rate < 2 ^ 32 → FitsSampler sampler → AreWords points
+    → AllByRecursion FitsEdit (content_edits n count own rate sampler points)
+content_fits n count own rate sampler points small c o r s p =
+    let pitch = pitch_or_fits sampler.pitch own s.pitch o in (
+      (small, tt),
+      (
+        (small, (c, omega arith)),
+        (
+          (small, (tt, p)),
+          (
+            (small, s.looped),
+            ((small, (r, pitch.key, pitch.correction)), tt),
+          ),
+        ),
+      ),
+    )
+
+all_fit : (b : Parts) (rate : ℕ) (sampler : Sampler) (ts : List Target) → IsSound b → rate < 2 ^ 32
     → FitsSampler sampler → AllByRecursion FitsTarget ts
     → AllByRecursion FitsEdit (flat_map (target_edits b rate sampler) ts)
 all_fit b rate sampler [] v r s h = tt
 all_fit b rate sampler (t ∷ ts) v r s h =
     all-append FitsEdit (target_edits b rate sampler t) (flat_map (target_edits b rate sampler) ts)
-    (content_fits t.sample (length (points_of b t.sample)) rate sampler t.points h.0.sample (count_fits b t.sample v) r s
-    h.0.points)
+    (content_fits t.sample (length (points_of b t.sample)) (pitch_at b t.sample) rate sampler t.points h.0.sample
+    (count_fits b t.sample v.valid) (pitch_fits b t.sample v.fits) r s h.0.points)
     (all_fit b rate sampler ts v r s h.1)
 
-pub replacements_fit : (b : Parts) (n : ℕ) (r : Recording) (edits : List Edit) → n < 2 ^ 32 → IsValid b
+pub replacements_fit : (b : Parts) (n : ℕ) (r : Recording) (edits : List Edit) → n < 2 ^ 32 → IsSound b
     → FitsRecording r → replacement_edits b n r ≡ Ok edits → AllByRecursion FitsEdit edits
 unfolding replacement_edits
 replacements_fit b n r edits small v f h = by_targets (targets b.samples n r.channels) refl h
@@ -165,5 +183,5 @@ replacements_fit b n r edits small v f h = by_targets (targets b.samples n r.cha
         let is : flat_map (target_edits b r.rate r.sampler) ts ≡ edits = cc in
         subst (AllByRecursion FitsEdit) is
         (all_fit b r.rate r.sampler ts v f.rate f.sampler
-        (targets_fit b.samples n r.channels ts small v.limits.samples f.channels e))
+        (targets_fit b.samples n r.channels ts small v.valid.limits.samples f.channels e))
     by_targets (Err fault) e k = absurd cc

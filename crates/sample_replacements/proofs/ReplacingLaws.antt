@@ -1,5 +1,5 @@
 -- The edits of a replacement lead to the bank with the recording in the place of the sample.
-use Rattle.std.proofs.Common.{◌≡◌, ◌≢◌, ℕ, List, [], length, Option, Some, None, Bool, true, false}
+use Rattle.std.proofs.Common.{◌≡◌, ◌≢◌, ℕ, List, [], length, slice_get, Option, Some, None, Bool, true, false}
 use Rattle.std.proofs.Common.{Result, Ok, Err, refl, sym, ◌∙◌, ap, nat_lt, if◌then◌else◌}
 use Rattle.std.specs.List.{flat_map}
 use Rattle.std.specs.Option.{option_map_or}
@@ -12,13 +12,15 @@ use Rattle.edit_refusals.specs.Edits.{raw}
 use Rattle.edit_refusals.specs.Sequences.{after_all}
 use Rattle.wave_file.specs.declared.recording.Channels.{Channels}
 use Rattle.wave_file.specs.declared.recording.Channels.TheVariants.{Mono, MonoSamples, Stereo}
+use Rattle.wave_file.specs.declared.recording.Pitch.{Pitch}
 use Rattle.wave_file.specs.declared.recording.Sampler.{Sampler}
+use Rattle.wave_file.specs.Recordings.{default_pitch, own_pitch}
 use Rattle.sample_replacements.specs.declared.fault.ReplaceFault.{ReplaceFault}
 use Rattle.sample_replacements.specs.declared.fault.ReplaceFault.TheVariants.{NoSuchSample}
 use Rattle.sample_replacements.specs.Pairs.{pair_in}
 use Rattle.sample_replacements.specs.Replacements.{Target, pair_targets, mono_targets, stereo_targets, channel_targets}
 use Rattle.sample_replacements.specs.Replacements.{targets, content_edits, target_edits, edits_of, replacement_edits}
-use Rattle.sample_replacements.specs.Replacements.{with_content, target_replaced, all_replaced, replaced}
+use Rattle.sample_replacements.specs.Replacements.{pitch_at, with_content, target_replaced, all_replaced, replaced}
 use Rattle.sample_replacements.specs.Laws.{ReplacingKeeps}
 use Rattle.sample_replacements.proofs.PairLaws.{sides_differ}
 use Rattle.sample_replacements.proofs.ContentLaws.{content_replaced}
@@ -37,16 +39,21 @@ module _ (b : Parts) (rate : ℕ) (sampler : Sampler) where
   pair_reached : (p : ℕ × ℕ) (left right : List ℕ) → p.0 ≢ p.1 → IsReached (pair_targets p left right)
   pair_reached p left right differ =
       let count : ℕ = length (points_of b p.1) in
-      let stay : points_of b p.1 ≡ points_of (one_replaced p.0 left) p.1 =
-      sym (ap (λ o. option_map_or (λ (s : Sample). s.points) o [])
-      (changed_elsewhere b.samples p.0 p.1 (with_content rate sampler left) (λ e. differ (sym e)))) in
-      ap (λ (c : Parts). after_all raw c (content_edits p.1 count rate sampler right))
-      (content_replaced rate sampler left b p.0 (length (points_of b p.0)) refl)
-      ∙ content_replaced rate sampler right (one_replaced p.0 left) p.1 count (ap length stay)
+      let own : Pitch = pitch_at b p.1 in
+      let stays : slice_get b.samples p.1 ≡ slice_get (one_replaced p.0 left).samples p.1 =
+      sym (changed_elsewhere b.samples p.0 p.1 (with_content rate sampler left) (λ e. differ (sym e))) in
+      let counted : count ≡ length (points_of (one_replaced p.0 left) p.1) =
+      ap (λ o. length (option_map_or (λ (s : Sample). s.points) o [])) stays in
+      let pitched : own ≡ pitch_at (one_replaced p.0 left) p.1 =
+      ap (λ o. option_map_or own_pitch o default_pitch) stays in
+      ap (λ (c : Parts). after_all raw c (content_edits p.1 count own rate sampler right))
+      (content_replaced rate sampler left b p.0 (length (points_of b p.0)) (pitch_at b p.0) refl refl)
+      ∙ content_replaced rate sampler right (one_replaced p.0 left) p.1 count own counted pitched
 
   mono_reached : (n : ℕ) (points : List ℕ) (pair : Option (ℕ × ℕ)) → ((p : ℕ × ℕ) → pair ≡ Some p → p.0 ≢ p.1)
       → IsReached (mono_targets n points pair)
-  mono_reached n points None differ = content_replaced rate sampler points b n (length (points_of b n)) refl
+  mono_reached n points None differ =
+      content_replaced rate sampler points b n (length (points_of b n)) (pitch_at b n) refl refl
   mono_reached n points (Some p) differ = pair_reached p points points (differ p refl)
 
   -- where there are edits

@@ -1,7 +1,8 @@
 -- The edits that put a recording in the place of a sample, and the bank after them.
 use Rattle.std.specs.Prelude.{◌≡◌, ◌≤◌, ℕ, List, [], ◌∷◌, length, nat_lt, if◌then◌else◌, Option, Some, None}
-use Rattle.std.specs.Prelude.{Result, Ok, Err, IsOk}
+use Rattle.std.specs.Prelude.{slice_get, unwrap_or, Result, Ok, Err, IsOk}
 use Rattle.std.specs.List.{flat_map}
+use Rattle.std.specs.Option.{option_map_or}
 use Rattle.bank_parts.specs.declared.parts.Sample.{Sample}
 use Rattle.bank_parts.specs.declared.parts.Parts.{Parts}
 use Rattle.bank_changes.specs.Points.{points_of, sample_changed}
@@ -13,8 +14,10 @@ use Rattle.edit_forms.specs.declared.edit.Edit.TheVariants.{One}
 use Rattle.edit_refusals.specs.Sequences.{after_all}
 use Rattle.wave_file.specs.declared.recording.Channels.{Channels}
 use Rattle.wave_file.specs.declared.recording.Channels.TheVariants.{Mono, MonoSamples, Stereo}
+use Rattle.wave_file.specs.declared.recording.Pitch.{Pitch}
 use Rattle.wave_file.specs.declared.recording.Sampler.{Sampler}
 use Rattle.wave_file.specs.declared.recording.Recording.{Recording}
+use Rattle.wave_file.specs.Recordings.{default_pitch, own_pitch}
 use Rattle.sample_replacements.specs.declared.fault.ReplaceFault.{ReplaceFault}
 use Rattle.sample_replacements.specs.declared.fault.ReplaceFault.TheVariants.{NoSuchSample, TwoChannels, OutOfMemory}
 use Rattle.sample_replacements.specs.Pairs.{pair_in}
@@ -58,16 +61,23 @@ targets samples n channels =
 abbrev pub point_edit : ℕ → PointStep → Edit
 point_edit n step = One (steps.Points n step)
 
--- The edits that replace the content of sample n, which has `count` points. All points can be removed only once there
--- is no loop.
-abbrev pub content_edits : ℕ → ℕ → ℕ → Sampler → List ℕ → List Edit
-content_edits n count rate sampler points =
+abbrev pub tune_edit : ℕ → ℕ → Pitch → Edit
+tune_edit n rate pitch = point_edit n (SetTune rate pitch.key pitch.correction)
+
+-- The edits that replace the content of sample n, which has `count` points and this pitch of its own. All points can be
+-- removed only once there is no loop.
+abbrev pub content_edits : ℕ → ℕ → Pitch → ℕ → Sampler → List ℕ → List Edit
+content_edits n count own rate sampler points =
     point_edit n (SetLoop None) ∷ point_edit n (Trim count 0) ∷ point_edit n (Extend [] points)
-    ∷ point_edit n (SetLoop sampler.looped)
-    ∷ point_edit n (SetTune rate sampler.pitch.key sampler.pitch.correction) ∷ []
+    ∷ point_edit n (SetLoop sampler.looped) ∷ tune_edit n rate (unwrap_or sampler.pitch own) ∷ []
+
+-- the pitch of sample n; that of new samples if there is no such sample
+abbrev pub pitch_at : Parts → ℕ → Pitch
+pitch_at b n = option_map_or own_pitch (slice_get b.samples n) default_pitch
 
 abbrev pub target_edits : Parts → ℕ → Sampler → Target → List Edit
-target_edits b rate sampler t = content_edits t.sample (length (points_of b t.sample)) rate sampler t.points
+target_edits b rate sampler t =
+    content_edits t.sample (length (points_of b t.sample)) (pitch_at b t.sample) rate sampler t.points
 
 abbrev pub edits_of : Parts → ℕ → Sampler → Result (List Target) ReplaceFault → Result (List Edit) ReplaceFault
 edits_of b rate sampler (Ok ts) = Ok (flat_map (target_edits b rate sampler) ts)
@@ -79,14 +89,14 @@ replacement_edits b n r = edits_of b r.rate r.sampler (targets b.samples n r.cha
 
 -- ---- the bank after them
 
--- a sample with these points, and with the rate, loop, key and correction of a recording
+-- a sample with these points, and with the rate, the loop and the pitch of a recording; without a pitch it keeps its own
 abbrev pub with_content : ℕ → Sampler → List ℕ → Sample → Sample
 with_content rate sampler points s = record s {
   points = points;
   looped = sampler.looped;
   rate = rate;
-  key = sampler.pitch.key;
-  correction = sampler.pitch.correction;
+  key = (unwrap_or sampler.pitch (own_pitch s)).key;
+  correction = (unwrap_or sampler.pitch (own_pitch s)).correction;
 }
 
 abbrev pub target_replaced : ℕ → Sampler → Parts → Target → Parts

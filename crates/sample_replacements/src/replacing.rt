@@ -4,7 +4,7 @@ ghost use Rattle.std.specs.List.{flat_map};
 ghost use Rattle.bank_changes.specs.Points.{points_of};
 ghost use Rattle.wave_file.specs.Imports.{sides_of};
 ghost use Rattle.sample_replacements.specs.Replacements.{target, pair_targets, mono_targets, stereo_targets};
-ghost use Rattle.sample_replacements.specs.Replacements.{point_edit, target_edits, edits_of, replacement_edits};
+ghost use Rattle.sample_replacements.specs.Replacements.{point_edit, pitch_at, target_edits, edits_of, replacement_edits};
 ghost use Rattle.sample_replacements.specs.Replacements.{AreReplacement, IsReplaceFault};
 
 use crate::fault::ReplaceFault;
@@ -14,10 +14,11 @@ use edit_forms::{Edit, PointStep, Step};
 use sample_view::Points;
 use sf_base::OutOfMemory;
 use std::alloc::Global;
-use wave_file::{Channels, Pitch, Recording, Sampler, Sides};
+use wave_file::{Channels, DEFAULT_PITCH, Pitch, Recording, Sampler, Sides};
 
 /// The edits that give a sample the points, rate, loop, key and correction of a recording, at most 10; its name, kind
-/// and number stay. `sides` has the points that are not borrowed from the file.
+/// and number stay. Where the recording has no pitch, the sample keeps its key and correction, of a pair each its own.
+/// `sides` has the points that are not borrowed from the file.
 ///
 /// If the sample is one of a pair ([`pair_of`]), both are replaced: by a stereo recording each by its channel, by a
 /// mono recording both by the same points. Any other sample can be replaced only by a mono recording: `TwoChannels`.
@@ -133,7 +134,7 @@ fn push_content<'a>(
         ≡ edits.old.items ++ target_edits bank.now rate sampler (target number points.entry)) }
 {
     let Sampler { pitch, looped } = sampler;
-    let Pitch { key, correction } = pitch;
+    let Pitch { key, correction } = pitch.unwrap_or(pitch_at(bank, number));
     let trim = PointStep::Trim {
         front: point_count(bank, number),
         back: 0,
@@ -164,6 +165,19 @@ fn push_step<'a>(
 {
     edits.push(Edit::One(Step::Points(number, step)))?;
     Ok(())
+}
+
+// The key and the correction of a sample; those of a new one if there is no such sample.
+fn pitch_at(bank: &Bank<'_>, number: u32) -> Pitch
+    ensures { result ≡ pitch_at bank.now number }
+{
+    match bank.sample(number) {
+        Some(sample) => Pitch {
+            key: sample.key,
+            correction: sample.correction,
+        },
+        None => DEFAULT_PITCH,
+    }
 }
 
 // The number of points of a sample; 0 if there is no such sample.

@@ -9,6 +9,7 @@ use Rattle.sf_base.specs.declared.memory.Failure.{Failure}
 use Rattle.bank_parts.specs.declared.parts.Parts.{Parts}
 use Rattle.bank_parts.specs.declared.parts.Sample.{Sample}
 use Rattle.bank_parts.specs.Valid.{IsValid}
+use Rattle.bank_parts.specs.Sound.{IsSound}
 use Rattle.bank_changes.proofs.PointLaws.{among}
 use Rattle.hydra_records.specs.Records.{AreBytes}
 use Rattle.bank_format.specs.declared.fault.Counts.{Counts}
@@ -17,7 +18,7 @@ use Rattle.bank_format.specs.Canon.{canon}
 use Rattle.bank_format.specs.Reading.{Content}
 use Rattle.bank_format.specs.FaultChecks.{Fails}
 use Rattle.bank_format.specs.ReadChecks.{fault_of, ReadsAs}
-use Rattle.bank_format.proofs.ReadValid.{read_valid}
+use Rattle.bank_format.proofs.ReadValid.{read_valid, read_fits}
 use Rattle.edit_forms.specs.declared.edit.Edit.{Edit}
 use Rattle.edit_forms.specs.declared.cause.Cause.TheVariants.{NoSuchSample}
 use Rattle.edit_script.specs.Script.{script_of}
@@ -135,7 +136,7 @@ recording_edited change options file wave b counts r reads h =
 -- the edits of a change are in range
 abbrev pub EditsFit : Change → Type 0
 EditsFit change =
-    (b : Parts) (r : Recording) (edits : List Edit) → IsValid b → FitsRecording r → change b r ≡ Ok edits → AllFit edits
+    (b : Parts) (r : Recording) (edits : List Edit) → IsSound b → FitsRecording r → change b r ≡ Ok edits → AllFit edits
 
 ok_inverse : (result : Result (List Edit) ReplaceFault) (edits : List Edit)
     → result_map_both (λ (es : List Edit). es) fault_of_replacement result ≡ Ok edits → result ≡ Ok edits
@@ -145,7 +146,7 @@ ok_inverse (Err fault) edits h = absurd cc
 pub appended_fits : (name : List ℕ) → AreBytes name → EditsFit (appended name)
 appended_fits name bytes b r edits v f h =
     let is : import_edits (length b.samples) name r ≡ edits = cc in
-    subst AllFit is (imports_fit (length b.samples) name r v.limits.samples bytes f)
+    subst AllFit is (imports_fit (length b.samples) name r v.valid.limits.samples bytes f)
 
 pub in_place_fits : (number : ℕ) → number < 2 ^ 32 → EditsFit (put_in_place number)
 in_place_fits number small b r edits v f h =
@@ -159,7 +160,8 @@ edits_fit : (change : Change) (options : ReadOptions) (file wave : List ℕ) (r 
     → EditsFit change → FitsKey options.key → AreBytes file → AreBytes wave → fault_of file ≡ None
     → recording_in options wave ≡ Ok r → change (bank_in file) r ≡ Ok edits → AllFit edits
 edits_fit change options file wave r edits fit key bytes wave_bytes read h e =
-    fit (bank_in file) r edits (read_valid file bytes read) (recording_fits options wave r key wave_bytes h) e
+    fit (bank_in file) r edits (record { valid = read_valid file bytes read; fits = read_fits file bytes })
+    (recording_fits options wave r key wave_bytes h) e
 
 pub scripted : (change : Change) (options : ReadOptions) (file wave : List ℕ) → EditsFit change → FitsKey options.key
     → AreBytes file → AreBytes wave → IsScripted change options file wave

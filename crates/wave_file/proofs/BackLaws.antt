@@ -112,7 +112,7 @@ pitch_small key (negsuc down) = omega arith
 -- the fields of the `smpl` chunk of a sample
 record SamplerOfSample (b : List ℕ) (n key : ℕ) (c : ℤ) (looped : Option (ℕ × ℕ)) : Type 0 where
   holds : first_fault (chunk_checks n b) ≡ None
-  is : sampler_in (Some b) ≡ record { pitch = record { key = key; correction = c }; looped = looped }
+  is : sampler_in (Some b) ≡ record { pitch = Some (record { key = key; correction = c }); looped = looped }
 
 -- a loop among `n` points, if there is one
 record Found (n : ℕ) (looped : Option (ℕ × ℕ)) (found : Option SamplerLoop) : Type 0 where
@@ -133,7 +133,7 @@ sampler_of_sample b n key c looped found fits s o =
     ap (λ (x : Option SamplerLoop). option_map ends_of x) s.found_is ∙ o.ends in
     let loop_holds : first_fault (loop_checks n (forward_loop b)) ≡ None =
     ap (λ (x : Option SamplerLoop). first_fault (loop_checks n x)) s.found_is ∙ o.inside in
-    record { holds = rw (s.whole, low) loop_holds; is = λ i. record { pitch = pitch_is i; looped = loop_is i } }
+    record { holds = rw (s.whole, low) loop_holds; is = λ i. record { pitch = Some (pitch_is i); looped = loop_is i } }
 
 no_loop : (n : ℕ) → Found n None None
 no_loop n = record { inside = refl; ends = refl }

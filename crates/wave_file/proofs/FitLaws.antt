@@ -2,7 +2,7 @@
 use Rattle.std.proofs.Common.{◌≡◌, ◌≤◌, ◌<◌, ◌+◌, ◌-◌, ◌^◌, ℕ, zero, suc, pos, neg_ℤ, Bool, true, false, cond, leb}
 use Rattle.std.proofs.Common.{ltb, eqb, ◌&&◌, ◌||◌, List, [], ◌∷◌, ◌++◌, length, take, drop, get_or, codes, Option}
 use Rattle.std.proofs.Common.{Some, None, Ok, FitsSigned, refl, inl, inr, arith}
-use Rattle.std.specs.Prelude.{unwrap_or}
+use Rattle.std.specs.Prelude.{unwrap_or, IfSome}
 use Rattle.std.specs.Option.{option_map}
 use Rattle.std.specs.Int.{w8}
 use Rattle.std.specs.List.{AllByRecursion}
@@ -50,7 +50,7 @@ use Rattle.wave_file.specs.declared.recording.Recording.{Recording}
 use Rattle.bank_format.specs.FaultChecks.{first_fault}
 use Rattle.wave_file.specs.Recordings.{format_in, mono_in, channels_of, forward_loop, ends_of, unity_note_in}
 use Rattle.wave_file.specs.Recordings.{fraction_in, data_in, pitch_of_stored, is_stored, stored_in, cents_in, nearest}
-use Rattle.wave_file.specs.Recordings.{FitsKey, pitch_of, sampler_in, with_key}
+use Rattle.wave_file.specs.Recordings.{FitsKey, pitch_of, sampler_in, with_key, default_pitch}
 use Rattle.wave_file.specs.ReadChecks.{riff_checks, format_checks, data_checks, has_loops, is_inside, loop_checks}
 use Rattle.wave_file.specs.ReadChecks.{chunk_checks, sampler_checks, content_checks, content_in, window_checks, steps}
 use Rattle.wave_file.specs.ReadChecks.{unless_broken, recording_in}
@@ -63,7 +63,7 @@ pub record FitsPitch (p : Pitch) : Type 0 where
   pub correction : FitsSigned w8 p.correction
 
 pub record FitsSampler (s : Sampler) : Type 0 where
-  pub pitch : FitsPitch s.pitch
+  pub pitch : IfSome s.pitch FitsPitch
   pub looped : FitsLoop s.looped
 
 abbrev pub FitChannels : Channels → Type 0
@@ -145,8 +145,7 @@ loop_fits n (Some l) h =
 sampler_fits : (n : ℕ) (o : Option (List ℕ)) → AreBytes (unwrap_or o []) → first_fault (sampler_checks n o) ≡ None
     → FitsSampler (sampler_in o)
 unfolding chunk_checks
-sampler_fits n None b h =
-    record { pitch = record { key = omega arith; correction = record { sfits = omega arith } }; looped = tt }
+sampler_fits n None b h = record { pitch = tt; looped = tt }
 sampler_fits n (Some s) b h =
     let whole = split_none (has_loops s) _ _ h in
     let note = split_none (leb (unity_note_in s) 127) _ _ whole.1 in
@@ -229,18 +228,29 @@ recording_fits options wave r k b h =
 
 -- ---- the edits of an import
 
+pub default_fits : FitsPitch default_pitch
+default_fits = record { key = omega arith; correction = record { sfits = omega arith } }
+
+-- the pitch of a recording, or else another
+pub pitch_or_fits : (pitch : Option Pitch) (other : Pitch) → IfSome pitch FitsPitch → FitsPitch other
+    → FitsPitch (unwrap_or pitch other)
+pitch_or_fits None other f o = o
+pitch_or_fits (Some p) other f o = f
+
 sample_fits : (rate : ℕ) (sampler : Sampler) (name points : List ℕ) (k : Kind) → rate < 2 ^ 32 → FitsSampler sampler
     → IsName name → AreWords points → FitsKind k
     → FitsSample (sample_of rate sampler name points k)
-sample_fits rate sampler name points k r s named p fits = record {
-  name = named;
-  points = p;
-  looped = s.looped;
-  rate = r;
-  key = s.pitch.key;
-  correction = s.pitch.correction;
-  kind = fits;
-}
+sample_fits rate sampler name points k r s named p fits =
+    let pitch = pitch_or_fits sampler.pitch default_pitch s.pitch default_fits in
+    record {
+      name = named;
+      points = p;
+      looped = s.looped;
+      rate = r;
+      key = pitch.key;
+      correction = pitch.correction;
+      kind = fits;
+    }
 
 pair_fits : (n : ℕ) (left right : Sample) → n ≤ SAMPLES → FitsSample left → FitsSample right
     → AllByRecursion FitsEdit (pair_edits n left right)

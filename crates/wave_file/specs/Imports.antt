@@ -1,5 +1,5 @@
 -- The edits that append a recording to a bank's samples.
-use Rattle.std.specs.Prelude.{◌+◌, ℕ, nat_lt, if◌then◌else◌, codes, List, [], ◌∷◌, ◌++◌, take}
+use Rattle.std.specs.Prelude.{◌+◌, ℕ, nat_lt, if◌then◌else◌, codes, List, [], ◌∷◌, ◌++◌, take, unwrap_or}
 use Rattle.sf_base.specs.declared.limits.TheConstants.{SAMPLES}
 use Rattle.sf_base.specs.Names.{before_zero}
 use Rattle.bank_parts.specs.declared.parts.Kind.{Kind}
@@ -14,6 +14,7 @@ use Rattle.wave_file.specs.declared.recording.Channels.{Channels}
 use Rattle.wave_file.specs.declared.recording.Channels.TheVariants.{Mono, MonoSamples, Stereo}
 use Rattle.wave_file.specs.declared.recording.Sampler.{Sampler}
 use Rattle.wave_file.specs.declared.recording.Recording.{Recording}
+use Rattle.wave_file.specs.Recordings.{default_pitch}
 
 -- ---- the points of two channels
 
@@ -39,14 +40,15 @@ side_name name letter = before_zero (take 18 name) ++ letter
 
 -- ---- the edits
 
+-- with the pitch of the recording, if it has one
 abbrev pub sample_of : ℕ → Sampler → List ℕ → List ℕ → Kind → Sample
 sample_of rate sampler name points kind = record {
   name = name;
   points = points;
   looped = sampler.looped;
   rate = rate;
-  key = sampler.pitch.key;
-  correction = sampler.pitch.correction;
+  key = (unwrap_or sampler.pitch default_pitch).key;
+  correction = (unwrap_or sampler.pitch default_pitch).correction;
   kind = kind;
 }
 

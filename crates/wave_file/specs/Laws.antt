@@ -1,5 +1,5 @@
 -- Laws of the WAVE files that are written, and of reading them.
-use Rattle.std.specs.Prelude.{◌≡◌, ◌≤◌, length, Ok}
+use Rattle.std.specs.Prelude.{◌≡◌, ◌≤◌, length, Some, Ok}
 use Rattle.sf_base.specs.declared.limits.TheConstants.{POINTS}
 use Rattle.bank_parts.specs.declared.parts.Sample.{Sample}
 use Rattle.bank_parts.specs.Valid.{IsLoop}
@@ -7,7 +7,7 @@ use Rattle.bank_parts.specs.Fits.{FitsSample}
 use Rattle.wave_file.specs.SampleWave.{sample_wave}
 use Rattle.wave_file.specs.declared.recording.Channels.TheVariants.{Mono}
 use Rattle.wave_file.specs.declared.recording.Recording.{Recording}
-use Rattle.wave_file.specs.Recordings.{as_stored}
+use Rattle.wave_file.specs.Recordings.{as_stored, own_pitch}
 use Rattle.wave_file.specs.ReadChecks.{recording_in}
 
 -- a mono recording with the points, the rate, the key, the correction and the loop of a sample
@@ -15,7 +15,7 @@ abbrev pub recorded : Sample → Recording
 recorded s = record {
   channels = Mono s.points;
   rate = s.rate;
-  sampler = record { pitch = record { key = s.key; correction = s.correction }; looped = s.looped };
+  sampler = record { pitch = Some (own_pitch s); looped = s.looped };
 }
 
 -- The WAVE file of a sample that a bank can have reads back as that sample, without options.

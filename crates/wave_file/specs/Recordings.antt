@@ -6,6 +6,7 @@ use Rattle.std.specs.Option.{option_map}
 use Rattle.std.specs.Int.{w8, cast_signed}
 use Rattle.sf_base.specs.Fields.{field_at}
 use Rattle.hydra_records.specs.Records.{records}
+use Rattle.bank_parts.specs.declared.parts.Sample.{Sample}
 use Rattle.pcm_points.specs.declared.encoding.SampleEncoding.{SampleEncoding}
 use Rattle.pcm_points.specs.declared.encoding.SampleEncoding.TheVariants as encoding
 use Rattle.pcm_points.specs.Samples.{size_of}
@@ -190,12 +191,22 @@ pitch_in s = pitch_of (stored_in s) s
 
 -- ---- the `smpl` chunk, if there is one
 
--- without one: key 60, no correction and no loop
+-- without one: no pitch and no loop
 abbrev pub sampler_in : Option (List ℕ) → Sampler
-sampler_in None = record { pitch = record { key = 60; correction = pos 0 }; looped = None }
-sampler_in (Some s) = record { pitch = pitch_in s; looped = option_map ends_of (forward_loop s) }
+sampler_in None = record { pitch = None; looped = None }
+sampler_in (Some s) = record { pitch = Some (pitch_in s); looped = option_map ends_of (forward_loop s) }
 
 -- a given key, with no correction, in place of that of the chunk
 abbrev pub with_key : Option ℕ → Sampler → Sampler
-with_key (Some key) s = record { pitch = record { key = key; correction = pos 0 }; looped = s.looped }
+with_key (Some key) s = record { pitch = Some (record { key = key; correction = pos 0 }); looped = s.looped }
 with_key None s = s
+
+-- ---- the pitch of a sample
+
+-- that of a new sample whose recording has none: key 60, no correction
+abbrev pub default_pitch : Pitch
+default_pitch = record { key = 60; correction = pos 0 }
+
+-- its key and its correction
+abbrev pub own_pitch : Sample → Pitch
+own_pitch s = record { key = s.key; correction = s.correction }

@@ -6,7 +6,7 @@ ghost use Rattle.sf_base.specs.Names.{IsName, IsTextByte};
 ghost use Rattle.sf_base.specs.declared.limits.TheConstants.{SAMPLES};
 ghost use Rattle.wave_file.specs.Imports.{sides_of, mono_name, side_name, sample_of, add_edit, pair_edits, mono_edits, import_edits};
 
-use crate::recording::{Channels, Recording, Sampler};
+use crate::recording::{Channels, DEFAULT_PITCH, Pitch, Recording, Sampler};
 use crate::sides::Sides;
 use arrayvec::ArrayVec;
 use bank_format::before_zero;
@@ -27,6 +27,7 @@ const OWN_LENGTH: usize = 18;
 
 /// The edits that append a recording to `samples` samples. A mono recording becomes one sample, a stereo recording a
 /// left and a right sample that are linked to each other; `sides` has the points that are not borrowed from the file.
+/// Without a pitch a sample gets [`DEFAULT_PITCH`].
 ///
 /// The name is truncated at a zero byte and to 20 bytes; for a stereo recording to 18 bytes, followed by ` L` or ` R`.
 #[tactic(auto, unfolding(crate::specs::Imports::import_edits))]
@@ -116,13 +117,14 @@ fn sample_of<'a>(
 ) -> Sample<'a>
     ensures { result ≡ sample_of rate sampler name points.entry kind }
 {
+    let Pitch { key, correction } = sampler.pitch.unwrap_or(DEFAULT_PITCH);
     Sample {
         name,
         points,
         looped: sampler.looped,
         rate,
-        key: sampler.pitch.key,
-        correction: sampler.pitch.correction,
+        key,
+        correction,
         kind,
     }
 }

@@ -29,7 +29,7 @@ pub use importing::import_edits;
 pub use laws::sample_waves_read_back;
 pub use options::ReadOptions;
 pub use reading::read_recording;
-pub use recording::{Channels, Pitch, Recording, Sampler};
+pub use recording::{Channels, DEFAULT_PITCH, Pitch, Recording, Sampler};
 pub use sample::{SampleWave, put_sampler, sampler_size};
 pub use sampler_loop::SamplerLoop;
 pub use sides::Sides;

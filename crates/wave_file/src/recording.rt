@@ -42,10 +42,17 @@ pub struct Pitch {
     pub correction: i8,
 }
 
+/// The pitch of a new sample whose recording has none.
+pub const DEFAULT_PITCH: Pitch = Pitch {
+    key: 60,
+    correction: 0,
+};
+
 /// The content of the `smpl` chunk.
 #[derive(Clone, Copy, Debug, PartialEq, Eq)]
 pub struct Sampler {
-    pub pitch: Pitch,
+    /// The pitch; none without the chunk, unless the options give a key.
+    pub pitch: Option<Pitch>,
     /// The loop: its first frame, and the first frame after it.
     pub looped: Option<(u32, u32)>,
 }

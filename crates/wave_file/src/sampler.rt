@@ -1,5 +1,5 @@
 //! The `smpl` chunk of a WAVE file: loop and pitch.
-ghost use Rattle.std.specs.Prelude.{◌≡◌, ◌+◌, ◌*◌, ◌≤◌, length};
+ghost use Rattle.std.specs.Prelude.{◌≡◌, ◌+◌, ◌*◌, ◌≤◌, length, Some};
 ghost use Rattle.std.specs.Option.{option_copied, option_map};
 ghost use Rattle.bank_format.specs.FaultChecks.{Passes};
 ghost use Rattle.wave_file.specs.Recordings.{loop_count_in, forward_loop, ends_of, unity_note_in, data_in, is_stored, stored_in, cents_in, nearest, pitch_in, sampler_in, with_key};
@@ -27,17 +27,13 @@ const FORWARDS: u32 = 0;
 /// The highest key.
 const HIGHEST_KEY: u32 = 127;
 
-/// Reads the `smpl` chunk of a recording of `frames` frames. Without one the key is 60, the correction 0, and there is
-/// no loop.
+/// Reads the `smpl` chunk of a recording of `frames` frames. Without one there is no pitch and no loop.
 pub(crate) fn read_sampler(chunk: Option<&[u8]>, frames: usize) -> Result<Sampler, WaveFault>
     ensures { Passes (λ s. s) result (sampler_checks frames (option_copied chunk.entry)) (sampler_in (option_copied chunk.entry)) }
 {
     match chunk {
         None => Ok(Sampler {
-            pitch: Pitch {
-                key: 60,
-                correction: 0,
-            },
+            pitch: None,
             looped: None,
         }),
         Some(chunk) => read_chunk(chunk, frames),
@@ -50,7 +46,7 @@ pub(crate) fn with_key(key: Option<u8>, sampler: Sampler) -> Sampler
 {
     match key {
         Some(key) => Sampler {
-            pitch: Pitch { key, correction: 0 },
+            pitch: Some(Pitch { key, correction: 0 }),
             looped: sampler.looped,
         },
         None => sampler,
@@ -60,7 +56,7 @@ pub(crate) fn with_key(key: Option<u8>, sampler: Sampler) -> Sampler
 #[tactic(auto, unfolding(crate::specs::ReadChecks::chunk_checks))]
 fn read_chunk(chunk: &[u8], frames: usize) -> Result<Sampler, WaveFault>
     ensures { Passes (λ s. s) result (chunk_checks frames chunk.now)
-        (record { pitch = pitch_in chunk.now; looped = option_map ends_of (forward_loop chunk.now) }) }
+        (record { pitch = Some (pitch_in chunk.now); looped = option_map ends_of (forward_loop chunk.now) }) }
 {
     if !has_loops(chunk) {
         return Err(WaveFault::ShortSampler);
@@ -69,7 +65,7 @@ fn read_chunk(chunk: &[u8], frames: usize) -> Result<Sampler, WaveFault>
         return Err(WaveFault::UnityNote);
     }
     let looped = read_loop(forward_loop(chunk), frames)?;
-    let pitch = pitch_in(chunk);
+    let pitch = Some(pitch_in(chunk));
     Ok(Sampler { pitch, looped })
 }
 
