@@ -16,7 +16,7 @@ _sfbank_options() {
     show) echo --zones --uses --explain --help ;;
     take) echo --dry-run --force --preset --script --explain --help ;;
     tidy) echo --dry-run --force --merge --script --explain --help ;;
-    wave) echo --force --pair --explain --help ;;
+    wave) echo --all --force --instrument --pair --explain --help ;;
     canon | explain) echo --explain --help ;;
     '') echo --help --version ;;
   esac
@@ -53,7 +53,7 @@ _sfbank_given() {
   for ((i = 1; i < COMP_CWORD; i++)); do
     option=${COMP_WORDS[i]}
     case $option in
-      --as | --channel | --dither | --instrument | --key | --kit | --minor | --name | --notes | --preset | --script | --shift)
+      --all | --as | --channel | --dither | --instrument | --key | --kit | --minor | --name | --notes | --preset | --script | --shift)
         [ "${COMP_WORDS[i + 1]}" = = ] && ((i++))
         ((i++))
         while [[ ${COMP_WORDS[i + 1]} == [:=] ]]; do ((i += 2)); done
@@ -100,6 +100,8 @@ _sfbank() {
   read -ra endings < <(_sfbank_endings "${given[0]}")
   if [[ $before == --@(kit|notes|script) || $before == = && ${COMP_WORDS[COMP_CWORD - 2]} == --@(kit|notes|script) ]]; then
     _sfbank_files txt "${word#=}"
+  elif [[ $before == --all ]]; then
+    mapfile -t COMPREPLY < <(compgen -d -- "$word")
   elif [[ $before == --@(as|channel|dither|instrument|key|minor|name|preset|shift) || $before == [:=] || $word == [:=] ]]; then
     return
   elif [[ $word == -* ]]; then

@@ -9,7 +9,7 @@ function __sfbank_given
             set values (math $values - 1)
         else if test "$command$word" = import--preset
             set values 2
-        else if contains -- "$word" --as --channel --dither --instrument --key --kit --minor --name --notes --preset --script --shift
+        else if contains -- "$word" --all --as --channel --dither --instrument --key --kit --minor --name --notes --preset --script --shift
             set values 1
         else if not string match -q -- '-*' $word
             set -q command[1]; or set command $word
@@ -111,7 +111,7 @@ complete -c sfbank -n __sfbank_is_bare -a take -d 'Copy presets of another bank 
 complete -c sfbank -n __sfbank_is_bare -a tidy -d 'Remove what a bank does not use, and change no sound'
 complete -c sfbank -n __sfbank_is_bare -a replace -d 'Put a recording in the place of a sample, or of a pair'
 complete -c sfbank -n __sfbank_is_bare -a unpack -d 'Write a bank as a folder of its script and WAVE files'
-complete -c sfbank -n __sfbank_is_bare -a wave -d 'Write a sample of a bank as a WAVE file'
+complete -c sfbank -n __sfbank_is_bare -a wave -d 'Write a sample of a bank as a WAVE file, or all samples'
 complete -c sfbank -n 'test "$(__sfbank_given)" = help' -a "$commands"
 complete -c sfbank -n "__sfbank_is $commands" -k -a '(__sfbank_files)'
 
@@ -147,7 +147,9 @@ complete -c sfbank -n '__sfbank_is script' -l force -d 'Write OUT even if a bank
 complete -c sfbank -n '__sfbank_is take' -l force -d 'Write UNDO and FILE even if a bank is there'
 complete -c sfbank -n '__sfbank_is tidy' -l force -d 'Write UNDO and FILE even if a bank is there'
 complete -c sfbank -n '__sfbank_is unpack' -l force -d 'Write into a folder that is there'
-complete -c sfbank -n '__sfbank_is wave' -l force -d 'Write OUT even if a bank is there'
+complete -c sfbank -n '__sfbank_is wave' -l force -d 'Write OUT even if a bank is there, or into a folder that is there'
+complete -c sfbank -n '__sfbank_is wave' -l all -x -a '(__fish_complete_directories)' -d 'Write all samples into this folder'
+complete -c sfbank -n '__sfbank_is wave' -l instrument -x -d 'List the zones of this instrument in its table'
 complete -c sfbank -n '__sfbank_is wave' -l pair -d 'Write the left and the right sample of its pair'
 complete -c sfbank -n '__sfbank_is apply' -l neutral -d 'Accept only edits of the thirteen neutral forms'
 complete -c sfbank -n '__sfbank_is copy' -l dry-run -d 'Print the script of edits, and save nothing'
