@@ -3,12 +3,13 @@ ghost use Rattle.std.specs.Prelude.{◌≡◌, IfOk, map};
 ghost use Rattle.program_reports.specs.declared.run_fault.RunFault.TheVariants.{Presets};
 ghost use Rattle.program_reports.specs.RunFaults.{in_run};
 ghost use Rattle.sfbank.specs.Kits.{after_recordings, bare, kit_outcome, recordings_in, source_of};
-ghost use Rattle.sfbank.specs.Kits.{FitsKit, IsKitScripted, IsKitUndone};
+ghost use Rattle.sfbank.specs.Kits.{IsKitScripted, IsKitUndone};
 ghost use Rattle.sfbank.specs.KitSteps.{ReadsKit, ReadsRecordings, sides_in};
 ghost use Rattle.sfbank.specs.Prepared.{texts_of_bank};
 ghost use Rattle.sfbank.specs.Written.{Prepared, Runs};
 
 use crate::edited_bank::EditedBank;
+use crate::kit_fits::{design_fits, fitting_waves};
 use crate::reading::read_bank;
 use crate::recorded::{apply_numbered, key_fits};
 use crate::writing::write_edited;
@@ -56,15 +57,23 @@ pub fn kit_run<'x, W: Write, V: Write>(
     // use, else the first refused edit, else both texts.
     ensures runs { Runs (record { out = W.contents out.old; out_new = W.contents out.new; undo = V.contents undo.old; undo_new = V.contents undo.new })
         (kit_outcome (record { zones = zones.now; members = members }) options (map source_of waves.entry.items) file.now) result }
-    // Where numbers and names are in the ranges of their types, it is the outcome of the script of the edits.
-    ensures script { FitsKit (record { zones = zones.now; members = members }) (map source_of waves.entry.items)
-        → IsKitScripted (record { zones = zones.now; members = members }) options (map source_of waves.entry.items) file.now }
-    // Run on the written file, the undo text then restores the canonical file of the first bank.
-    ensures restores { FitsKit (record { zones = zones.now; members = members }) (map source_of waves.entry.items)
-        → IsKitUndone (record { zones = zones.now; members = members }) options (map source_of waves.entry.items) file.now }
+    // It is the outcome of the script of the edits.
+    ensures script { IsKitScripted (record { zones = zones.now; members = members }) options (map source_of waves.entry.items) file.now }
+    // Run on the written file, the undo text restores the canonical file of the first bank.
+    ensures restores { IsKitUndone (record { zones = zones.now; members = members }) options (map source_of waves.entry.items) file.now }
 {
     key_fits(options.key);
-    add_kit(alloc, file, waves, options, zones, members, out, undo)
+    design_fits(zones, members);
+    add_kit(
+        alloc,
+        file,
+        fitting_waves(waves),
+        options,
+        zones,
+        members,
+        out,
+        undo,
+    )
 }
 
 // Brings the recordings into the bank, and writes both texts.

@@ -11,6 +11,7 @@ mod diff;
 mod edit;
 mod edited_bank;
 mod folders;
+mod kit_fits;
 mod kits;
 mod laws;
 mod map;

@@ -5,11 +5,13 @@ use Rattle.sfbank.proofs.Restores.{are_bytes}
 use Rattle.sfbank.proofs.kits.kit_run.Goals as goal
 
 pub returns-clause-script : goal.returns-clause-script
-returns-clause-script g c fits =
-    kit_scripted (record { zones = c.args.zones.now; members = c.args.members }) c.args.options (map source_of c.args.waves.items)
-    c.args.file.now c.key_fits.ensures fits.designed fits.given (are_bytes c.args.file.now c.type_inv.file)
+returns-clause-script g c =
+    let design : Design = record { zones = c.args.zones.now; members = c.args.members } in
+    kit_scripted design c.args.options (map source_of c.args.waves.items) c.args.file.now c.key_fits.ensures
+    c.design_fits.ensures c.fitting_waves.ensures.fits (are_bytes c.args.file.now c.type_inv.file)
 
 pub returns-clause-restores : goal.returns-clause-restores
-returns-clause-restores g c fits =
-    kit_restores (record { zones = c.args.zones.now; members = c.args.members }) c.args.options (map source_of c.args.waves.items)
-    c.args.file.now c.key_fits.ensures fits.designed fits.given (are_bytes c.args.file.now c.type_inv.file)
+returns-clause-restores g c =
+    let design : Design = record { zones = c.args.zones.now; members = c.args.members } in
+    kit_restores design c.args.options (map source_of c.args.waves.items) c.args.file.now c.key_fits.ensures
+    c.design_fits.ensures c.fitting_waves.ensures.fits (are_bytes c.args.file.now c.type_inv.file)
