@@ -162,7 +162,12 @@ fn put_rest<W: Write>(bank: &Bank<'_>, instrument: u32, zone: u32, output: &mut 
     if !is_whole(bank, instrument, zone) {
         output.put(b"#");
         put_pieces(&[word(b"zone"), Piece::Number(u64::from(zone))], output);
-        put_zone_of(bank.instruments(), instrument as usize, zone as usize, output);
+        put_zone_of(
+            bank.instruments(),
+            instrument as usize,
+            zone as usize,
+            output,
+        );
         output.put(b"\n");
     }
 }

@@ -94,9 +94,10 @@ pan_within (negsuc n) h = omega (arith, h)
 
 pan_printable : (o : Option ℤ) → IsKitPan o → AllPrintable (pan_pieces o)
 pan_printable None h = tt
-pan_printable (Some pan) h =
-    (printable_word (codes "pan") refl refl,
-    (printable_signed FARTHEST_PAN pan (pan_within pan h) (omega arith), tt))
+pan_printable (Some pan) h = (
+  printable_word (codes "pan") refl refl,
+  (printable_signed FARTHEST_PAN pan (pan_within pan h) (omega arith), tt),
+)
 
 class_printable : (o : Option ℕ) → IsKitClass o → AllPrintable (class_pieces o)
 class_printable None h = tt
@@ -109,16 +110,15 @@ both_printable [] qs h k = k
 both_printable (p ∷ ps) qs h k = (h.0, both_printable ps qs h.1 k)
 
 zone_printable : (z : KitZone) → IsKitZone z → AllPrintable (zone_pieces z)
-zone_printable z h =
-    (
-      (range_printable z.keys h.keys).0,
-      (
-        (range_printable z.velocities h.velocities).0,
-        both_printable (root_pieces z.root) (pan_pieces z.pan ++ class_pieces z.class) (root_printable z.root h.root)
+zone_printable z h = (
+  (range_printable z.keys h.keys).0,
+  (
+    (range_printable z.velocities h.velocities).0,
+    both_printable (root_pieces z.root) (pan_pieces z.pan ++ class_pieces z.class) (root_printable z.root h.root)
         (both_printable (pan_pieces z.pan) (class_pieces z.class) (pan_printable z.pan h.pan)
         (class_printable z.class h.class)),
-      ),
-    )
+  ),
+)
 
 pub pieces_feed : (ps : List Piece) → AllPrintable ps → list_all not_feed (flat_map spaced ps) ≡ true
 pieces_feed [] h = refl
@@ -254,8 +254,10 @@ pan_read : (o : Option ℤ) (rest : List TokenValue) → IsKitPan o → is_next 
 unfolding pan pan_value word
 pan_read None rest h e = rw e refl
 pan_read (Some p) rest h e =
-    rw (signed_read FARTHEST_PAN p (signed_decimal p) rest (writes_signed FARTHEST_PAN p (pan_within p h) (omega arith)),
-    pan_checked p h) refl
+    rw (
+      signed_read FARTHEST_PAN p (signed_decimal p) rest (writes_signed FARTHEST_PAN p (pan_within p h) (omega arith)),
+      pan_checked p h,
+    ) refl
 
 class_read : (o : Option ℕ) → IsKitClass o → class (tokens (class_pieces o)) ≡ Ok (record { value = o; rest = [] })
 unfolding class class_value word

@@ -5,21 +5,13 @@ ghost use Rattle.sf_base.specs.Names.{IsName};
 ghost use Rattle.hydra_records.specs.Records.{AreBytes};
 ghost use Rattle.kit_tables.specs.declared.zone.KitZone.{KitZone};
 ghost use Rattle.kit_edits.specs.Fits.{FitMembers, FitsByte, FitsKitZone, FitsMaybe, FitsPan, FitsPreset, FitsRange};
-ghost use Rattle.sfbank.specs.Kits.{FitSources, FitsDesign, FitsSource, source_of};
+ghost use Rattle.sfbank.specs.Kits.{FitSources, FitsSource, source_of};
 
 use crate::kits::KitWave;
 use generators::Range;
 use kit_edits::{KitMembers, KitPreset};
 use kit_tables::KitZone;
 use sf_base::Name20;
-
-/// Proves that zones and members are in the ranges of their types.
-pub(crate) fn design_fits(zones: &[(usize, KitZone)], members: KitMembers)
-    ensures { FitsDesign (record { zones = zones.now; members = members }) }
-{
-    zones_fit(zones);
-    members_fit(members);
-}
 
 /// Returns the recordings, and proves that they are bytes.
 pub(crate) fn fitting_waves<'x>(waves: Vec<KitWave<'x>>) -> Vec<KitWave<'x>>
@@ -42,7 +34,8 @@ fn wave_fits(stem: &[u8], wave: &[u8])
     ensures { FitsSource (record { stem = stem.now; wave = wave.now }) }
 {}
 
-fn zones_fit(zones: &[(usize, KitZone)])
+/// Proves that zones are in the ranges of their types.
+pub(crate) fn zones_fit(zones: &[(usize, KitZone)])
     ensures { AllByRecursion (λ (zone : ℕ × KitZone). FitsKitZone zone.1) zones.now }
 {
     for zone in zones {
@@ -63,7 +56,10 @@ fn zone_fits(zone: KitZone)
 fn range_fits(range: Range)
     ensures { FitsRange range }
 {
-    let Range { low: _low, high: _high } = range;
+    let Range {
+        low: _low,
+        high: _high,
+    } = range;
 }
 
 fn byte_fits(byte: Option<u8>)
@@ -84,11 +80,14 @@ fn pan_fits(pan: Option<i16>)
     }
 }
 
-fn members_fit(members: KitMembers)
-    ensures { FitMembers members }
+/// Returns the members, and proves that they are in the ranges of their types.
+pub(crate) fn fitting_members(members: KitMembers) -> KitMembers
+    ensures same { result ≡ members }
+    ensures fits { FitMembers members }
 {
     name_fits(members.instrument);
     preset_fits(members.preset);
+    members
 }
 
 fn name_fits(name: Option<Name20>)

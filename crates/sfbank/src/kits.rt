@@ -9,7 +9,7 @@ ghost use Rattle.sfbank.specs.Prepared.{texts_of_bank};
 ghost use Rattle.sfbank.specs.Written.{Prepared, Runs};
 
 use crate::edited_bank::EditedBank;
-use crate::kit_fits::{design_fits, fitting_waves};
+use crate::kit_fits::{fitting_members, fitting_waves, zones_fit};
 use crate::reading::read_bank;
 use crate::recorded::{apply_numbered, key_fits};
 use crate::writing::write_edited;
@@ -63,17 +63,10 @@ pub fn kit_run<'x, W: Write, V: Write>(
     ensures restores { IsKitUndone (record { zones = zones.now; members = members }) options (map source_of waves.entry.items) file.now }
 {
     key_fits(options.key);
-    design_fits(zones, members);
-    add_kit(
-        alloc,
-        file,
-        fitting_waves(waves),
-        options,
-        zones,
-        members,
-        out,
-        undo,
-    )
+    zones_fit(zones);
+    let members = fitting_members(members);
+    let waves = fitting_waves(waves);
+    add_kit(alloc, file, waves, options, zones, members, out, undo)
 }
 
 // Brings the recordings into the bank, and writes both texts.

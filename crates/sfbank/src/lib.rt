@@ -39,8 +39,8 @@ pub use kit_edits::{KitMembers, KitPreset};
 pub use kit_tables::KitZone;
 pub use kits::{KitWave, kit_run};
 pub use laws::{
-    folders_pack_back, kits_read_back, kept_notes_render_same, remade_banks_render_same, saved_scripts_lead,
-    saved_undo_restores, scripts_distinguish_banks, undo_restores_files,
+    folders_pack_back, kept_notes_render_same, kits_read_back, remade_banks_render_same,
+    saved_scripts_lead, saved_undo_restores, scripts_distinguish_banks, undo_restores_files,
 };
 pub use map::map_run;
 pub use new::new_run;

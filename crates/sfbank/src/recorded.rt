@@ -68,7 +68,8 @@ pub fn import_run<W: Write, V: Write>(
 
 /// Reads the file and the WAVE file, puts the recording in the place of sample `sample` of the bank, counted from 0, and
 /// writes the edited bank to `out` and the undo script to `undo`. Both writers are flushed. The sample gets the
-/// recording's points, rate, loop, key and correction.
+/// recording's points, rate, loop, key and correction; where the WAVE file states no key and `options` give none, it
+/// keeps its own key and correction.
 ///
 /// Of a pair, a left and a right sample that are linked to each other, both are replaced: by a stereo recording each
 /// gets its channel, by a mono recording both get the same points. A stereo recording can only replace a pair

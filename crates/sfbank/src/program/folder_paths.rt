@@ -33,7 +33,11 @@ pub(super) fn text_path(alloc: Global, folder: &str) -> Result<PathBuf<Global>, 
 }
 
 /// The path of a file in a folder.
-pub(super) fn path_in(alloc: Global, folder: &str, file: &str) -> Result<PathBuf<Global>, OutOfMemory>
+pub(super) fn path_in(
+    alloc: Global,
+    folder: &str,
+    file: &str,
+) -> Result<PathBuf<Global>, OutOfMemory>
     ensures { IfOk result (λ path. path_buf_bytes path ≡ path_join folder.now file.now) }
 {
     Ok(Path::new(folder).join(alloc, file)?)

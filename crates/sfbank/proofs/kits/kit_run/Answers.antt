@@ -8,10 +8,12 @@ pub returns-clause-script : goal.returns-clause-script
 returns-clause-script g c =
     let design : Design = record { zones = c.args.zones.now; members = c.args.members } in
     kit_scripted design c.args.options (map source_of c.args.waves.items) c.args.file.now c.key_fits.ensures
-    c.design_fits.ensures c.fitting_waves.ensures.fits (are_bytes c.args.file.now c.type_inv.file)
+    (record { zones = c.zones_fit.ensures; members = c.fitting_members-members.ensures.fits }) c.fitting_waves-waves.ensures.fits
+    (are_bytes c.args.file.now c.type_inv.file)
 
 pub returns-clause-restores : goal.returns-clause-restores
 returns-clause-restores g c =
     let design : Design = record { zones = c.args.zones.now; members = c.args.members } in
     kit_restores design c.args.options (map source_of c.args.waves.items) c.args.file.now c.key_fits.ensures
-    c.design_fits.ensures c.fitting_waves.ensures.fits (are_bytes c.args.file.now c.type_inv.file)
+    (record { zones = c.zones_fit.ensures; members = c.fitting_members-members.ensures.fits }) c.fitting_waves-waves.ensures.fits
+    (are_bytes c.args.file.now c.type_inv.file)
