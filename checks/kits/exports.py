@@ -134,7 +134,7 @@ def literal(name):
 
 def random_range(lot):
     ends = [lot.choice((0, 127, lot.randint(0, 127))) for _ in range(2)]
-    return "{}..{}".format(*(sorted(ends) if lot.random() < 0.95 else ends))
+    return "{}..{}".format(*sorted(ends))
 
 
 def random_items(lot, strange):
@@ -238,7 +238,7 @@ def rejections():
     yield "wave --all there small.sf2", 5, "sfbank: output fault 81 FolderThere there"
     yield "wave --all new --instrument 1 small.sf2", 4, "sfbank: refused 21 NoSuchInstrument"
     yield "wave --all new --instrument 4294967295 small.sf2", 4, "sfbank: refused 21 NoSuchInstrument"
-    yield "wave --all no/new small.sf2", 5, "sfbank: write fault OUT 0"
+    yield "wave --all no/new small.sf2", 5, "sfbank: write fault no/new after 0 bytes"
     for tail in ("--instrument x", "--instrument 4294967296", "--pair", "--instrument -1"):
         yield f"wave --all new small.sf2 {tail}", 1, words
     for tail in ("small.sf2", "small.sf2 0", "--instrument 0 small.sf2 0 x.wav", "--all - small.sf2", "--all new small.sf2 0"):
