@@ -2,7 +2,7 @@
 use Rattle.std.specs.Prelude.{ℤ, List, [], ◌∷◌}
 use Rattle.sfbank_c.specs.declared.open_bank.OpenBank.{OpenBank}
 use Rattle.sfbank_c.specs.declared.bank_handle.BankHandle.{BankHandle}
-use Rattle.sfbank_c.specs.declared.status.TheConstants.{NULL, CLOSED, IN_USE}
+use Rattle.sfbank_c.specs.declared.status.TheConstants.{NULL, NOT_OPEN, IN_USE}
 
 -- the bank that the handle owns, if it is open
 abbrev pub bank_in : List BankHandle → List OpenBank
@@ -10,7 +10,7 @@ bank_in [] = []
 bank_in (h ∷ _) = h.sealed.held
 
 abbrev pub if_open : List OpenBank → ℤ → ℤ
-if_open [] status = CLOSED
+if_open [] status = NOT_OPEN
 if_open (_ ∷ _) status = status
 
 -- the error of a handle that is null or closed, or this status for an open one

@@ -4,7 +4,7 @@ ghost use Rattle.sfbank_c.specs.BankSlots.{bank_in, open_status, closed_status};
 
 use crate::bank_handle::BankHandle;
 use crate::open_bank::OpenBank;
-use crate::status::{CLOSED, IN_USE, NULL};
+use crate::status::{IN_USE, NOT_OPEN, NULL};
 use std::alloc::Global;
 
 /// Takes the bank out of an open handle, and leaves it closed. The error is the number for C.
@@ -22,7 +22,7 @@ pub(crate) fn take_bank(alloc: Global, handles: &mut [BankHandle]) -> Result<Box
     }
     match handles[0].take(alloc) {
         Some(bank) => Ok(bank),
-        None => Err(CLOSED),
+        None => Err(NOT_OPEN),
     }
 }
 

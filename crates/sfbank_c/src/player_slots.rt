@@ -4,7 +4,7 @@ ghost use Rattle.sfbank_c.specs.PlayerSlots.{player_in, open_status, closed_stat
 
 use crate::open_player::OpenPlayer;
 use crate::player_handle::PlayerHandle;
-use crate::status::{CLOSED, IN_USE, NULL};
+use crate::status::{IN_USE, NOT_OPEN, NULL};
 use std::alloc::Global;
 
 /// Takes the player out of an open handle, and leaves it closed. The error is the number for C.
@@ -25,7 +25,7 @@ pub(crate) fn take_player(
     }
     match handles[0].take(alloc) {
         Some(player) => Ok(player),
-        None => Err(CLOSED),
+        None => Err(NOT_OPEN),
     }
 }
 

@@ -10,7 +10,7 @@ pub const OUT_OF_MEMORY: i32 = 38;
 pub const NULL: i32 = 90;
 
 /// The handle is closed.
-pub const CLOSED: i32 = 91;
+pub const NOT_OPEN: i32 = 91;
 
 /// The handle is open already.
 pub const IN_USE: i32 = 92;
