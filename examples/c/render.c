@@ -1,5 +1,5 @@
 /* Renders a note list on a bank as a WAVE file: render BANK NOTES OUT. Each line of the list is START LENGTH BANK
- * PRESET KEY VELOCITY, as docs/NOTES.md explains. The file ends with the last voice. */
+ * PRESET KEY VELOCITY, as docs/NOTES.md explains. The file ends with the last note and voice. */
 #include <sfbank.h>
 #include <stdio.h>
 #include <stdlib.h>
@@ -68,7 +68,7 @@ static void play(sfbank_player *player, FILE *out, size_t frames) {
 
 int main(int words, char **word) {
     if (words != 4) return fputs("usage: render BANK NOTES OUT\n", stderr), 2;
-    size_t length, frames = 0, voices = 0;
+    size_t length, frames = 0, end = 0, voices = 0;
     uint8_t *file = read_file(word[1], &length);
     note *notes = NULL;
     size_t count = read_notes(word[2], &notes);
@@ -83,11 +83,12 @@ int main(int words, char **word) {
         note n = notes[i];
         play(&player, out, n.start - frames);
         frames = n.start;
+        if (end < n.start + n.length) end = n.start + n.length;
         error = sfbank_start(&player, &bank, (uint16_t)n.bank, (uint16_t)n.preset, (uint8_t)n.key, (uint8_t)n.velocity,
                              n.length);
         if (error) stop(word[2], error);
     }
-    for (; !sfbank_voices(&player, &voices) && voices; frames++) play(&player, out, 1);
+    for (; frames < end || (!sfbank_voices(&player, &voices) && voices); frames++) play(&player, out, 1);
     rewind(out);
     put_head(out, frames);
     sfbank_player_close(&player);
