@@ -1,7 +1,8 @@
 # sfbank: `make demo` builds the program and runs it on the examples; `make lib` builds the library for C; `make test`
 # proves and tests everything; `make deb` makes a Debian package.
 
-.PHONY: build lib demo test bench clean install install-lib uninstall deb build/x86-64-v2/sfbank
+.PHONY: build lib demo test bench clean install install-lib uninstall deb deb-lib build/x86-64-v2/sfbank \
+  build/x86-64-v2/libsfbank.a
 
 # `make install` copies the program, its pages, its completions and the examples below DESTDIR and PREFIX.
 PREFIX = /usr/local
@@ -70,6 +71,9 @@ uninstall:
 deb: $(or $(PROGRAM),build/x86-64-v2/sfbank)
 	@scripts/deb "$<"
 
+deb-lib: $(or $(LIBRARY),build/x86-64-v2/libsfbank.a)
+	@scripts/deb --library "$<"
+
 build/sfbank:
 	@scripts/build
 
@@ -79,3 +83,6 @@ build/libsfbank.a:
 # A package is for more processors than this one, so its program is not build/sfbank.
 build/x86-64-v2/sfbank:
 	@BUILD_FOLDER=build/x86-64-v2 CPU=x86-64-v2 scripts/build
+
+build/x86-64-v2/libsfbank.a:
+	@BUILD_FOLDER=build/x86-64-v2 CPU=x86-64-v2 scripts/build sfbank_c
