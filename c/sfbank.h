@@ -98,21 +98,21 @@ static inline int32_t sfbank_open(const uint8_t *file, size_t length, sfbank_ban
     return sfbank_abi_open(file, length, bank, bank != NULL);
 }
 
-/* Counts the members of a list: SFBANK_PRESETS, SFBANK_INSTRUMENTS or SFBANK_SAMPLES. Errors: SFBANK_NOT_OPEN,
+/* [audio] Counts the members of a list: SFBANK_PRESETS, SFBANK_INSTRUMENTS or SFBANK_SAMPLES. Errors: SFBANK_NOT_OPEN,
  * SFBANK_BAD_LIST, SFBANK_NULL. */
 static inline int32_t sfbank_count(sfbank_bank *bank, uint32_t list, size_t *count) {
     if (!count) return SFBANK_NULL;
     return sfbank_abi_count(bank, bank != NULL, list, count);
 }
 
-/* Writes the name of a member, numbered from 0, with zero bytes after it. Errors: SFBANK_NOT_OPEN, SFBANK_BAD_LIST,
- * SFBANK_NO_MEMBER, SFBANK_NULL. */
+/* [audio] Writes the name of a member, numbered from 0, with zero bytes after it. Errors: SFBANK_NOT_OPEN,
+ * SFBANK_BAD_LIST, SFBANK_NO_MEMBER, SFBANK_NULL. */
 static inline int32_t sfbank_name(sfbank_bank *bank, uint32_t list, uint32_t number, char name[SFBANK_NAME_SIZE]) {
     if (!name) return SFBANK_NULL;
     return sfbank_abi_name(bank, bank != NULL, list, number, (uint8_t *)name, SFBANK_NAME_SIZE);
 }
 
-/* Returns the bank and preset numbers of a preset, by which notes select it. Errors: SFBANK_NOT_OPEN,
+/* [audio] Returns the bank and preset numbers of a preset, by which notes select it. Errors: SFBANK_NOT_OPEN,
  * SFBANK_NO_MEMBER, SFBANK_NULL. */
 static inline int32_t sfbank_preset(sfbank_bank *bank, uint32_t number, uint16_t *preset_bank, uint16_t *preset) {
     if (!preset_bank || !preset) return SFBANK_NULL;

@@ -86,6 +86,11 @@ int main(int words, char **word) {
         if (turn == 20) AUDIO(sfbank_release_all(&player));
     }
     AUDIO(sfbank_stop(&player));
+    char name[SFBANK_NAME_SIZE];
+    uint16_t preset_bank, preset;
+    AUDIO(sfbank_count(&bank, SFBANK_SAMPLES, &count));
+    AUDIO(sfbank_name(&bank, SFBANK_SAMPLES, 0, name));
+    AUDIO(sfbank_preset(&bank, 0, &preset_bank, &preset));
     CHECK(sfbank_player_close(&player) == SFBANK_OK && sfbank_close(&bank) == SFBANK_OK);
     free(file), free(pool), free(undo), free(out);
     printf("%lu\n", tries);

@@ -1,6 +1,8 @@
 /* An LV2 instrument: a bank, which the host names by a path property, played by MIDI. A worker of the host opens
  * and closes banks; then only sfbank_press allocates in run(). At another rate than 44,100, frames are interpolated
- * between two. */
+ * between two. Put it with the two .ttl files into ~/.lv2/sfbank.lv2:
+ *     echo '{ global: lv2_descriptor; local: *; };' > names
+ *     cc -shared -fPIC -Wl,--version-script=names sfbank.c $(pkg-config --cflags --libs sfbank) -o sfbank.so */
 #include <lv2/atom/atom.h>
 #include <lv2/atom/util.h>
 #include <lv2/core/lv2.h>
