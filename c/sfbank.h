@@ -5,7 +5,8 @@
  *  - A handle is in one call at a time, on any thread.
  *  - A buffer has the stated length, and nothing else reads or writes it during the call.
  *  - The bytes of a file and of a pool stay where they are, unchanged, until each bank that borrows from them is
- *    closed, and each player on which a note of such a bank was started.
+ *    closed, and each player on which a note of such a bank was started. (The contracts state it for all time. After
+ *    these calls no handle points to the bytes, so they may be freed.)
  *  - malloc, realloc and free are one allocator. No call is made in a signal handler, or in the child of a fork of a
  *    process with threads.
  *
