@@ -10,8 +10,12 @@
  *  - malloc, realloc and free are one allocator. No call is made in a signal handler, or in the child of a fork of a
  *    process with threads.
  *
- * Calls marked [audio] neither allocate nor free, and don't wait: they may run on an audio thread. Each call returns
- * SFBANK_OK or the number of an error, and an error changes nothing, except where a comment states otherwise. */
+ * Calls marked [audio] don't allocate or wait: they may run on an audio thread. They free memory only for voices that
+ * end, of samples that an edit extended, whose points are in several pieces. A bank that is written and opened again
+ * has none.
+ *
+ * Each call returns SFBANK_OK or the number of an error, and an error changes nothing, except where a comment states
+ * otherwise. */
 #ifndef SFBANK_H
 #define SFBANK_H
 

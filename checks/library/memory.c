@@ -1,8 +1,10 @@
-/* With the shim in place of the allocator: no call for the audio thread allocates or frees, and each allocation of the
- * other calls fails in turn: memory BANK. A failed call must change nothing, and succeed when it is repeated. */
+/* With the shim in place of the allocator: no call for an audio thread allocates, and none frees but for samples in
+ * several pieces; each allocation of the other calls fails in turn: memory BANK. A failed call must change nothing, and
+ * succeed when it is repeated. */
 #include "files.h"
 
 unsigned long shim_calls(void);
+unsigned long shim_frees(void);
 void shim_fail(unsigned long number);
 int shim_failed(void);
 
@@ -46,6 +48,22 @@ static size_t written(uint8_t **bytes) {
     CHECK((call) == SFBANK_OK); \
     CHECK(shim_calls() == seen); \
 } while (0)
+
+/* Voices of a sample in several pieces own memory, which a block frees as they end. It allocates nothing. */
+static void try_pieces(void) {
+    static const char text[] = "extend 0 x0100 x0200\nextend 1 x0100 x0200\n";
+    static const uint8_t points[] = {1, 0, 2, 0, 1, 0, 2, 0};
+    static int16_t values[2048];
+    uint64_t line;
+    size_t voices = 2;
+    CHECK(sfbank_apply(&bank, text, sizeof text - 1, points, sizeof points, &line) == SFBANK_OK);
+    CHECK(sfbank_start(&player, &bank, 0, 0, 50, 100, 100) == SFBANK_OK);
+    CHECK(sfbank_start(&player, &bank, 0, 0, 70, 100, 100) == SFBANK_OK);
+    unsigned long seen = shim_calls(), freed = shim_frees();
+    for (int n = 0; n < 100; n++) CHECK(sfbank_block(&player, values, 2048) == SFBANK_OK);
+    CHECK(shim_frees() == freed + 2 && shim_calls() == seen + 2);
+    CHECK(sfbank_voices(&player, &voices) == SFBANK_OK && voices == 0);
+}
 
 static void undo_all(void) {
     while (sfbank_undo(&bank) == SFBANK_OK) {}
@@ -91,6 +109,7 @@ int main(int words, char **word) {
     AUDIO(sfbank_count(&bank, SFBANK_SAMPLES, &count));
     AUDIO(sfbank_name(&bank, SFBANK_SAMPLES, 0, name));
     AUDIO(sfbank_preset(&bank, 0, &preset_bank, &preset));
+    try_pieces();
     CHECK(sfbank_player_close(&player) == SFBANK_OK && sfbank_close(&bank) == SFBANK_OK);
     free(file), free(pool), free(undo), free(out);
     printf("%lu\n", tries);

@@ -3,9 +3,11 @@
 #include <dlfcn.h>
 #include <stddef.h>
 
-static unsigned long calls, made, chosen;
+static unsigned long calls, made, frees, chosen;
 
 unsigned long shim_calls(void) { return calls; }
+
+unsigned long shim_frees(void) { return frees; }
 
 /* Fails the allocation with this number from now on, counted from 1; 0 for none. */
 void shim_fail(unsigned long number) {
@@ -35,6 +37,6 @@ void *realloc(void *block, size_t size) {
 void free(void *block) {
     static void (*real)(void *);
     if (!real) *(void **)&real = next("free");
-    calls++;
+    calls++, frees++;
     real(block);
 }
