@@ -1,0 +1,139 @@
+/* A host of the LV2 plugin, with and without a worker: lv2 PLUGIN BANK. Sets the bank by its property, presses and
+ * releases a key, and compares the frames with those of the library; saves the state and restores it. */
+#include "files.h"
+#include <dlfcn.h>
+#include <lv2/atom/forge.h>
+#include <lv2/core/lv2.h>
+#include <lv2/midi/midi.h>
+#include <lv2/patch/patch.h>
+#include <lv2/state/state.h>
+#include <lv2/urid/urid.h>
+#include <lv2/worker/worker.h>
+
+enum { FRAMES = 256, BLOCKS = 40, PRESS_AT = 100, RELEASE_IN = 20 };
+
+static const LV2_Worker_Interface *worker;
+static const LV2_State_Interface *saved_state;
+static LV2_Handle plugin;
+static char stored[4096];
+
+static LV2_URID map_uri(LV2_URID_Map_Handle handle, const char *uri) {
+    static const char *uris[64];
+    (void)handle;
+    for (LV2_URID k = 0; k < 64; k++) {
+        if (!uris[k]) uris[k] = strdup(uri);
+        if (!strcmp(uris[k], uri)) return k + 1;
+    }
+    return 0;
+}
+
+static LV2_Worker_Status respond(LV2_Worker_Respond_Handle handle, uint32_t size, const void *data) {
+    (void)handle;
+    return worker->work_response(plugin, size, data);
+}
+
+static LV2_Worker_Status schedule(LV2_Worker_Schedule_Handle handle, uint32_t size, const void *data) {
+    return worker->work(plugin, respond, handle, size, data);
+}
+
+static LV2_State_Status store(LV2_State_Handle handle, uint32_t key, const void *value, size_t size, uint32_t type,
+                              uint32_t flags) {
+    (void)handle, (void)flags;
+    CHECK(key == map_uri(NULL, "urn:sfbank:bank") && type == map_uri(NULL, LV2_ATOM__Path) && size < sizeof stored);
+    memcpy(stored, value, size);
+    return LV2_STATE_SUCCESS;
+}
+
+static const void *retrieve(LV2_State_Handle handle, uint32_t key, size_t *size, uint32_t *type, uint32_t *flags) {
+    (void)handle, (void)key;
+    *size = strlen(stored) + 1, *type = map_uri(NULL, LV2_ATOM__Path), *flags = LV2_STATE_IS_POD;
+    return stored;
+}
+
+static LV2_URID_Map map = {NULL, map_uri};
+static LV2_Worker_Schedule scheduler = {NULL, schedule};
+
+static void begin(LV2_Atom_Forge *forge, LV2_Atom_Forge_Frame *frame, uint8_t *buffer, size_t size) {
+    lv2_atom_forge_init(forge, &map);
+    lv2_atom_forge_set_buffer(forge, buffer, size);
+    lv2_atom_forge_sequence_head(forge, frame, 0);
+}
+
+static void put_bank(LV2_Atom_Forge *forge, const char *path) {
+    LV2_Atom_Forge_Frame object;
+    lv2_atom_forge_frame_time(forge, 0);
+    lv2_atom_forge_object(forge, &object, 0, map_uri(NULL, LV2_PATCH__Set));
+    lv2_atom_forge_key(forge, map_uri(NULL, LV2_PATCH__property));
+    lv2_atom_forge_urid(forge, map_uri(NULL, "urn:sfbank:bank"));
+    lv2_atom_forge_key(forge, map_uri(NULL, LV2_PATCH__value));
+    lv2_atom_forge_path(forge, path, (uint32_t)strlen(path));
+    lv2_atom_forge_pop(forge, &object);
+}
+
+static void put_midi(LV2_Atom_Forge *forge, int64_t frame, uint8_t status) {
+    const uint8_t message[3] = {status, 60, 100};
+    lv2_atom_forge_frame_time(forge, frame);
+    lv2_atom_forge_atom(forge, sizeof message, map_uri(NULL, LV2_MIDI__MidiEvent));
+    lv2_atom_forge_write(forge, message, sizeof message);
+}
+
+/* Plays the same by the library. */
+static void wanted(float *left, float *right, const uint8_t *file, size_t length) {
+    sfbank_bank bank = SFBANK_CLOSED;
+    sfbank_player player = SFBANK_CLOSED;
+    const size_t release = RELEASE_IN * FRAMES;
+    CHECK(!sfbank_open(file, length, &bank) && !sfbank_player_open(&player));
+    CHECK(!sfbank_block_float(&player, left, right, PRESS_AT) && !sfbank_press(&player, &bank, 0, 0, 60, 100, 1));
+    CHECK(!sfbank_block_float(&player, left + PRESS_AT, right + PRESS_AT, release - PRESS_AT));
+    CHECK(!sfbank_release(&player, 1));
+    CHECK(!sfbank_block_float(&player, left + release, right + release, BLOCKS * FRAMES - release));
+    CHECK(!sfbank_player_close(&player) && !sfbank_close(&bank));
+}
+
+static void try_plugin(const LV2_Descriptor *lv2, const char *path, double rate, int has_worker, float *left,
+                       float *right) {
+    const LV2_Feature mapping = {LV2_URID__map, &map}, working = {LV2_WORKER__schedule, &scheduler};
+    const LV2_Feature *const features[] = {&mapping, has_worker ? &working : NULL, NULL};
+    static uint64_t buffer[1024];
+    plugin = lv2->instantiate(lv2, rate, "", features);
+    CHECK(plugin);
+    lv2->connect_port(plugin, 0, buffer);
+    for (int block = 0; block < BLOCKS; block++) {
+        LV2_Atom_Forge forge;
+        LV2_Atom_Forge_Frame frame;
+        begin(&forge, &frame, (uint8_t *)buffer, sizeof buffer);
+        if (block == 0 && !stored[0]) put_bank(&forge, "/no/such/file"), put_bank(&forge, path);
+        if (block == 0 && stored[0]) CHECK(saved_state->restore(plugin, retrieve, NULL, 0, NULL) == LV2_STATE_SUCCESS);
+        if (block == 0) put_midi(&forge, PRESS_AT, 0x90);
+        if (block == RELEASE_IN) put_midi(&forge, 0, 0x80);
+        lv2_atom_forge_pop(&forge, &frame);
+        lv2->connect_port(plugin, 1, left + block * FRAMES);
+        lv2->connect_port(plugin, 2, right + block * FRAMES);
+        lv2->run(plugin, FRAMES);
+    }
+    CHECK(saved_state->save(plugin, store, NULL, 0, NULL) == LV2_STATE_SUCCESS && !strcmp(stored, path));
+    lv2->cleanup(plugin);
+}
+
+int main(int words, char **word) {
+    CHECK(words == 3);
+    static float left[BLOCKS * FRAMES], right[BLOCKS * FRAMES], seen[BLOCKS * FRAMES], other[BLOCKS * FRAMES];
+    size_t length;
+    uint8_t *file = read_file(word[2], &length);
+    void *library = dlopen(word[1], RTLD_NOW);
+    CHECK(library);
+    const LV2_Descriptor *(*of)(uint32_t);
+    *(void **)&of = dlsym(library, "lv2_descriptor");
+    CHECK(of && of(0) && !of(1));
+    worker = of(0)->extension_data(LV2_WORKER__interface);
+    saved_state = of(0)->extension_data(LV2_STATE__interface);
+    wanted(left, right, file, length);
+    for (int turn = 0; turn < 3; turn++) {
+        try_plugin(of(0), word[2], 44100, turn != 1, seen, other);
+        CHECK(!memcmp(left, seen, sizeof left) && !memcmp(right, other, sizeof right));
+    }
+    try_plugin(of(0), word[2], 48000, 1, seen, other);
+    CHECK(seen[PRESS_AT / 2] == 0 && memcmp(left, seen, sizeof left));
+    free(file);
+    return 0;
+}

@@ -1,0 +1,5 @@
+mod AsBank
+mod AsPlayer
+mod ScriptLaws
+mod FloatLaws
+mod SideLaws

@@ -1,0 +1,78 @@
+-- `into_parts` moves two fields, and what they own goes with them.
+use mathlib.Core.Path.{◌≡◌, refl, sym, subst}
+use Rattle.std.proofs.Common.{length, arith}
+use mathlib.Core.List.{List, [], ◌∷◌, ◌++◌}
+use seplogic.Ra.Ura.{Ura}
+use mir.Val.{Val}
+use base.Logic.{SProp, ent, id⊢}
+use base.Fml.{ftrue, fsep}
+use prog.Memory.{Memory}
+use prog.Routine.{Routine}
+use prog.Wp.{WpFn, Tables}
+use types.Logic.{Logic}
+use contract.Monad.{Fun}
+use contract.Running.{tables, tables_of}
+use sound.WpLaws.{WpFn-mono}
+use types.Kit.{Item, ‵, raw, ◌⊛◌, ◌$◌, ◌∵◌, !, qed, by, move, drop, use1, join, split, fsplit, fjoin, suffices, done}
+use types.Part.{whole, sub, agg}
+use types.Run.{stop, fld, no_more, and_then, of_opd, returns, enter}
+use types.ByLocal.{alloc_all, pass_all, free_all, look_at, get, get_in, sets}
+use denote.Exit.{yes}
+use denote.RawPtr.{Ptr}
+use denote.Signature.{type_at}
+use denote.Steps.{nothing}
+use denote.Triple.Entry.{on_entry}
+use denote.Triple.Spec.{triple_of}
+use denote.Triple.Table.{entered}
+use denote.Triple.Walked.{says, needs, Stays, stay_dropped, walk_of, ends_at, Goes-dropped, walk_Meets}
+use Rattle.std.specs.Global.{Global}
+use Rattle.std_alloc.proofs.BoxSteps.Form.{D, B, word, box_typed}
+use Rattle.std_alloc.proofs.BoxSteps.Steps.{box_out, box_in}
+use Rattle.sfbank_c.proofs.AsBank.{E, FromSeal as From}
+use Rattle.sfbank_c.specs.declared.open_bank.OpenBank.{OpenBank}
+use Rattle.sfbank_c.specs.contracts.sealed_bank.SealedBank.into_parts as F
+use Rattle.sfbank_c.specs.contracts.sealed_bank.SealedBank.into_parts.Key.{name as #self}
+use Rattle.sfbank_c.proofs.sealed_bank.SealedBank.into_parts.Statement as stated
+use Rattle.sfbank_c.proofs.sealed_bank.SealedBank.into_parts.Code as code
+
+abbrev stayed : Stays (F.ended).signature.params (F.ended).kept
+stayed = (stay_dropped From yes, tt)
+
+module _ {M : Type 1} {𝓤 : Ura M} (𝓛 : Logic 𝓤) (at_mem : Memory → SProp 𝓤) (run : Routine → Fun 𝓤) (𝓣 : Tables 𝓤 𝓛.H) where
+  open 𝓛 use {H}
+
+  abbrev bound : Ptr → Global → List OpenBank → List Val → (walk_of 𝓛 F.ended stayed (F.clauses 𝓛 at_mem run)).Ghost
+  bound p a held ws = ((tt, tt, tt, (record { at = p; alloc = a; held = held }, tt), (ws, tt)), tt)
+
+  abbrev Had : Ptr → Global → List OpenBank → List Val → SProp 𝓤
+  Had p a held ws = on_entry 𝓛 F.signature tt tt (record { at = p; alloc = a; held = held }, tt) (ws, tt)
+
+  abbrev Runs : Ptr → Global → List OpenBank → List Val → SProp 𝓤
+  Runs p a held ws = WpFn 𝓤 H 𝓣.C 𝓣.Λ code.function (ws ++ []) ((walk_of 𝓛 F.ended stayed (F.clauses 𝓛 at_mem run)).post (bound p a held ws))
+
+  walk : (p : Ptr) (a : Global) (held : List OpenBank) (us : List Val) → length held ≡ 1 → ent 𝓤 (Had p a held us) (Runs p a held us)
+  walk p a [] us one = absurd (omega (arith, one))
+  walk p a (x ∷ y ∷ rest) us one = absurd (omega (arith, one))
+  walk p a (x ∷ []) us one =
+      let Post = (walk_of 𝓛 F.ended stayed (F.clauses 𝓛 at_mem run)).post (bound p a (x ∷ []) us) in
+      let v : D E = record { ptr = p; alloc = a; value = x } in
+      let To = type_at (F.signature).result tt in
+      let made : To.Denot = record { ptr = v.ptr; alloc = v.alloc; value = v.value } in
+      qed 𝓛 ((‵ ftrue ⊛ ‵ (fsep ((B E).own_val v us) ftrue)) ∷ []) ∵ split ! $ drop ! $ fsplit ! $
+      box_out E ! v us (λ b o hv e ws fa. box_in E ! v b o v.value e refl $ use1 𝓛 (‵ (To.own_val made (word E hv b o ∷ []))) (id⊢ 𝓤 _) $ move ! (1 ∷ []) $ drop ! $
+      let w = word E hv b o in
+      let Γ : List (Item 𝓤) = ‵ (To.own_val made (w ∷ [])) ∷ [] in
+      by ! (subst (λ (us : List Val). ent 𝓤 (types.Kit.⋆ 𝓛 Γ) (WpFn 𝓤 H 𝓣.C 𝓣.Λ code.function (us ++ []) Post)) (sym ws)
+      (qed 𝓛 Γ ∵ enter ! 𝓣.C 𝓣.Λ code.function (w ∷ []) _ $ alloc_all ! (λ ls. pass_all ! refl (box_typed E hv b o fa, tt) $
+      sets ! (of_opd ! (get_in ! (fld ! refl (stop !)) (sub ! 0 refl (whole !)))) refl (tt, tt) $ sets ! (of_opd ! (get_in ! (fld ! refl (stop !)) (sub ! 1 refl (whole !)))) refl fa $
+      sets ! (agg ! (and_then ! (get ! refl) (and_then ! (get ! refl) (no_more !)))) refl (box_typed E hv b o fa) $ returns ! (look_at ! 0 refl) $ free_all ! refl $
+      suffices ! _ (ends_at 𝓛 F.ended stayed (F.clauses 𝓛 at_mem run) (bound p a (x ∷ []) us) w made (tt, tt) (tt, tt)) $ says ! refl $
+      nothing ! $ nothing ! $ fjoin ! $ join ! $ nothing ! $ join ! $ done !))))
+
+pub into_parts_spec : {M : Type 1} → stated.statement M
+unfolding tables_of
+into_parts_spec 𝓤 𝓛 𝓜 𝓡 wired =
+    let 𝓣 : Tables 𝓤 𝓛.H = tables_of 𝓤 𝓛.H 𝓜 (tables 𝓤 𝓛.H 𝓜 𝓡 𝓡.env) in
+    entered 𝓤 𝓛.H (triple_of 𝓛 F.signature (F.spec 𝓛 𝓜.mem 𝓡.returns)) 𝓣.C 𝓣.Λ #self code.function (code.unfolded 𝓤 𝓛.H 𝓜 𝓡 wired)
+    (walk_Meets 𝓛 F.ended stayed (Goes-dropped 𝓛 0 From yes (λ κs x f. refl), tt) (F.clauses 𝓛 𝓜.mem 𝓡.returns) (WpFn 𝓤 𝓛.H 𝓣.C 𝓣.Λ code.function) (WpFn-mono 𝓤 𝓛.H 𝓛.laws 𝓣 code.function)
+    (λ z. let d = z.0.3.0 in needs 𝓤 (length d.held ≡ 1) (Had 𝓛 𝓜.mem 𝓡.returns 𝓣 d.at d.alloc d.held z.0.4.0) (walk 𝓛 𝓜.mem 𝓡.returns 𝓣 d.at d.alloc d.held z.0.4.0)))

@@ -1,0 +1,10 @@
+pub mod Owned
+pub mod BankSlots
+pub mod PlayerSlots
+pub mod Banks
+pub mod Players
+pub mod Starts
+pub mod Scripts
+pub mod Texts
+pub mod Sessions
+pub mod Floats
