@@ -22,13 +22,12 @@ sub differs {
     return $lines <= $most ? undef : "the difference has $lines lines, not at most $most";
 }
 
-# The difference of one edit is one line. That of several edits may be longer, if additions must come after removals to
-# stay within a limit.
+# The difference of some edits has no more lines than they: removals that make room come first.
 sub try_bank {
     my ($name, @edits) = @_;
     report_case("the text of $name", remade('full', 'full'));
     report_case("$name: nothing differs", differs('', 0));
-    report_case("$name: $_", differs($_, /\n/ ? undef : 1)) for @edits;
+    report_case("$name: $_", differs($_, 1 + tr/\n//)) for @edits;
 }
 
 sub try_full {
@@ -36,10 +35,10 @@ sub try_full {
     for (Limits::full_banks()) {
         my ($limit, $lines, undef, $taken) = @$_;
         report_case("the most $limit", done(apply_text('empty', join("\n", @$lines), 'full', 'undo')));
-        try_bank("the most $limit, of " . substr($lines->[-1], 0, 12), $taken->[0]);
+        try_bank("the most $limit, of " . substr($lines->[-1], 0, 12), @$taken);
     }
     system("$scripts/make_bank wide 65535 > full") and return report_case('scripts/make_bank', 'failed');
-    my @edits = ('rename-sample 7 "n"', 'move-preset 65534 0', 'remove-preset 32767', 'set-target inst 40000 0 7', 'set-kind 65534 left 0');
+    my @edits = ('rename-sample 7 "n"', 'move-preset 65534 0', 'remove-preset 32767', 'set-target inst 40000 0 7', 'set-kind 65534 left 0', 'rename-inst 7 "i8"' . "\n" . 'rename-inst 8 "i7"', "set-target inst 9 0 7\nremove-sample 9\nadd-sample 3 \"n\" 44100 60 0 mono noloop x0102");
     try_bank('the most members', @edits);
 }
 

@@ -3,21 +3,30 @@
 //! call here is only proved not to panic.
 #![tactic(auto)]
 
+mod all_changes;
+mod chains;
+mod copies;
+mod full_lists;
+mod groups;
+mod heads;
+mod keys;
+mod list_plan;
 mod numbers;
-mod owner_lists;
+mod owner_pairs;
+mod owner_steps;
 mod point_diff;
 mod points;
 mod pushing;
-mod renumbered_owners;
-mod samples;
+mod sample_pairs;
+mod sample_steps;
 mod settings;
-mod splits;
 mod texts;
-mod zones;
+mod views;
+mod zone_matching;
+mod zone_steps;
 
-pub use owner_lists::{
-    EditableHead, Rearrangement, member_rearrangement, remove_steps, split_steps, zone_steps,
-};
-pub use renumbered_owners::RenumberedOwners;
-pub use samples::{kind_steps, remove_sample_steps, sample_rearrangement};
-pub use texts::text_steps;
+pub use all_changes::{BankChanges, bank_changes};
+pub use groups::StepGroup;
+pub use heads::EditableHead;
+pub use owner_steps::remove_steps;
+pub use sample_steps::{kind_steps, remove_sample_steps};
