@@ -22,12 +22,13 @@ sub differs {
     return $lines <= $most ? undef : "the difference has $lines lines, not at most $most";
 }
 
-# The difference of some edits has no more lines than they: removals that make room come first.
+# The difference of one edit is one line. That of several has at most one line more than they: removals that make room
+# come first.
 sub try_bank {
     my ($name, @edits) = @_;
     report_case("the text of $name", remade('full', 'full'));
     report_case("$name: nothing differs", differs('', 0));
-    report_case("$name: $_", differs($_, 1 + tr/\n//)) for @edits;
+    report_case("$name: $_", differs($_, /\n/ ? 2 + tr/\n// : 1)) for @edits;
 }
 
 sub try_full {
