@@ -1,3 +1,2 @@
 pub mod Explanations
 pub mod GeneratorTable
-pub mod GeneratorLaws

@@ -4,9 +4,9 @@ ghost use Rattle.base_outputs.specs.Output.{Puts};
 ghost use Rattle.program_explanations.specs.GeneratorTable.{padded, default_text, yes_or_no, row_text, table_text};
 
 use crate::explanations::put_line;
-use crate::generator_rows::{DefaultAmount, GeneratorRow, ROWS};
 use base_outputs::Output;
 use base_texts::Text;
+use generator_rows::{DefaultAmount, GeneratorRow, usable_generators};
 use itoa::Buffer;
 use std::io::Write;
 
@@ -43,7 +43,7 @@ impl Text for GeneratorTable {
 
     fn put<W: Write>(&self, output: &mut Output<'_, W>) {
         put_line(HEADING, output);
-        put_rows(&ROWS, output);
+        put_rows(usable_generators(), output);
     }
 }
 

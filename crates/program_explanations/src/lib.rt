@@ -3,9 +3,7 @@
 #![tactic(auto)]
 
 mod explanations;
-mod generator_rows;
 mod generator_table;
-pub mod laws;
 
 pub use explanations::{Explanation, Explanations, FaultCode, explain, explain_name};
 pub use generator_rows::{

@@ -1,8 +1,8 @@
 use Rattle.std.proofs.Common.{pos, false, []}
 use Rattle.base_outputs.proofs.OutputLaws.{putting_member}
-use Rattle.program_explanations.specs.declared.generator_rows.DefaultAmount.TheVariants.{Number}
-use Rattle.program_explanations.specs.declared.generator_rows.GeneratorRow.{GeneratorRow}
-use Rattle.program_explanations.specs.declared.generator_rows.Unit.TheVariants.{Points}
+use Rattle.generator_rows.specs.declared.row.DefaultAmount.TheVariants.{Number}
+use Rattle.generator_rows.specs.declared.row.GeneratorRow.{GeneratorRow}
+use Rattle.generator_rows.specs.declared.row.Unit.TheVariants.{Points}
 use Rattle.program_explanations.specs.GeneratorTable.{row_text}
 use Rattle.program_explanations.proofs.generator_table.put_rows.Goals as goal
 
@@ -12,6 +12,8 @@ no_row = record {
   number = 0;
   name = [];
   unit = Points;
+  low = pos 0;
+  high = pos 0;
   range = [];
   default = Number (pos 0);
   is_played = false;

@@ -1,8 +1,9 @@
 -- The laws hold by computation.
 use Rattle.std.proofs.Common.{refl}
+use Rattle.std.specs.Fmt.{digits}
 use Rattle.generators.specs.Defaults.{default_of}
 use Rattle.generators.specs.Levels.{is_allowed}
-use Rattle.program_explanations.proofs.laws.rows_follow_the_rules.Goals as goal
+use Rattle.generator_rows.proofs.laws.rows_follow_the_rules.Goals as goal
 
 pub returns-clause-operators : goal.returns-clause-operators
 unfolding is_allowed
@@ -15,3 +16,7 @@ returns-clause-defaults c = refl
 pub returns-clause-played : goal.returns-clause-played
 unfolding default_of
 returns-clause-played c = refl
+
+pub returns-clause-ranges : goal.returns-clause-ranges
+unfolding digits
+returns-clause-ranges c = refl

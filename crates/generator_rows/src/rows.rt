@@ -1,79 +1,9 @@
-//! The generators that a script can set or that have an edit of their own, and their amounts (SoundFont 2.04, sections
-//! 8.1.2 and 8.1.3).
-ghost use Rattle.std.specs.Prelude.{◌≡◌};
-ghost use Rattle.program_explanations.specs.GeneratorTable.{unit_name};
-ghost use Rattle.program_explanations.specs.declared.generator_rows.TheConstants.{ROWS};
+//! The table.
+ghost use Rattle.std.specs.Prelude.{◌≡◌, ◌==◌, find};
+ghost use Rattle.std.specs.Option.{option_copied};
+ghost use Rattle.generator_rows.specs.declared.rows.TheConstants.{ROWS};
 
-/// The unit of a generator's amount.
-#[derive(Clone, Copy)]
-pub enum Unit {
-    /// Points of the sample data.
-    Points,
-    /// Multiples of 32,768 points.
-    PointBlocks,
-    /// Hundredths of a semitone.
-    Cents,
-    /// Cents above 8.176 Hz.
-    AbsoluteCents,
-    /// Cents between adjacent keys.
-    CentsPerKey,
-    /// Semitones.
-    Semitones,
-    /// Tenths of a decibel.
-    Centibels,
-    /// Times: 0 is a second, and 1200 more double it.
-    Timecents,
-    /// Timecents for each key below 60.
-    TimecentsPerKey,
-    /// Tenths of a percent.
-    TenthsOfPercent,
-    /// Key numbers.
-    Keys,
-    /// Velocities.
-    Velocities,
-    /// The number of an instrument.
-    Instrument,
-    /// The number of a sample.
-    Sample,
-    /// How a loop is played: 0 never, 1 without end, 3 until the key is released.
-    Mode,
-    /// The number of a class in which a new note ends the others.
-    Class,
-}
-
-/// The amount that counts where no zone sets a generator.
-#[derive(Clone, Copy)]
-pub enum DefaultAmount {
-    /// This number.
-    Number(i16),
-    /// All keys, or all velocities.
-    WholeRange,
-    /// None: each zone but a global one has the generator.
-    Nothing,
-}
-
-/// The length of the longest name.
-pub const NAME_LENGTH: usize = 26;
-
-/// The length of the longest range.
-pub const RANGE_LENGTH: usize = 13;
-
-/// A generator, and its amounts.
-#[derive(Clone, Copy)]
-pub struct GeneratorRow {
-    /// The number of its operator.
-    pub number: u16,
-    /// Its name in the standard, and blanks.
-    pub name: [u8; NAME_LENGTH],
-    /// The unit of its amount.
-    pub unit: Unit,
-    /// The amounts that the standard allows, or `any` where only the sample limits them, and blanks.
-    pub range: [u8; RANGE_LENGTH],
-    /// The amount that counts where no zone sets it.
-    pub default: DefaultAmount,
-    /// Whether the frames of a note depend on it.
-    pub is_played: bool,
-}
+use crate::row::{DefaultAmount, GeneratorRow, Unit};
 
 /// The generators that a script can set or that have an edit of their own, in the order of their numbers.
 pub fn usable_generators() -> &'static [GeneratorRow]
@@ -82,30 +12,11 @@ pub fn usable_generators() -> &'static [GeneratorRow]
     &ROWS
 }
 
-impl Unit {
-    /// Returns its name, as the table has it.
-    pub fn name(self) -> &'static str
-        ensures { result.now ≡ unit_name self }
-    {
-        match self {
-            Unit::Points => "points",
-            Unit::PointBlocks => "32,768 points",
-            Unit::Cents => "cents",
-            Unit::AbsoluteCents => "absolute cents",
-            Unit::CentsPerKey => "cents a key",
-            Unit::Semitones => "semitones",
-            Unit::Centibels => "centibels",
-            Unit::Timecents => "timecents",
-            Unit::TimecentsPerKey => "timecents a key",
-            Unit::TenthsOfPercent => "0.1 %",
-            Unit::Keys => "key",
-            Unit::Velocities => "velocity",
-            Unit::Instrument => "instrument",
-            Unit::Sample => "sample",
-            Unit::Mode => "loop mode",
-            Unit::Class => "class",
-        }
-    }
+/// The row of the generator with this operator.
+pub fn row_of(operator: u16) -> Option<&'static GeneratorRow>
+    ensures { option_copied result ≡ find (λ row. row.number == operator) ROWS }
+{
+    ROWS.iter().find(|row| row.number == operator)
 }
 
 /// The rows of the table, in the order of their numbers.
@@ -114,6 +25,8 @@ pub(crate) static ROWS: [GeneratorRow; 52] = [
         number: 0,
         name: *b"startAddrsOffset          ",
         unit: Unit::Points,
+        low: 0,
+        high: i16::MAX,
         range: *b"0..          ",
         default: DefaultAmount::Number(0),
         is_played: true,
@@ -122,6 +35,8 @@ pub(crate) static ROWS: [GeneratorRow; 52] = [
         number: 1,
         name: *b"endAddrsOffset            ",
         unit: Unit::Points,
+        low: i16::MIN,
+        high: 0,
         range: *b"..0          ",
         default: DefaultAmount::Number(0),
         is_played: true,
@@ -130,6 +45,8 @@ pub(crate) static ROWS: [GeneratorRow; 52] = [
         number: 2,
         name: *b"startloopAddrsOffset      ",
         unit: Unit::Points,
+        low: i16::MIN,
+        high: i16::MAX,
         range: *b"any          ",
         default: DefaultAmount::Number(0),
         is_played: true,
@@ -138,6 +55,8 @@ pub(crate) static ROWS: [GeneratorRow; 52] = [
         number: 3,
         name: *b"endloopAddrsOffset        ",
         unit: Unit::Points,
+        low: i16::MIN,
+        high: i16::MAX,
         range: *b"any          ",
         default: DefaultAmount::Number(0),
         is_played: true,
@@ -146,6 +65,8 @@ pub(crate) static ROWS: [GeneratorRow; 52] = [
         number: 4,
         name: *b"startAddrsCoarseOffset    ",
         unit: Unit::PointBlocks,
+        low: 0,
+        high: i16::MAX,
         range: *b"0..          ",
         default: DefaultAmount::Number(0),
         is_played: true,
@@ -154,6 +75,8 @@ pub(crate) static ROWS: [GeneratorRow; 52] = [
         number: 5,
         name: *b"modLfoToPitch             ",
         unit: Unit::Cents,
+        low: -12_000,
+        high: 12_000,
         range: *b"-12000..12000",
         default: DefaultAmount::Number(0),
         is_played: false,
@@ -162,6 +85,8 @@ pub(crate) static ROWS: [GeneratorRow; 52] = [
         number: 6,
         name: *b"vibLfoToPitch             ",
         unit: Unit::Cents,
+        low: -12_000,
+        high: 12_000,
         range: *b"-12000..12000",
         default: DefaultAmount::Number(0),
         is_played: false,
@@ -170,6 +95,8 @@ pub(crate) static ROWS: [GeneratorRow; 52] = [
         number: 7,
         name: *b"modEnvToPitch             ",
         unit: Unit::Cents,
+        low: -12_000,
+        high: 12_000,
         range: *b"-12000..12000",
         default: DefaultAmount::Number(0),
         is_played: false,
@@ -178,6 +105,8 @@ pub(crate) static ROWS: [GeneratorRow; 52] = [
         number: 8,
         name: *b"initialFilterFc           ",
         unit: Unit::AbsoluteCents,
+        low: 1500,
+        high: 13_500,
         range: *b"1500..13500  ",
         default: DefaultAmount::Number(13_500),
         is_played: false,
@@ -186,6 +115,8 @@ pub(crate) static ROWS: [GeneratorRow; 52] = [
         number: 9,
         name: *b"initialFilterQ            ",
         unit: Unit::Centibels,
+        low: 0,
+        high: 960,
         range: *b"0..960       ",
         default: DefaultAmount::Number(0),
         is_played: false,
@@ -194,6 +125,8 @@ pub(crate) static ROWS: [GeneratorRow; 52] = [
         number: 10,
         name: *b"modLfoToFilterFc          ",
         unit: Unit::Cents,
+        low: -12_000,
+        high: 12_000,
         range: *b"-12000..12000",
         default: DefaultAmount::Number(0),
         is_played: false,
@@ -202,6 +135,8 @@ pub(crate) static ROWS: [GeneratorRow; 52] = [
         number: 11,
         name: *b"modEnvToFilterFc          ",
         unit: Unit::Cents,
+        low: -12_000,
+        high: 12_000,
         range: *b"-12000..12000",
         default: DefaultAmount::Number(0),
         is_played: false,
@@ -210,6 +145,8 @@ pub(crate) static ROWS: [GeneratorRow; 52] = [
         number: 12,
         name: *b"endAddrsCoarseOffset      ",
         unit: Unit::PointBlocks,
+        low: i16::MIN,
+        high: 0,
         range: *b"..0          ",
         default: DefaultAmount::Number(0),
         is_played: true,
@@ -218,6 +155,8 @@ pub(crate) static ROWS: [GeneratorRow; 52] = [
         number: 13,
         name: *b"modLfoToVolume            ",
         unit: Unit::Centibels,
+        low: -960,
+        high: 960,
         range: *b"-960..960    ",
         default: DefaultAmount::Number(0),
         is_played: false,
@@ -226,6 +165,8 @@ pub(crate) static ROWS: [GeneratorRow; 52] = [
         number: 15,
         name: *b"chorusEffectsSend         ",
         unit: Unit::TenthsOfPercent,
+        low: 0,
+        high: 1000,
         range: *b"0..1000      ",
         default: DefaultAmount::Number(0),
         is_played: false,
@@ -234,6 +175,8 @@ pub(crate) static ROWS: [GeneratorRow; 52] = [
         number: 16,
         name: *b"reverbEffectsSend         ",
         unit: Unit::TenthsOfPercent,
+        low: 0,
+        high: 1000,
         range: *b"0..1000      ",
         default: DefaultAmount::Number(0),
         is_played: false,
@@ -242,6 +185,8 @@ pub(crate) static ROWS: [GeneratorRow; 52] = [
         number: 17,
         name: *b"pan                       ",
         unit: Unit::TenthsOfPercent,
+        low: -500,
+        high: 500,
         range: *b"-500..500    ",
         default: DefaultAmount::Number(0),
         is_played: true,
@@ -250,6 +195,8 @@ pub(crate) static ROWS: [GeneratorRow; 52] = [
         number: 21,
         name: *b"delayModLFO               ",
         unit: Unit::Timecents,
+        low: -12_000,
+        high: 5000,
         range: *b"-12000..5000 ",
         default: DefaultAmount::Number(-12_000),
         is_played: false,
@@ -258,6 +205,8 @@ pub(crate) static ROWS: [GeneratorRow; 52] = [
         number: 22,
         name: *b"freqModLFO                ",
         unit: Unit::AbsoluteCents,
+        low: -16_000,
+        high: 4500,
         range: *b"-16000..4500 ",
         default: DefaultAmount::Number(0),
         is_played: false,
@@ -266,6 +215,8 @@ pub(crate) static ROWS: [GeneratorRow; 52] = [
         number: 23,
         name: *b"delayVibLFO               ",
         unit: Unit::Timecents,
+        low: -12_000,
+        high: 5000,
         range: *b"-12000..5000 ",
         default: DefaultAmount::Number(-12_000),
         is_played: false,
@@ -274,6 +225,8 @@ pub(crate) static ROWS: [GeneratorRow; 52] = [
         number: 24,
         name: *b"freqVibLFO                ",
         unit: Unit::AbsoluteCents,
+        low: -16_000,
+        high: 4500,
         range: *b"-16000..4500 ",
         default: DefaultAmount::Number(0),
         is_played: false,
@@ -282,6 +235,8 @@ pub(crate) static ROWS: [GeneratorRow; 52] = [
         number: 25,
         name: *b"delayModEnv               ",
         unit: Unit::Timecents,
+        low: -12_000,
+        high: 5000,
         range: *b"-12000..5000 ",
         default: DefaultAmount::Number(-12_000),
         is_played: false,
@@ -290,6 +245,8 @@ pub(crate) static ROWS: [GeneratorRow; 52] = [
         number: 26,
         name: *b"attackModEnv              ",
         unit: Unit::Timecents,
+        low: -12_000,
+        high: 8000,
         range: *b"-12000..8000 ",
         default: DefaultAmount::Number(-12_000),
         is_played: false,
@@ -298,6 +255,8 @@ pub(crate) static ROWS: [GeneratorRow; 52] = [
         number: 27,
         name: *b"holdModEnv                ",
         unit: Unit::Timecents,
+        low: -12_000,
+        high: 5000,
         range: *b"-12000..5000 ",
         default: DefaultAmount::Number(-12_000),
         is_played: false,
@@ -306,6 +265,8 @@ pub(crate) static ROWS: [GeneratorRow; 52] = [
         number: 28,
         name: *b"decayModEnv               ",
         unit: Unit::Timecents,
+        low: -12_000,
+        high: 8000,
         range: *b"-12000..8000 ",
         default: DefaultAmount::Number(-12_000),
         is_played: false,
@@ -314,6 +275,8 @@ pub(crate) static ROWS: [GeneratorRow; 52] = [
         number: 29,
         name: *b"sustainModEnv             ",
         unit: Unit::TenthsOfPercent,
+        low: 0,
+        high: 1000,
         range: *b"0..1000      ",
         default: DefaultAmount::Number(0),
         is_played: false,
@@ -322,6 +285,8 @@ pub(crate) static ROWS: [GeneratorRow; 52] = [
         number: 30,
         name: *b"releaseModEnv             ",
         unit: Unit::Timecents,
+        low: -12_000,
+        high: 8000,
         range: *b"-12000..8000 ",
         default: DefaultAmount::Number(-12_000),
         is_played: false,
@@ -330,6 +295,8 @@ pub(crate) static ROWS: [GeneratorRow; 52] = [
         number: 31,
         name: *b"keynumToModEnvHold        ",
         unit: Unit::TimecentsPerKey,
+        low: -1200,
+        high: 1200,
         range: *b"-1200..1200  ",
         default: DefaultAmount::Number(0),
         is_played: false,
@@ -338,6 +305,8 @@ pub(crate) static ROWS: [GeneratorRow; 52] = [
         number: 32,
         name: *b"keynumToModEnvDecay       ",
         unit: Unit::TimecentsPerKey,
+        low: -1200,
+        high: 1200,
         range: *b"-1200..1200  ",
         default: DefaultAmount::Number(0),
         is_played: false,
@@ -346,6 +315,8 @@ pub(crate) static ROWS: [GeneratorRow; 52] = [
         number: 33,
         name: *b"delayVolEnv               ",
         unit: Unit::Timecents,
+        low: -12_000,
+        high: 5000,
         range: *b"-12000..5000 ",
         default: DefaultAmount::Number(-12_000),
         is_played: true,
@@ -354,6 +325,8 @@ pub(crate) static ROWS: [GeneratorRow; 52] = [
         number: 34,
         name: *b"attackVolEnv              ",
         unit: Unit::Timecents,
+        low: -12_000,
+        high: 8000,
         range: *b"-12000..8000 ",
         default: DefaultAmount::Number(-12_000),
         is_played: true,
@@ -362,6 +335,8 @@ pub(crate) static ROWS: [GeneratorRow; 52] = [
         number: 35,
         name: *b"holdVolEnv                ",
         unit: Unit::Timecents,
+        low: -12_000,
+        high: 5000,
         range: *b"-12000..5000 ",
         default: DefaultAmount::Number(-12_000),
         is_played: true,
@@ -370,6 +345,8 @@ pub(crate) static ROWS: [GeneratorRow; 52] = [
         number: 36,
         name: *b"decayVolEnv               ",
         unit: Unit::Timecents,
+        low: -12_000,
+        high: 8000,
         range: *b"-12000..8000 ",
         default: DefaultAmount::Number(-12_000),
         is_played: true,
@@ -378,6 +355,8 @@ pub(crate) static ROWS: [GeneratorRow; 52] = [
         number: 37,
         name: *b"sustainVolEnv             ",
         unit: Unit::Centibels,
+        low: 0,
+        high: 1440,
         range: *b"0..1440      ",
         default: DefaultAmount::Number(0),
         is_played: true,
@@ -386,6 +365,8 @@ pub(crate) static ROWS: [GeneratorRow; 52] = [
         number: 38,
         name: *b"releaseVolEnv             ",
         unit: Unit::Timecents,
+        low: -12_000,
+        high: 8000,
         range: *b"-12000..8000 ",
         default: DefaultAmount::Number(-12_000),
         is_played: true,
@@ -394,6 +375,8 @@ pub(crate) static ROWS: [GeneratorRow; 52] = [
         number: 39,
         name: *b"keynumToVolEnvHold        ",
         unit: Unit::TimecentsPerKey,
+        low: -1200,
+        high: 1200,
         range: *b"-1200..1200  ",
         default: DefaultAmount::Number(0),
         is_played: false,
@@ -402,6 +385,8 @@ pub(crate) static ROWS: [GeneratorRow; 52] = [
         number: 40,
         name: *b"keynumToVolEnvDecay       ",
         unit: Unit::TimecentsPerKey,
+        low: -1200,
+        high: 1200,
         range: *b"-1200..1200  ",
         default: DefaultAmount::Number(0),
         is_played: false,
@@ -410,6 +395,8 @@ pub(crate) static ROWS: [GeneratorRow; 52] = [
         number: 41,
         name: *b"instrument                ",
         unit: Unit::Instrument,
+        low: 0,
+        high: i16::MAX,
         range: *b"0..          ",
         default: DefaultAmount::Nothing,
         is_played: true,
@@ -418,6 +405,8 @@ pub(crate) static ROWS: [GeneratorRow; 52] = [
         number: 43,
         name: *b"keyRange                  ",
         unit: Unit::Keys,
+        low: 0,
+        high: 127,
         range: *b"0..127       ",
         default: DefaultAmount::WholeRange,
         is_played: true,
@@ -426,6 +415,8 @@ pub(crate) static ROWS: [GeneratorRow; 52] = [
         number: 44,
         name: *b"velRange                  ",
         unit: Unit::Velocities,
+        low: 0,
+        high: 127,
         range: *b"0..127       ",
         default: DefaultAmount::WholeRange,
         is_played: true,
@@ -434,6 +425,8 @@ pub(crate) static ROWS: [GeneratorRow; 52] = [
         number: 45,
         name: *b"startloopAddrsCoarseOffset",
         unit: Unit::PointBlocks,
+        low: i16::MIN,
+        high: i16::MAX,
         range: *b"any          ",
         default: DefaultAmount::Number(0),
         is_played: true,
@@ -442,6 +435,8 @@ pub(crate) static ROWS: [GeneratorRow; 52] = [
         number: 46,
         name: *b"keynum                    ",
         unit: Unit::Keys,
+        low: 0,
+        high: 127,
         range: *b"0..127       ",
         default: DefaultAmount::Number(-1),
         is_played: true,
@@ -450,6 +445,8 @@ pub(crate) static ROWS: [GeneratorRow; 52] = [
         number: 47,
         name: *b"velocity                  ",
         unit: Unit::Velocities,
+        low: 0,
+        high: 127,
         range: *b"0..127       ",
         default: DefaultAmount::Number(-1),
         is_played: true,
@@ -458,6 +455,8 @@ pub(crate) static ROWS: [GeneratorRow; 52] = [
         number: 48,
         name: *b"initialAttenuation        ",
         unit: Unit::Centibels,
+        low: 0,
+        high: 1440,
         range: *b"0..1440      ",
         default: DefaultAmount::Number(0),
         is_played: true,
@@ -466,6 +465,8 @@ pub(crate) static ROWS: [GeneratorRow; 52] = [
         number: 50,
         name: *b"endloopAddrsCoarseOffset  ",
         unit: Unit::PointBlocks,
+        low: i16::MIN,
+        high: i16::MAX,
         range: *b"any          ",
         default: DefaultAmount::Number(0),
         is_played: true,
@@ -474,6 +475,8 @@ pub(crate) static ROWS: [GeneratorRow; 52] = [
         number: 51,
         name: *b"coarseTune                ",
         unit: Unit::Semitones,
+        low: -120,
+        high: 120,
         range: *b"-120..120    ",
         default: DefaultAmount::Number(0),
         is_played: true,
@@ -482,6 +485,8 @@ pub(crate) static ROWS: [GeneratorRow; 52] = [
         number: 52,
         name: *b"fineTune                  ",
         unit: Unit::Cents,
+        low: -99,
+        high: 99,
         range: *b"-99..99      ",
         default: DefaultAmount::Number(0),
         is_played: true,
@@ -490,6 +495,8 @@ pub(crate) static ROWS: [GeneratorRow; 52] = [
         number: 53,
         name: *b"sampleID                  ",
         unit: Unit::Sample,
+        low: 0,
+        high: i16::MAX,
         range: *b"0..          ",
         default: DefaultAmount::Nothing,
         is_played: true,
@@ -498,6 +505,8 @@ pub(crate) static ROWS: [GeneratorRow; 52] = [
         number: 54,
         name: *b"sampleModes               ",
         unit: Unit::Mode,
+        low: 0,
+        high: 3,
         range: *b"0..3         ",
         default: DefaultAmount::Number(0),
         is_played: true,
@@ -506,6 +515,8 @@ pub(crate) static ROWS: [GeneratorRow; 52] = [
         number: 56,
         name: *b"scaleTuning               ",
         unit: Unit::CentsPerKey,
+        low: 0,
+        high: 1200,
         range: *b"0..1200      ",
         default: DefaultAmount::Number(100),
         is_played: true,
@@ -514,6 +525,8 @@ pub(crate) static ROWS: [GeneratorRow; 52] = [
         number: 57,
         name: *b"exclusiveClass            ",
         unit: Unit::Class,
+        low: 0,
+        high: 127,
         range: *b"0..127       ",
         default: DefaultAmount::Number(0),
         is_played: true,
@@ -522,6 +535,8 @@ pub(crate) static ROWS: [GeneratorRow; 52] = [
         number: 58,
         name: *b"overridingRootKey         ",
         unit: Unit::Keys,
+        low: 0,
+        high: 127,
         range: *b"0..127       ",
         default: DefaultAmount::Number(-1),
         is_played: true,

@@ -1,4 +1,4 @@
--- The rows of the generators follow the rules of edits and of the sound.
+-- The rows of the table follow the rules of edits and of the sound, and their ranges are two numbers in a text.
 use Rattle.std.specs.Prelude.{◌≡◌, ◌==◌, ◌||◌, ℕ, ℤ, Bool, Option, Some, None, if◌then◌else◌, filter, map}
 use Rattle.std.specs.List.{range_with_len}
 use Rattle.std.specs.Option.{is_some}
@@ -6,10 +6,11 @@ use Rattle.generators.specs.declared.level.Level.TheVariants.{Preset, Inst}
 use Rattle.generators.specs.Defaults.{default_of}
 use Rattle.generators.specs.Levels.{is_allowed, target_operator}
 use Rattle.generators.specs.Ranges.{is_range_operator}
-use Rattle.program_explanations.specs.declared.generator_rows.DefaultAmount.{DefaultAmount}
-use Rattle.program_explanations.specs.declared.generator_rows.DefaultAmount.TheVariants.{Number, WholeRange, Nothing}
-use Rattle.program_explanations.specs.declared.generator_rows.GeneratorRow.{GeneratorRow}
-use Rattle.program_explanations.specs.declared.generator_rows.TheConstants.{ROWS}
+use Rattle.generator_rows.specs.declared.row.DefaultAmount.{DefaultAmount}
+use Rattle.generator_rows.specs.declared.row.DefaultAmount.TheVariants.{Number, WholeRange, Nothing}
+use Rattle.generator_rows.specs.declared.row.GeneratorRow.{GeneratorRow}
+use Rattle.generator_rows.specs.declared.rows.TheConstants.{ROWS}
+use Rattle.generator_rows.specs.Rows.{range_text, without_blanks}
 
 -- the operator of a zone's target
 abbrev pub is_target : ℕ → Bool
@@ -43,3 +44,7 @@ abbrev pub RowsShowPlayed : Type 0
 RowsShowPlayed =
     map (λ row. row.is_played) ROWS
     ≡ map (λ row. is_some (default_of row.number) || is_range_operator row.number || is_target row.number) ROWS
+
+-- the text of each range has its two numbers
+abbrev pub RowsShowRanges : Type 0
+RowsShowRanges = map (λ row. without_blanks row.range) ROWS ≡ map (λ row. range_text row.low row.high) ROWS
