@@ -7,4 +7,4 @@ mod row;
 mod rows;
 
 pub use row::{DefaultAmount, GeneratorRow, NAME_LENGTH, RANGE_LENGTH, Unit};
-pub use rows::{row_of, usable_generators};
+pub use rows::{ROWS, row_of, usable_generators};

@@ -20,7 +20,7 @@ pub fn row_of(operator: u16) -> Option<&'static GeneratorRow>
 }
 
 /// The rows of the table, in the order of their numbers.
-pub(crate) static ROWS: [GeneratorRow; 52] = [
+pub static ROWS: [GeneratorRow; 52] = [
     GeneratorRow {
         number: 0,
         name: *b"startAddrsOffset          ",
