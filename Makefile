@@ -4,9 +4,10 @@
 .PHONY: build lib demo test bench clean install install-lib uninstall deb deb-lib build/x86-64-v2/sfbank \
   build/x86-64-v2/libsfbank.a
 
-# `make install` copies the program, its pages, its completions and the examples below DESTDIR and PREFIX.
+# `make install` copies the program, its pages, its completions and the examples below DESTDIR and PREFIX, and the
+# library for C if it is built.
 PREFIX = /usr/local
-# A program to install or to pack, and a library to install, instead of the built ones.
+# A program to install or to pack, and a library to install, instead of the built ones; `none` installs no library.
 PROGRAM =
 LIBRARY =
 BIN = $(DESTDIR)$(PREFIX)/bin
@@ -41,7 +42,7 @@ clean:
 	@scripts/build --clean
 	rm -rf build crates/*/out
 
-install: $(or $(PROGRAM),build/sfbank)
+install: $(or $(PROGRAM),build/sfbank) $(if $(filter-out none,$(or $(LIBRARY),$(wildcard build/libsfbank.a))),install-lib)
 	install -D -m 755 "$<" "$(BIN)/sfbank"
 	install -D -m 755 scripts/notes_of_midi "$(BIN)/sfbank-notes-of-midi"
 	install -D -m 755 scripts/sfbank-keys "$(BIN)/sfbank-keys"
