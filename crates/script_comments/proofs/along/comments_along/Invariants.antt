@@ -1,0 +1,7 @@
+use Rattle.std.proofs.Common.{drop}
+use Rattle.script_comments.proofs.AlongLaws.{Going}
+use Rattle.script_comments.proofs.along.comments_along.Given as goal
+
+-- the comments of the edits so far are kept
+abbrev pub invariant-loop-edit : goal.invariant-loop-edit
+invariant-loop-edit l = Going l.fn.bank l.bank l.edits (drop l.edit-index l.edits) l.comments
