@@ -1,6 +1,6 @@
 -- The points of a channel, frame by frame.
 use Rattle.std.proofs.Common.{◌≡◌, ◌≤◌, ◌<◌, ◌+◌, ◌-◌, ◌*◌, ◌/◌, ◌%◌, ◌^◌, ℕ, zero, suc, List, [], ◌∷◌, ◌++◌}
-use Rattle.std.proofs.Common.{length, take, drop, Bool, true, false, pos, neg_ℤ, refl, ap, sym, ◌∙◌, inl, inr, arith}
+use Rattle.std.proofs.Common.{length, take, drop, get_or, Bool, true, false, pos, neg_ℤ, refl, ap, sym, ◌∙◌, inl, inr, arith}
 use Rattle.std.specs.Prelude.{All, min}
 use Rattle.byteorder.specs.Endian.{little_number}
 use Rattle.std.specs.List.{flat_map}
@@ -31,6 +31,12 @@ sixteen_bits n h = elim (cases_lt (2 * n) 65536) as (λ _. cast_unsigned w16 (po
       rw (le-ltb (2 * n) 65536 high, exact) (omega (arith, h)))
 ]
 
+sixteen_word : (low high : ℕ) → low < 256 → high < 256 → point_word Signed16 (low ∷ high ∷ []) ≡ low + 256 * high
+sixteen_word low high low_fits high_fits =
+    let number : little_number 2 (low ∷ high ∷ []) ≡ low + 256 * high = omega arith in
+    ap (λ (n : ℕ). cast_unsigned w16 (point_of (integer_fraction 16 n))) number
+    ∙ sixteen_bits (low + 256 * high) (omega (arith, low_fits, high_fits))
+
 sixteen_frames : (n : ℕ) (bytes : List ℕ) → All (λ b. b < 256) bytes → length bytes ≡ 2 * n
     → first_records 2 (λ frame. point_word Signed16 (sample_in 2 0 frame)) n bytes ≡ words bytes
 unfolding words
@@ -39,17 +45,35 @@ sixteen_frames zero (low ∷ rest) a e = absurd (omega (arith, e))
 sixteen_frames (suc n) [] a e = absurd (omega (arith, e))
 sixteen_frames (suc n) (low ∷ []) a e = absurd (omega (arith, e))
 sixteen_frames (suc n) (low ∷ high ∷ rest) a e =
-    let low_fits : low < 256 = a 0 0 (omega arith) in
-    let high_fits : high < 256 = a 1 0 (omega arith) in
-    let number : little_number 2 (low ∷ high ∷ []) ≡ low + 256 * high = omega arith in
-    let first : point_word Signed16 (low ∷ high ∷ []) ≡ low + 256 * high =
-    ap (λ (n : ℕ). cast_unsigned w16 (point_of (integer_fraction 16 n))) number
-    ∙ sixteen_bits (low + 256 * high) (omega arith) in
+    let first = sixteen_word low high (a 0 0 (omega arith)) (a 1 0 (omega arith)) in
     let others : All (λ b. b < 256) rest = λ j d h. a (suc (suc j)) d (omega arith) in
     λ i. first i ∷ sixteen_frames n rest others (omega (arith, e)) i
 
 pub sixteen_bits_stay : SixteenBitsStay
 sixteen_bits_stay bytes a e = sixteen_frames (length bytes / 2) bytes a (omega (arith, e))
+
+-- The bytes of the points of whole frames are the bytes of these frames.
+sixteen_bytes : (n : ℕ) (bytes : List ℕ) → ((k : ℕ) → get_or bytes k 0 < 256) → n * 2 ≤ length bytes
+    → flat_map word_bytes (first_records 2 (λ frame. point_word Signed16 (sample_in 2 0 frame)) n bytes)
+    ≡ take (n * 2) bytes
+unfolding word_bytes
+sixteen_bytes zero bytes a h = refl
+sixteen_bytes (suc n) [] a h = absurd (omega (arith, h))
+sixteen_bytes (suc n) (low ∷ []) a h = absurd (omega (arith, h))
+sixteen_bytes (suc n) (low ∷ high ∷ rest) a h =
+    let low_fits = a 0 in
+    let first = sixteen_word low high low_fits (a 1) in
+    let lower : (low + 256 * high) % 256 ≡ low = omega (arith, low_fits) in
+    let higher : (low + 256 * high) / 256 ≡ high = omega (arith, low_fits) in
+    let two : suc (suc (n * 2)) ≡ suc n * 2 = omega arith in
+    (λ i. (ap (λ (w : ℕ). w % 256) first ∙ lower) i
+    ∷ (ap (λ (w : ℕ). w / 256) first ∙ higher) i
+    ∷ sixteen_bytes n rest (λ k. a (suc (suc k))) (omega (arith, h)) i)
+    ∙ ap (λ (m : ℕ). take m (low ∷ high ∷ rest)) two
+
+pub whole_bytes : (bytes : List ℕ) → ((k : ℕ) → get_or bytes k 0 < 256)
+    → take (length bytes / 2 * 2) bytes ≡ flat_map word_bytes (channel_words Signed16 1 0 bytes)
+whole_bytes bytes a = sym (sixteen_bytes (length bytes / 2) bytes a (omega arith))
 
 word_bytes_fit : (ws : List ℕ) → AreWords ws → All (λ b. b < 256) (flat_map word_bytes ws)
 unfolding word_bytes

@@ -3,3 +3,4 @@ pub mod FloatLaws
 pub mod ChannelLaws
 pub mod OffsetLaws
 pub mod DitherLaws
+pub mod BlockLaws

@@ -1,4 +1,5 @@
 pub mod Samples
 pub mod Points
 pub mod Dither
+pub mod Blocks
 pub mod Laws

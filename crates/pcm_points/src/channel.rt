@@ -1,12 +1,14 @@
 //! The points of one channel of interleaved frames.
-ghost use Rattle.std.specs.Prelude.{◌≡◌, ◌+◌, ◌<◌, ◌≤◌, ◌++◌, length, IfOk};
+ghost use Rattle.std.specs.Prelude.{◌≡◌, ◌+◌, ◌*◌, ◌/◌, ◌<◌, ◌≤◌, ◌++◌, length, IfOk};
 ghost use Rattle.std.specs.List.{flat_map};
 ghost use Rattle.std.specs.Vec.{vec_len, vec_capacity};
 ghost use Rattle.sample_view.specs.Words.{word_bytes};
+ghost use Rattle.pcm_points.specs.declared.encoding.SampleEncoding.TheVariants.{Signed16};
 ghost use Rattle.pcm_points.specs.Samples.{size_of};
 ghost use Rattle.pcm_points.specs.Points.{point_word, channel_words};
 ghost use Rattle.pcm_points.specs.Dither.{reduced_words};
 
+use crate::blocks::put_blocks;
 use crate::dither::dithered_points;
 use crate::encoding::SampleEncoding;
 use crate::rounding::point;
@@ -55,18 +57,70 @@ fn nearest_points(
     ensures { IfOk result
         (λ points. points.items ≡ flat_map word_bytes (channel_words encoding channels channel bytes.now)) }
 {
+    match (encoding, channels) {
+        (SampleEncoding::Signed16, 1) => whole_points(alloc, bytes),
+        _ => rounded_points(alloc, bytes, encoding, channels, channel),
+    }
+}
+
+// The points of 16-bit samples of one channel, which are those samples.
+fn whole_points(alloc: Global, bytes: &[u8]) -> Result<Vec<u8>, OutOfMemory>
+    ensures { IfOk result (λ points. points.items ≡ flat_map word_bytes (channel_words Signed16 1 0 bytes.now)) }
+{
+    let whole = bytes.len() / POINT_SIZE * POINT_SIZE;
+    Ok(Vec::from_slice(alloc, &bytes[..whole])?)
+}
+
+// The points of samples that may have to be rounded.
+fn rounded_points(
+    alloc: Global,
+    bytes: &[u8],
+    encoding: SampleEncoding,
+    channels: usize,
+    channel: usize,
+) -> Result<Vec<u8>, OutOfMemory>
+    requires channel { channel < channels }
+    requires count { channels ≤ 65535 }
+    ensures { IfOk result
+        (λ points. points.items ≡ flat_map word_bytes (channel_words encoding channels channel bytes.now)) }
+{
+    let mut points = Vec::with_capacity(
+        alloc,
+        bytes.len() / (channels * encoding.size()) * POINT_SIZE,
+    )?;
+    let rest = if encoding.is_integer() {
+        put_blocks(&mut points, bytes, encoding, channels, channel)
+    } else {
+        bytes
+    };
+    put_frames(&mut points, rest, encoding, channels, channel);
+    Ok(points)
+}
+
+// Appends the points of all whole frames, one by one, to a vector with room for them.
+fn put_frames(
+    points: &mut Vec<u8>,
+    bytes: &[u8],
+    encoding: SampleEncoding,
+    channels: usize,
+    channel: usize,
+)
+    requires channel { channel < channels }
+    requires count { channels ≤ 65535 }
+    requires room { vec_len points.old + length bytes.now / (channels * size_of encoding) * 2 ≤ vec_capacity points.old }
+    ensures { points.new.items
+        ≡ points.old.items ++ flat_map word_bytes (channel_words encoding channels channel bytes.now) }
+{
     let size = encoding.size();
     let frame_size = channels * size;
     let offset = channel * size;
-    let mut points = Vec::with_capacity(alloc, bytes.len() / frame_size * POINT_SIZE)?;
     let mut rest = bytes;
     while frame_size <= rest.len() {
         let (frame, others) = rest.split_at(frame_size);
         let word = point_word(encoding, &frame[offset..offset + size]);
-        put_word(&mut points, word);
+        put_word(points, word);
         rest = others;
     }
-    Ok(points)
 }
 
 // The point of a sample, as the unsigned word of its bits.

@@ -1,6 +1,7 @@
 //! How samples are encoded.
 ghost use Rattle.std.specs.Prelude.{◌≡◌, ◌<◌, ◌≤◌};
 ghost use Rattle.pcm_points.specs.Samples.{size_of};
+ghost use Rattle.pcm_points.specs.Blocks.{is_integer, shift_of, bias_of};
 
 /// How a PCM sample is encoded, little-endian: the kind of its number and its width in bits.
 #[derive(Clone, Copy, Debug, PartialEq, Eq)]
@@ -27,6 +28,39 @@ impl SampleEncoding {
             SampleEncoding::Signed16 => 2,
             SampleEncoding::Signed24 => 3,
             SampleEncoding::Signed32 | SampleEncoding::Float32 => 4,
+        }
+    }
+
+    // Whether samples are integers.
+    pub(crate) fn is_integer(self) -> bool
+        ensures { result ≡ is_integer self }
+    {
+        match self {
+            SampleEncoding::Float32 => false,
+            _ => true,
+        }
+    }
+
+    // The bits of a number of 32 bits above those of a sample.
+    pub(crate) fn shift(self) -> u32
+        ensures value { result ≡ shift_of self }
+        ensures bound { result < 32 }
+    {
+        match self {
+            SampleEncoding::Unsigned8 => 24,
+            SampleEncoding::Signed16 => 16,
+            SampleEncoding::Signed24 => 8,
+            SampleEncoding::Signed32 | SampleEncoding::Float32 => 0,
+        }
+    }
+
+    // What makes such a number signed.
+    pub(crate) fn bias(self) -> u32
+        ensures { result ≡ bias_of self }
+    {
+        match self {
+            SampleEncoding::Unsigned8 => 0x8000_0000,
+            _ => 0,
         }
     }
 }

@@ -5,6 +5,7 @@
 //! everywhere.
 #![tactic(auto)]
 
+mod blocks;
 mod channel;
 mod dither;
 mod encoding;

@@ -1,8 +1,13 @@
-use Rattle.std.proofs.Common.{◌≡◌, ◌<◌, ◌+◌, ◌-◌, ◌*◌, ◌/◌, ℕ, List, ◌++◌, length, take, drop, ap, sym, ◌∙◌, append-nil}
+use Rattle.std.proofs.Common.{◌≡◌, ◌<◌, ◌+◌, ◌-◌, ◌*◌, ◌/◌, ℕ, List, ◌++◌, length, take, drop, refl, ap, sym, ◌∙◌, append-nil}
 use Rattle.std.proofs.Common.{mul-pos, arith}
 use Rattle.pcm_points.specs.Points.{point_word}
 use Rattle.pcm_points.proofs.ChannelLaws.{no_frame, after_frame, fewer_frames}
-use Rattle.pcm_points.proofs.channel.nearest_points.Goals as goal
+use Rattle.pcm_points.proofs.channel.put_frames.Goals as goal
+
+pub loop-rest-init : goal.loop-rest-init
+loop-rest-init c =
+    let size = c.size-size.ensures.value in
+    record { all = refl; room = rw size c.requires.room }
 
 pub loop-rest-preserved : goal.loop-rest-preserved
 loop-rest-preserved c =
