@@ -1,11 +1,11 @@
 -- Blocks of samples, lane by lane and frame by frame.
 use Rattle.std.proofs.Common.{◌≡◌, ◌≤◌, ◌<◌, ◌+◌, ◌-◌, ◌*◌, ◌/◌, ◌%◌, ◌^◌, ℕ, zero, suc, List, [], ◌∷◌, ◌++◌, map, Bool}
-use Rattle.std.proofs.Common.{length, take, drop, get_or, replicate, true, false, cond, eqb, pos, neg_ℤ, refl, ap, sym}
+use Rattle.std.proofs.Common.{length, take, drop, get_or, replicate, true, false, cond, ltb, pos, neg_ℤ, refl, ap, sym}
 use Rattle.std.proofs.Common.{◌∙◌, inl, inr, w16, w32, Fits, arith}
 use Rattle.std.specs.Prelude.{min}
 use Rattle.std.specs.Int.{cast_unsigned}
 use Rattle.std.specs.List.{flat_map, range_with_len}
-use Rattle.std.proofs.lemmas.Bool.{cases_lt, lt-ltb, le-ltb, eqb-false, eqb-true, false≢true}
+use Rattle.std.proofs.lemmas.Bool.{cases_lt, lt-ltb, le-ltb, ltb-true, ltb-false, false≢true}
 use Rattle.std.proofs.lemmas.List.{append_assoc, length-drop, drop-drop, drop-take, get_or-drop, take_rest}
 use Rattle.std.proofs.lemmas.Grind.{flat_map-append}
 use Rattle.std.proofs.Math.Nat.{mul_comm, mul_assoc, mul-le-mul_right, suc-mul, add-mul, zero-mul, add-mul-div_left}
@@ -24,54 +24,63 @@ use Rattle.pcm_points.proofs.NearestLaws.{nearest-higher}
 
 -- ---- a lane
 
-abbrev half_of : ℕ → ℕ
-half_of x = cond (top 31 (cond (eqb (x / 2 ^ 15) 65535) (2 ^ 32 - 1) 0)) 0 32768
+-- the word of a number in two's complement
+abbrev plain_word : ℕ → ℕ
+plain_word n = cast_unsigned w16 (point_of (integer_fraction 32 n))
 
-abbrev rounded_of : ℕ → ℕ
-rounded_of x = ((x + half_of x) % 2 ^ 32 + (2 ^ 32 - x / 2 ^ 31)) % 2 ^ 32
+-- the less of two numbers, as vectors compute it
+abbrev least_of : ℕ → ℕ → ℕ
+least_of a b = cond (top 31 (cond (ltb a b) (2 ^ 32 - 1) 0)) a b
+
+least_is : (a b : ℕ) → least_of a b ≡ min a b
+least_is a b = by_test (ltb a b) refl
+  where
+    by_test : (t : Bool) → ltb a b ≡ t → cond (top 31 (cond t (2 ^ 32 - 1) 0)) a b ≡ min a b
+    by_test true e = let less = ltb-true a b e in omega (arith, less)
+    by_test false e = let more = ltb-false a b e in omega (arith, more)
+
+-- the greatest number that is rounded to a point
+abbrev greatest : ℕ
+greatest = 2 ^ 32 - 2 ^ 15 - 1
+
+-- the point of a number x from the least point on, where the less of x and the greatest number is m
+abbrev offset_of : ℕ → ℕ → ℕ
+offset_of x m = ((m + 32767) % 2 ^ 32 + x / 2 ^ 31) % 2 ^ 32 / 2 ^ 16
+
+abbrev word_of : ℕ → ℕ
+word_of x = (offset_of x (min x greatest) + 32768) % 2 ^ 16
 
 -- a number that isn't negative
-up_word : (x : ℕ) → x < 2 ^ 31 → cast_unsigned w16 (pos (min (nearest (2 ^ 16 * x) (2 ^ 32)) 32767)) ≡ min ((x + 32768) / 65536) 32767
+up_word : (x : ℕ) → x < 2 ^ 31
+    → cast_unsigned w16 (pos (min (nearest (2 ^ 16 * x) (2 ^ 32)) 32767)) ≡ min ((x + 32768) / 65536) 32767
 up_word x h = omega (arith, h)
 
 -- the magnitude of a negative one
 down_word : (m : ℕ) → 0 < m → m ≤ 2 ^ 31
-    → cast_unsigned w16 (neg_ℤ (pos (min (nearest (2 ^ 16 * m) (2 ^ 32)) 32768))) ≡ (65536 - (m + 32768) / 65536) % 65536
+    → cast_unsigned w16 (neg_ℤ (pos (min (nearest (2 ^ 16 * m) (2 ^ 32)) 32768)))
+    ≡ (65536 - (m + 32768) / 65536) % 65536
 down_word m some h = word (min (nearest (2 ^ 16 * m) (2 ^ 32)) 32768) (omega (arith, h))
   where
     word : (q : ℕ) → q ≡ (m + 32768) / 65536 → cast_unsigned w16 (neg_ℤ (pos q)) ≡ (65536 - (m + 32768) / 65536) % 65536
     word zero e = omega (arith, e)
     word (suc q) e = omega (arith, e, h)
 
-lane_up : (x : ℕ) → x < 2 ^ 31 → rounded_of x / 2 ^ 16 ≡ min ((x + 32768) / 65536) 32767
-lane_up x h = by_half (eqb (x / 2 ^ 15) 65535) refl
+lane : (x : ℕ) → x < 2 ^ 32 → (offset_of x (least_of x greatest) + 32768) % 2 ^ 16 ≡ number_word x
+lane x fits =
+    ap (λ (m : ℕ). (offset_of x m + 32768) % 2 ^ 16) (least_is x greatest)
+    ∙ by_half ((x + 2 ^ 31) % 2 ^ 32) refl
   where
-    by_half : (b : Bool) → eqb (x / 2 ^ 15) 65535 ≡ b
-        → ((x + cond (top 31 (cond b (2 ^ 32 - 1) 0)) 0 32768) % 2 ^ 32 + (2 ^ 32 - x / 2 ^ 31)) % 2 ^ 32 / 2 ^ 16
-        ≡ min ((x + 32768) / 65536) 32767
-    by_half true e = let full = eqb-true (x / 2 ^ 15) 65535 e in omega (arith, h, full)
-    by_half false e = let other = eqb-false (x / 2 ^ 15) 65535 e in omega (arith, h, other)
-
-lane_down : (x : ℕ) → x < 2 ^ 32 → 2 ^ 31 ≤ x
-    → rounded_of x / 2 ^ 16 ≡ (65536 - (2 ^ 32 - x + 32768) / 65536) % 65536
-lane_down x fits h = by_half (eqb (x / 2 ^ 15) 65535) refl
-  where
-    by_half : (b : Bool) → eqb (x / 2 ^ 15) 65535 ≡ b
-        → ((x + cond (top 31 (cond b (2 ^ 32 - 1) 0)) 0 32768) % 2 ^ 32 + (2 ^ 32 - x / 2 ^ 31)) % 2 ^ 32 / 2 ^ 16
-        ≡ (65536 - (2 ^ 32 - x + 32768) / 65536) % 65536
-    by_half true e = let full = eqb-true (x / 2 ^ 15) 65535 e in absurd (omega (arith, h, full))
-    by_half false e = omega (arith, h, fits)
-
-lane : (x : ℕ) → x < 2 ^ 32 → rounded_of x / 2 ^ 16 ≡ number_word x
-lane x fits = elim (cases_lt (2 * x) (2 ^ 32)) as (λ _. rounded_of x / 2 ^ 16 ≡ number_word x) [
-  | inl low ↦ (
-      rw (lt-ltb (2 * x) (2 ^ 32) low)
-      (lane_up x (omega (arith, low)) ∙ sym (up_word x (omega (arith, low)))))
-  | inr high ↦ (
-      rw (le-ltb (2 * x) (2 ^ 32) high)
-      (lane_down x fits (omega (arith, high))
-      ∙ sym (down_word (2 ^ 32 - x) (omega (arith, fits)) (omega (arith, high)))))
-]
+    by_half : (n : ℕ) → (x + 2 ^ 31) % 2 ^ 32 ≡ n → word_of x ≡ plain_word n
+    by_half n e = elim (cases_lt (2 * n) (2 ^ 32)) as (λ _. word_of x ≡ plain_word n) [
+      | inl low ↦ (
+          let up : word_of x ≡ min ((n + 32768) / 65536) 32767 = omega (arith, fits, e, low) in
+          rw (lt-ltb (2 * n) (2 ^ 32) low) (up ∙ sym (up_word n (omega (arith, low)))))
+      | inr high ↦ (
+          let down : word_of x ≡ (65536 - (2 ^ 32 - n + 32768) / 65536) % 65536 =
+          omega (arith, fits, e, high) in
+          rw (le-ltb (2 * n) (2 ^ 32) high)
+          (down ∙ sym (down_word (2 ^ 32 - n) (omega (arith, fits, e)) (omega (arith, high)))))
+    ]
 
 -- ---- all lanes
 
@@ -81,28 +90,30 @@ pub aligned_lanes : (shift bias n : ℕ) (xs : List ℕ) → length xs ≡ n
 aligned_lanes shift bias zero [] e = refl
 aligned_lanes shift bias zero (x ∷ xs) e = absurd (omega (arith, e))
 aligned_lanes shift bias (suc n) [] e = absurd (omega (arith, e))
-aligned_lanes shift bias (suc n) (x ∷ xs) e = λ i. aligned shift bias x ∷ aligned_lanes shift bias n xs (omega (arith, e)) i
+aligned_lanes shift bias (suc n) (x ∷ xs) e =
+    λ i. aligned shift bias x ∷ aligned_lanes shift bias n xs (omega (arith, e)) i
 
 abbrev shifted : ℕ → List ℕ → List ℕ
 shifted n xs =
-    let halves = zip2 (λ a b. a / 2 ^ b) xs (replicate n 15) in
-    let is_clipped = map (top 31) (zip2 (λ a b. cond (eqb a b) (2 ^ 32 - 1) 0) halves (replicate n 65535)) in
-    let sums = zip2 (λ a b. (a + b) % 2 ^ 32) xs (sel_l is_clipped (replicate n 0) (replicate n 32768)) in
-    zip2 (λ a b. a / 2 ^ b) (zip2 (λ a b. (a + (2 ^ 32 - b)) % 2 ^ 32) sums (zip2 (λ a b. a / 2 ^ b) xs (replicate n 31)))
-    (replicate n 16)
+    let bound = replicate n greatest in
+    let is_below = map (top 31) (zip2 (λ a b. cond (ltb a b) (2 ^ 32 - 1) 0) xs bound) in
+    let clipped = sel_l is_below xs bound in
+    let halves = zip2 (λ a b. (a + b) % 2 ^ 32) clipped (replicate n 32767) in
+    let is_above = zip2 (λ a b. a / 2 ^ b) xs (replicate n 31) in
+    zip2 (λ a b. a / 2 ^ b) (zip2 (λ a b. (a + b) % 2 ^ 32) halves is_above) (replicate n 16)
 
 pub shifted_fit : (n : ℕ) (xs : List ℕ) → length xs ≡ n → Each1 (Fits w16) (shifted n xs)
 shifted_fit zero [] e = tt
 shifted_fit zero (x ∷ xs) e = absurd (omega (arith, e))
 shifted_fit (suc n) [] e = absurd (omega (arith, e))
 shifted_fit (suc n) (x ∷ xs) e =
-    (bound ((x + half_of x) % 2 ^ 32 + (2 ^ 32 - x / 2 ^ 31)), shifted_fit n xs (omega (arith, e)))
+    (bound ((least_of x greatest + 32767) % 2 ^ 32 + x / 2 ^ 31), shifted_fit n xs (omega (arith, e)))
   where
     bound : (a : ℕ) → Fits w16 (a % 2 ^ 32 / 2 ^ 16)
     bound a = record { fits = omega arith }
 
 pub word_lanes : (n : ℕ) (xs : List ℕ) → length xs ≡ n → Each1 (Fits w32) xs
-    → map (λ a. a) (shifted n xs) ≡ map number_word xs
+    → zip2 (λ a b. (a + b) % 2 ^ 16) (map (λ a. a) (shifted n xs)) (replicate n 32768) ≡ map number_word xs
 word_lanes zero [] e h = refl
 word_lanes zero (x ∷ xs) e h = absurd (omega (arith, e))
 word_lanes (suc n) [] e h = absurd (omega (arith, e))
@@ -111,7 +122,9 @@ word_lanes (suc n) (x ∷ xs) e h = λ i. lane x h.0.fits i ∷ word_lanes n xs 
 -- ---- the bytes of words
 
 next_bytes : (w r : ℕ) → w < 2 ^ 16
-    → ((w + 2 ^ 16 * r) % 2 ^ 8 ≡ w % 256) × ((w + 2 ^ 16 * r) / 2 ^ 8 % 2 ^ 8 ≡ w / 256) × ((w + 2 ^ 16 * r) / 2 ^ 8 / 2 ^ 8 ≡ r)
+    → ((w + 2 ^ 16 * r) % 2 ^ 8 ≡ w % 256)
+    × ((w + 2 ^ 16 * r) / 2 ^ 8 % 2 ^ 8 ≡ w / 256)
+    × ((w + 2 ^ 16 * r) / 2 ^ 8 / 2 ^ 8 ≡ r)
 next_bytes w r h = (omega (arith, h), omega (arith, h), omega (arith, h))
 
 abbrev twice : ℕ → ℕ
@@ -134,10 +147,10 @@ bytes_of_lanes (suc n) (w ∷ ws) e h =
 
 -- n of `width` bits, in units of which k fill it up to 32 bits
 scaled : (width k n : ℕ) → 2 ^ width * k ≡ 2 ^ 32 → 0 < k → n < 2 ^ width
-    → number_word (n * k) ≡ cast_unsigned w16 (point_of (integer_fraction width n))
+    → plain_word (n * k) ≡ cast_unsigned w16 (point_of (integer_fraction width n))
 scaled width k n full some fits =
     elim (cases_lt (2 * n) (2 ^ width)) as
-    (λ _. number_word (n * k) ≡ cast_unsigned w16 (point_of (integer_fraction width n))) [
+    (λ _. plain_word (n * k) ≡ cast_unsigned w16 (point_of (integer_fraction width n))) [
       | inl low ↦ (
           let more : suc (2 * n) * k ≤ 2 ^ width * k = mul-le-mul_right k low in
           let low32 : 2 * (n * k) < 2 ^ 32 = omega (arith, more, suc-mul (2 * n) k, mul_assoc 2 n k, full, some) in
@@ -156,6 +169,7 @@ scaled width k n full some fits =
         (λ i. nearest (sym (mul_assoc (2 ^ 16) m k) i) (sym full i))
         ∙ nearest-higher (2 ^ 16 * m) (2 ^ width) k some
 
+-- by its four bytes
 window : (e : SampleEncoding) → is_integer e ≡ true → (bytes : List ℕ) → ((k : ℕ) → get_or bytes k 0 < 256)
     → 4 ≤ length bytes → window_word e bytes ≡ point_word e (take (size_of e) bytes)
 window e is [] small h = absurd (omega (arith, h))
@@ -168,20 +182,29 @@ window e is (a ∷ b ∷ c ∷ d ∷ rest) small h =
     words : (e : SampleEncoding) → is_integer e ≡ true → a < 256 → b < 256 → c < 256 → d < 256
         → window_word e (a ∷ b ∷ c ∷ d ∷ rest) ≡ point_word e (take (size_of e) (a ∷ b ∷ c ∷ d ∷ rest))
     words Unsigned8 is ha hb hc hd =
-        let number : aligned 24 (2 ^ 31) (little_number 4 (a ∷ b ∷ c ∷ d ∷ rest)) ≡ (a + 256 * 0 + 128) % 256 * 2 ^ 24 = omega (arith, ha, hb, hc, hd) in
-        ap number_word number
+        let number : (aligned 24 0 (little_number 4 (a ∷ b ∷ c ∷ d ∷ rest)) + 2 ^ 31) % 2 ^ 32
+        ≡ (a + 256 * 0 + 128) % 256 * 2 ^ 24 =
+        omega (arith, ha, hb, hc, hd) in
+        ap plain_word number
         ∙ scaled 8 (2 ^ 24) ((a + 256 * 0 + 128) % 256) (omega arith) (omega arith) (omega arith)
     words Signed16 is ha hb hc hd =
-        let number : aligned 16 0 (little_number 4 (a ∷ b ∷ c ∷ d ∷ rest)) ≡ (a + 256 * (b + 256 * 0)) * 2 ^ 16 = omega (arith, ha, hb, hc, hd) in
-        ap number_word number
+        let number : (aligned 16 (2 ^ 31) (little_number 4 (a ∷ b ∷ c ∷ d ∷ rest)) + 2 ^ 31) % 2 ^ 32
+        ≡ (a + 256 * (b + 256 * 0)) * 2 ^ 16 =
+        omega (arith, ha, hb, hc, hd) in
+        ap plain_word number
         ∙ scaled 16 (2 ^ 16) (a + 256 * (b + 256 * 0)) (omega arith) (omega arith) (omega (arith, ha, hb))
     words Signed24 is ha hb hc hd =
-        let number : aligned 8 0 (little_number 4 (a ∷ b ∷ c ∷ d ∷ rest)) ≡ (a + 256 * (b + 256 * (c + 256 * 0))) * 2 ^ 8 = omega (arith, ha, hb, hc, hd) in
-        ap number_word number
-        ∙ scaled 24 (2 ^ 8) (a + 256 * (b + 256 * (c + 256 * 0))) (omega arith) (omega arith) (omega (arith, ha, hb, hc))
+        let number : (aligned 8 (2 ^ 31) (little_number 4 (a ∷ b ∷ c ∷ d ∷ rest)) + 2 ^ 31) % 2 ^ 32
+        ≡ (a + 256 * (b + 256 * (c + 256 * 0))) * 2 ^ 8 =
+        omega (arith, ha, hb, hc, hd) in
+        ap plain_word number
+        ∙ scaled 24 (2 ^ 8) (a + 256 * (b + 256 * (c + 256 * 0))) (omega arith) (omega arith)
+        (omega (arith, ha, hb, hc))
     words Signed32 is ha hb hc hd =
-        let number : aligned 0 0 (little_number 4 (a ∷ b ∷ c ∷ d ∷ rest)) ≡ a + 256 * (b + 256 * (c + 256 * (d + 256 * 0))) = omega (arith, ha, hb, hc, hd) in
-        ap number_word number
+        let number : (aligned 0 (2 ^ 31) (little_number 4 (a ∷ b ∷ c ∷ d ∷ rest)) + 2 ^ 31) % 2 ^ 32
+        ≡ a + 256 * (b + 256 * (c + 256 * (d + 256 * 0))) =
+        omega (arith, ha, hb, hc, hd) in
+        ap plain_word number
     words Float32 is ha hb hc hd = absurd (false≢true is)
 
 -- ---- a block

@@ -1,6 +1,7 @@
 -- The points of a channel, frame by frame.
 use Rattle.std.proofs.Common.{◌≡◌, ◌≤◌, ◌<◌, ◌+◌, ◌-◌, ◌*◌, ◌/◌, ◌%◌, ◌^◌, ℕ, zero, suc, List, [], ◌∷◌, ◌++◌}
-use Rattle.std.proofs.Common.{length, take, drop, get_or, Bool, true, false, pos, neg_ℤ, refl, ap, sym, ◌∙◌, inl, inr, arith}
+use Rattle.std.proofs.Common.{length, take, drop, get_or, Bool, true, false, pos, neg_ℤ, refl, ap, sym, ◌∙◌}
+use Rattle.std.proofs.Common.{inl, inr, arith}
 use Rattle.std.specs.Prelude.{All, min}
 use Rattle.byteorder.specs.Endian.{little_number}
 use Rattle.std.specs.List.{flat_map}

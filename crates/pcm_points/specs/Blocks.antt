@@ -1,4 +1,4 @@
--- Integers of all encodings as numbers of 32 bits in two's complement, whose highest bits are those of the sample.
+-- Integers of all encodings as numbers of 32 bits that count from the least one. Their highest bits are the sample's.
 use Rattle.std.specs.Prelude.{◌+◌, ◌-◌, ◌*◌, ◌%◌, ◌^◌, ℕ, Bool, true, false, List}
 use Rattle.std.specs.Int.{w16, cast_unsigned}
 use Rattle.byteorder.specs.Endian.{little_number}
@@ -19,21 +19,21 @@ is_integer Float32 = false
 abbrev pub shift_of : SampleEncoding → ℕ
 shift_of encoding = 32 - 8 * size_of encoding
 
--- what makes a number signed
+-- where 0 is in such numbers, for a sample in two's complement
 abbrev pub bias_of : SampleEncoding → ℕ
-bias_of Unsigned8 = 2 ^ 31
-bias_of Signed16 = 0
-bias_of Signed24 = 0
-bias_of Signed32 = 0
+bias_of Unsigned8 = 0
+bias_of Signed16 = 2 ^ 31
+bias_of Signed24 = 2 ^ 31
+bias_of Signed32 = 2 ^ 31
 bias_of Float32 = 0
 
 -- the number of 4 bytes that begin with a sample; those after it fall out
 abbrev pub aligned : ℕ → ℕ → ℕ → ℕ
 aligned shift bias window = (window * 2 ^ shift % 2 ^ 32 + bias) % 2 ^ 32
 
--- the point of a number of 32 bits, as the unsigned word of its bits
+-- the point of such a number, as the unsigned word of its bits
 abbrev pub number_word : ℕ → ℕ
-number_word number = cast_unsigned w16 (point_of (integer_fraction 32 number))
+number_word number = cast_unsigned w16 (point_of (integer_fraction 32 ((number + 2 ^ 31) % 2 ^ 32)))
 
 -- that of the sample at the start of the bytes
 abbrev pub window_word : SampleEncoding → List ℕ → ℕ

@@ -21,16 +21,17 @@ const WINDOW: usize = 4;
 /// The bits of a number below those of its point.
 const POINT_SHIFT: u32 = 16;
 
-/// The bits below the sign bit of a number.
+/// The bits below the highest bit of a number.
 const SIGN_SHIFT: u32 = 31;
 
-/// Half a point, and the bits of a number below it.
+/// Half a point, in numbers.
 const HALF_POINT: u32 = 0x8000;
 
-const HALF_SHIFT: u32 = 15;
+/// The greatest number that is rounded to a point.
+const GREATEST: u32 = 0xFFFF_7FFF;
 
-/// Half points in the numbers that would be rounded to more than the greatest point.
-const CLIPPED_HALVES: u32 = 0xFFFF;
+/// Where 0 is in points that count from the least one.
+const POINT_BIAS: u16 = 0x8000;
 
 // Appends the points of blocks of frames. Returns the bytes after them, with less than two blocks of frames.
 pub(crate) fn put_blocks<'a>(
@@ -43,10 +44,12 @@ pub(crate) fn put_blocks<'a>(
     requires is_integer { is_integer encoding ≡ true }
     requires channel { channel < channels }
     requires count { channels ≤ 65535 }
-    requires room { vec_len points.old + length bytes.now / (channels * size_of encoding) * 2 ≤ vec_capacity points.old }
+    requires room { vec_len points.old + length bytes.now / (channels * size_of encoding) * 2
+        ≤ vec_capacity points.old }
     ensures all { points.new.items ++ flat_map word_bytes (channel_words encoding channels channel result.now)
         ≡ points.old.items ++ flat_map word_bytes (channel_words encoding channels channel bytes.now) }
-    ensures room { vec_len points.new + length result.now / (channels * size_of encoding) * 2 ≤ vec_capacity points.new }
+    ensures room { vec_len points.new + length result.now / (channels * size_of encoding) * 2
+        ≤ vec_capacity points.new }
 {
     let size = encoding.size();
     let frame_size = channels * size;
@@ -90,7 +93,7 @@ fn number_at(bytes: &[u8], position: usize) -> u32
     LittleEndian::read_u32(&bytes[position..])
 }
 
-// The samples at the start of these numbers, as numbers of 32 bits.
+// The samples at the start of these numbers, as numbers of 32 bits that count from the least one.
 #[inline]
 fn align(windows: u32x8, shift: u32, bias: u32) -> u32x8
     requires { shift < 32 }
@@ -99,17 +102,16 @@ fn align(windows: u32x8, shift: u32, bias: u32) -> u32x8
     (windows << u32x8::splat(shift)) + u32x8::splat(bias)
 }
 
-// The points of numbers of 32 bits: a half is rounded up, below zero down. What would be rounded to more than the
-// greatest point is cut.
+// The points of these numbers: a half is rounded up, below zero down.
 #[inline]
 fn words(numbers: u32x8) -> u16x8
     ensures { result ≡ map number_word numbers }
 {
-    let signs = numbers >> u32x8::splat(SIGN_SHIFT);
-    let is_clipped = (numbers >> u32x8::splat(HALF_SHIFT)).simd_eq(u32x8::splat(CLIPPED_HALVES));
-    let halves = is_clipped.select(u32x8::splat(0), u32x8::splat(HALF_POINT));
-    let rounded = numbers + halves - signs;
-    (rounded >> u32x8::splat(POINT_SHIFT)).cast::<u16>()
+    let is_above = numbers >> u32x8::splat(SIGN_SHIFT);
+    let clipped = numbers.simd_min(u32x8::splat(GREATEST));
+    let rounded = clipped + u32x8::splat(HALF_POINT - 1) + is_above;
+    let offsets = (rounded >> u32x8::splat(POINT_SHIFT)).cast::<u16>();
+    offsets + u16x8::splat(POINT_BIAS)
 }
 
 // Appends words to a vector with room for them.

@@ -107,7 +107,8 @@ fn put_frames(
 )
     requires channel { channel < channels }
     requires count { channels ≤ 65535 }
-    requires room { vec_len points.old + length bytes.now / (channels * size_of encoding) * 2 ≤ vec_capacity points.old }
+    requires room { vec_len points.old + length bytes.now / (channels * size_of encoding) * 2
+        ≤ vec_capacity points.old }
     ensures { points.new.items
         ≡ points.old.items ++ flat_map word_bytes (channel_words encoding channels channel bytes.now) }
 {

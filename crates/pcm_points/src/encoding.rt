@@ -54,13 +54,13 @@ impl SampleEncoding {
         }
     }
 
-    // What makes such a number signed.
+    // Where 0 is in such numbers, if they count from the least one, for a sample in two's complement.
     pub(crate) fn bias(self) -> u32
         ensures { result ≡ bias_of self }
     {
         match self {
-            SampleEncoding::Unsigned8 => 0x8000_0000,
-            _ => 0,
+            SampleEncoding::Unsigned8 | SampleEncoding::Float32 => 0,
+            _ => 0x8000_0000,
         }
     }
 }

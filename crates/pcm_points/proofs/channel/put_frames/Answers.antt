@@ -1,5 +1,5 @@
-use Rattle.std.proofs.Common.{◌≡◌, ◌<◌, ◌+◌, ◌-◌, ◌*◌, ◌/◌, ℕ, List, ◌++◌, length, take, drop, refl, ap, sym, ◌∙◌, append-nil}
-use Rattle.std.proofs.Common.{mul-pos, arith}
+use Rattle.std.proofs.Common.{◌≡◌, ◌<◌, ◌+◌, ◌-◌, ◌*◌, ◌/◌, ℕ, List, ◌++◌, length, take, drop}
+use Rattle.std.proofs.Common.{refl, ap, sym, ◌∙◌, append-nil, mul-pos, arith}
 use Rattle.pcm_points.specs.Points.{point_word}
 use Rattle.pcm_points.proofs.ChannelLaws.{no_frame, after_frame, fewer_frames}
 use Rattle.pcm_points.proofs.channel.put_frames.Goals as goal
