@@ -102,7 +102,7 @@ fn edits_read(alloc: Global, script: &[u8]) -> Result<Vec<u8>, Fail> {
     let pool = pool_of(alloc, script)?;
     let mut text = Vec::new(alloc);
     for line in parse(alloc, script, pool.as_slice())? {
-        text.push(line.number as u8)?;
+        text.extend_from_slice(&line.number.to_le_bytes())?;
         print(&line.edit, &mut text)?;
     }
     Ok(text)
