@@ -70,11 +70,24 @@ fn edits_of<'a>(alloc: Global, script: &[u8], pool: &'a [u8]) -> Result<Vec<Edit
 
 /// A script for the bank, with comments.
 fn commented(alloc: Global, script: &[u8]) -> Result<Vec<u8>, Fail> {
-    let (bank_pool, pool) = (pool_of(alloc, BANK)?, pool_of(alloc, script)?);
+    let bank_pool = pool_of(alloc, BANK)?;
+    let pool = pool_of(alloc, script)?;
     let mut bank = bank_of(alloc, BANK, bank_pool.as_slice())?;
-    let edits = edits_of(alloc, script, pool.as_slice())?;
+    commented_after(alloc, &mut bank, script, pool.as_slice())
+}
+
+/// A script with comments, and `bank` before it. `pool` has the script's literals.
+fn commented_after<'a>(
+    alloc: Global,
+    bank: &mut Bank<'a>,
+    script: &[u8],
+    pool: &'a [u8],
+) -> Result<Vec<u8>, Fail>
+    requires { pool_bytes script.now ≡ Ok pool.now }
+{
+    let edits = edits_of(alloc, script, pool)?;
     let mut text = Vec::new(alloc);
-    if let Ok(comments) = comments_along(alloc, &mut bank, edits.as_slice()) {
+    if let Ok(comments) = comments_along(alloc, bank, edits.as_slice()) {
         let lines = CommentedLines {
             edits: edits.as_slice(),
             comments: &comments,
