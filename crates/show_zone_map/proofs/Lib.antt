@@ -1,3 +1,4 @@
 pub mod Rows
+pub mod LegendLaws
 pub mod Kept
 pub mod SelectLaws

@@ -1,8 +1,8 @@
 -- A picture of rectangles, as SVG. Keys run from left to right, 10 units each, and velocities from bottom to top, 4
 -- units each; key 0 and velocity 127 begin 60 units from the left and from the top.
-use Rattle.std.specs.Prelude.{ℕ, ◌+◌, ◌-◌, ◌*◌, ◌/◌, ◌%◌, ◌&&◌, nat_le, List, [], ◌∷◌, ◌++◌, Option, Some, None}
-use Rattle.std.specs.Prelude.{codes, unwrap_or, slice_get, if◌then◌else◌}
-use Rattle.std.specs.List.{concat, flat_map}
+use Rattle.std.specs.Prelude.{ℕ, ◌+◌, ◌-◌, ◌*◌, ◌/◌, ◌%◌, min, Bool, ◌&&◌, ◌||◌, not, nat_le, nat_lt, List, [], ◌∷◌, ◌++◌, length, take}
+use Rattle.std.specs.Prelude.{Option, Some, None, codes, unwrap_or, slice_get, if◌then◌else◌}
+use Rattle.std.specs.List.{concat, flat_map, filter, enumerate_from}
 use Rattle.std.specs.Option.{option_map_or}
 use Rattle.bank_parts.specs.declared.parts.Head.{Head}
 use Rattle.bank_parts.specs.declared.parts.Sample.{Sample}
@@ -19,11 +19,21 @@ use Rattle.show_zone_map.specs.Rectangles.{rectangles}
 
 -- ---- the parts of all pictures
 
+-- the height of a picture, by the number of entries of its legend
+abbrev pub picture_height : ℕ → ℕ
+picture_height entries = 640 + 16 * ((entries + 7) / 8)
+
+-- the size of the picture
+abbrev pub size_marks : ℕ → List Mark
+size_marks entries =
+    Text (codes "<svg xmlns='http://www.w3.org/2000/svg' viewBox='0 0 1400 ") ∷ Number (picture_height entries)
+    ∷ Text (codes "' font-family='sans-serif' font-size='11'>\n")
+    ∷ []
+
 -- colours that colour-blind readers can distinguish on white and on black, and the start of the owner's line
 unfoldable pub head : List ℕ
 head = concat (
-    codes "<svg xmlns='http://www.w3.org/2000/svg' viewBox='0 0 1400 640' font-family='sans-serif' font-size='11'>\n"
-    ∷ codes "<style>\n"
+    codes "<style>\n"
     ∷ codes ":root{color:#111;background:#fff}\n"
     ∷ codes "text{fill:currentColor}\n"
     ∷ codes ".owner{font-size:20px}\n"
@@ -130,24 +140,40 @@ box_marks r =
 abbrev pub name_line : Rectangle → ℕ
 name_line r = height r * (1 + (2 * (r.zone % 2) + (unwrap_or r.preset_zone 0 % 2 + (r.zone / 2) % 2) % 2)) / 5
 
-abbrev pub horizontal_marks : List ℕ → Rectangle → List Mark
-horizontal_marks name r =
-    Text (codes "<text x='50%' y='") ∷ Number (name_line r) ∷ Text (codes "'>") ∷ Name name ∷ Text (codes "</text>")
-    ∷ []
+-- a label in a rectangle
+abbrev pub horizontal_marks : Mark → Rectangle → List Mark
+horizontal_marks label r =
+    Text (codes "<text x='50%' y='") ∷ Number (name_line r) ∷ Text (codes "'>") ∷ label ∷ Text (codes "</text>") ∷ []
 
-abbrev pub vertical_marks : List ℕ → Rectangle → List Mark
-vertical_marks name r =
+abbrev pub vertical_marks : Mark → Rectangle → List Mark
+vertical_marks label r =
     Text (codes "<text transform='translate(") ∷ Number (width r / 2) ∷ Text (codes " ") ∷ Number (name_line r)
     ∷ Text (codes ") rotate(-90)'>")
-    ∷ Name name ∷ Text (codes "</text>")
+    ∷ label ∷ Text (codes "</text>")
     ∷ []
 
--- its name: horizontal if it is wide enough, else vertical if it is high enough, else none
-unfoldable pub name_marks : List ℕ → Rectangle → List Mark
-name_marks name r =
-    if nat_le 120 (width r) && nat_le 24 (height r) then horizontal_marks name r
-    else if nat_le 160 (height r) then vertical_marks name r
-    else []
+-- a name has space in it, horizontally or vertically
+abbrev pub is_wide : Rectangle → Bool
+is_wide r = nat_le 120 (width r) && nat_le 24 (height r)
+
+abbrev pub is_high : Rectangle → Bool
+is_high r = nat_le 160 (height r)
+
+-- a name has no space in it
+abbrev pub is_small : Rectangle → Bool
+is_small r = not (is_wide r || is_high r)
+
+-- the number of its sample, along the longer side
+abbrev pub number_marks : Rectangle → List Mark
+number_marks r =
+    if nat_le (height r) (width r) then horizontal_marks (Number r.sample) r else vertical_marks (Number r.sample) r
+
+-- the name of its sample if it has space, else the sample's number, which the legend explains
+unfoldable pub label_marks : List ℕ → Rectangle → List Mark
+label_marks name r =
+    if is_wide r then horizontal_marks (Name name) r
+    else if is_high r then vertical_marks (Name name) r
+    else number_marks r
 
 -- a dot on the root key, in the rectangle's colour
 unfoldable pub root_marks : Rectangle → List Mark
@@ -162,15 +188,48 @@ drawn b r =
     ++ (marks_text (preset_zone_marks r.preset_zone)
     ++ (marks_text (range_marks r)
     ++ (marks_text (box_marks r)
-    ++ (marks_text (name_marks (name_of b r) r)
+    ++ (marks_text (label_marks (name_of b r) r)
     ++ marks_text (root_marks r)))))
+
+-- ---- the legend
+
+-- the rectangles that have an entry, each after the number of its entry, from i on: those without space for a name, as
+-- long as there are fewer than 1,024 entries
+abbrev pub entries_from : ℕ → List Rectangle → List (ℕ × Rectangle)
+entries_from i rs = enumerate_from i (take (1024 - i) (filter is_small rs))
+
+-- a dot in the rectangle's colour, and the number and the name of its sample; eight entries are on a line
+abbrev pub entry_marks : List ℕ → ℕ → Rectangle → List Mark
+entry_marks name i r =
+    Text (codes "<g class='c") ∷ Number (colour r) ∷ Text (codes "'><circle cx='") ∷ Number (64 + 160 * (i % 8))
+    ∷ Text (codes "' cy='") ∷ Number (648 + 16 * (i / 8)) ∷ Text (codes "' r='3'/></g><text x='")
+    ∷ Number (72 + 160 * (i % 8)) ∷ Text (codes "' y='") ∷ Number (652 + 16 * (i / 8)) ∷ Text (codes "'>")
+    ∷ Number r.sample ∷ Text (codes " ") ∷ Name name ∷ Text (codes "</text>\n")
+    ∷ []
+
+abbrev pub entry : Parts → ℕ × Rectangle → List ℕ
+entry b e = marks_text (entry_marks (name_of b e.1) e.0 e.1)
+
+-- the entries of rectangles, from i on
+abbrev pub legend_from : Parts → ℕ → List Rectangle → List ℕ
+legend_from b i rs = flat_map (entry b) (entries_from i rs)
+
+-- a rectangle has entry i
+abbrev pub has_entry : ℕ → Rectangle → Bool
+has_entry i r = is_small r && nat_lt i 1024
+
+-- the number of the entry after those of rectangles, from i on
+abbrev pub entry_after : ℕ → List Rectangle → ℕ
+entry_after i rs = min 1024 (i + length (filter is_small rs))
 
 -- ---- the picture
 
 unfoldable pub picture : Parts → Owner → List ℕ
 picture b o =
-    head
+    marks_text (size_marks (entry_after 0 (rectangles b o)))
+    ++ (head
     ++ (marks_text (owner_marks b o)
     ++ (frame
     ++ (flat_map (drawn b) (rectangles b o)
-    ++ codes "</svg>\n")))
+    ++ (legend_from b 0 (rectangles b o)
+    ++ codes "</svg>\n")))))

@@ -2,8 +2,9 @@
 #![tactic(auto)]
 
 mod laws;
+mod legend;
 mod map;
-mod marks;
+pub mod marks;
 mod rectangle;
 mod shapes;
 

@@ -1,13 +1,14 @@
 //! The picture of the zones of a preset or an instrument.
-ghost use Rattle.std.specs.Prelude.{◌≡◌, ◌<◌, []};
+ghost use Rattle.std.specs.Prelude.{◌≡◌, ◌<◌, ◌≤◌, []};
 ghost use Rattle.std.specs.List.{flat_map, cons_option};
 ghost use Rattle.base_outputs.specs.Output.{Puts};
 ghost use Rattle.bank_changes.specs.declared.members.Owner.TheVariants as owner;
 ghost use Rattle.zone_select.specs.Remaining.{zones_in};
 ghost use Rattle.show_zone_map.specs.Marks.{marks_text};
 ghost use Rattle.show_zone_map.specs.Rectangles.{rectangles, rectangle_at, rectangles_in, rectangles_of_zone};
-ghost use Rattle.show_zone_map.specs.Picture.{head, frame, owner_line, owner_marks, drawn, picture};
+ghost use Rattle.show_zone_map.specs.Picture.{size_marks, head, frame, owner_line, owner_marks, drawn, picture};
 
+use crate::legend::{count_entries, picture_height, put_legend};
 use crate::marks::{name, number, put_marks, text};
 use crate::rectangle::{Area, area_of, rectangle_at};
 use crate::shapes::put_rectangle;
@@ -17,10 +18,8 @@ use base_texts::Text;
 use std::io::Write;
 use zone_select::zones_in;
 
-/// The start of all pictures: their size, and colours that colour-blind readers can distinguish on white and on black.
-const HEAD: &[u8] =
-    b"<svg xmlns='http://www.w3.org/2000/svg' viewBox='0 0 1400 640' font-family='sans-serif' font-size='11'>
-<style>
+/// Colours that colour-blind readers can distinguish on white and on black, and the start of the title.
+const HEAD: &[u8] = b"<style>
 :root{color:#111;background:#fff}
 text{fill:currentColor}
 .owner{font-size:20px}
@@ -60,7 +59,9 @@ const FRAME: &[u8] =
 /// Keys run from left to right, over a keyboard on which key 60 is C4, and velocities from bottom to top. An instrument
 /// has a rectangle for each zone: its own ranges, else its global zone's, else 0 to 127. A preset has one for each of
 /// its zones with each zone of its instrument: the intersection of their ranges. A rectangle's colour depends on the
-/// number of its sample; a dot in that colour marks the root key; the tooltip has all numbers.
+/// number of its sample; a dot in that colour marks the root key; the tooltip has all numbers. A rectangle without space
+/// for its sample's name has the sample's number, and a legend below the keyboard has the number and the name, for up to
+/// 1,024 such rectangles.
 ///
 /// If the owner doesn't exist, the picture is empty.
 #[derive(Clone, Copy)]
@@ -73,15 +74,30 @@ impl Text for ZoneMap<'_, '_> {
     ghost bytes = { λ map. picture map.bank.now map.owner };
 
     fn put<W: Write>(&self, output: &mut Output<'_, W>) {
+        put_size(count_entries(self.bank, self.owner), output);
         put_head(output);
         put_owner(self.bank, self.owner, output);
         put_frame(output);
         put_rectangles(self.bank, self.owner, output);
+        put_legend(self.bank, self.owner, output);
         output.put(b"</svg>\n");
     }
 }
 
-// Writes the start of all pictures.
+// Writes the size of a picture whose legend has this many entries.
+fn put_size<W: Write>(entries: u32, output: &mut Output<'_, W>)
+    requires { entries ≤ 1024 }
+    ensures { Puts W.contents output.old output.new (marks_text (size_marks entries)) }
+{
+    let marks = [
+        text(b"<svg xmlns='http://www.w3.org/2000/svg' viewBox='0 0 1400 "),
+        number(picture_height(entries)),
+        text(b"' font-family='sans-serif' font-size='11'>\n"),
+    ];
+    put_marks(&marks, output);
+}
+
+// Writes the colours, and the start of the title.
 fn put_head<W: Write>(output: &mut Output<'_, W>)
     ensures { Puts W.contents output.old output.new head }
 {

@@ -1,4 +1,4 @@
-//! The pieces of a picture's text.
+//! The pieces of a picture's text: XML, with names escaped.
 ghost use Rattle.std.specs.Prelude.{◌≡◌};
 ghost use Rattle.std.specs.List.{flat_map};
 ghost use Rattle.base_outputs.specs.Output.{Puts};
@@ -10,40 +10,40 @@ use itoa::Buffer;
 use sf_base::BorrowedBytes;
 use std::io::Write;
 
-// A piece of a picture's text.
+/// A piece of a picture's text.
 #[derive(Drop)]
-pub(crate) enum Mark<'a> {
-    // A text, unchanged.
+pub enum Mark<'a> {
+    /// A text, unchanged.
     Text(BorrowedBytes<'a>),
-    // A number in decimal.
+    /// A number in decimal.
     Number(u32),
-    // Any bytes, as XML text.
+    /// Any bytes, as XML text: `&`, `<` and `>` as entities, and bytes other than printable ASCII as U+FFFD.
     Name(BorrowedBytes<'a>),
 }
 
-// A text as a piece.
-pub(crate) fn text(bytes: &[u8]) -> Mark<'_>
+/// Returns a text as a piece.
+pub fn text(bytes: &[u8]) -> Mark<'_>
     ensures { result ≡ Text bytes.now }
 {
     Mark::Text(BorrowedBytes::new(bytes))
 }
 
-// A number as a piece.
-pub(crate) fn number<'a>(number: u32) -> Mark<'a>
+/// Returns a number as a piece.
+pub fn number<'a>(number: u32) -> Mark<'a>
     ensures { result ≡ Number number }
 {
     Mark::Number(number)
 }
 
-// A name as a piece.
-pub(crate) fn name(bytes: &[u8]) -> Mark<'_>
+/// Returns a name, of any bytes, as a piece.
+pub fn name(bytes: &[u8]) -> Mark<'_>
     ensures { result ≡ Name bytes.now }
 {
     Mark::Name(BorrowedBytes::new(bytes))
 }
 
-// Writes pieces, one after another.
-pub(crate) fn put_marks<W: Write>(marks: &[Mark<'_>], output: &mut Output<'_, W>)
+/// Writes pieces, one after another.
+pub fn put_marks<W: Write>(marks: &[Mark<'_>], output: &mut Output<'_, W>)
     ensures { Puts W.contents output.old output.new (marks_text marks.now) }
 {
     for mark in marks {

@@ -4,7 +4,7 @@ ghost use Rattle.std.specs.Prelude.{◌≡◌, ◌≤◌, length, slice_get};
 ghost use Rattle.base_outputs.specs.Output.{Puts};
 ghost use Rattle.generators.specs.declared.range.Range.{Range};
 ghost use Rattle.show_zone_map.specs.Marks.{marks_text};
-ghost use Rattle.show_zone_map.specs.Picture.{count, left, top, width, height, colour, name_of, title_marks, preset_zone_marks, range_marks, box_marks, name_line, horizontal_marks, vertical_marks, name_marks, root_marks, drawn};
+ghost use Rattle.show_zone_map.specs.Picture.{count, left, top, width, height, colour, name_of, title_marks, preset_zone_marks, range_marks, box_marks, name_line, horizontal_marks, vertical_marks, is_wide, is_high, is_small, number_marks, label_marks, root_marks, drawn};
 
 use crate::marks::{Mark, name, number, put_marks, text};
 use crate::rectangle::Rectangle;
@@ -66,7 +66,7 @@ impl Rectangle {
     }
 
     // The index of one of seven colours.
-    fn colour(&self) -> u32
+    pub(crate) fn colour(&self) -> u32
         ensures value { result ≡ colour self.now }
         ensures within { result ≤ 6 }
     {
@@ -81,10 +81,31 @@ impl Rectangle {
         let line = 2 * (self.zone % 2) + (layer + self.zone / 2 % 2) % 2;
         self.height() * (1 + line) / 5
     }
+
+    // Whether a horizontal name has space.
+    fn is_wide(&self) -> bool
+        ensures { result ≡ is_wide self.now }
+    {
+        self.width() >= NAME_LENGTH && self.height() >= NAME_HEIGHT
+    }
+
+    // Whether a vertical name has space.
+    fn is_high(&self) -> bool
+        ensures { result ≡ is_high self.now }
+    {
+        self.height() >= TURNED_LENGTH
+    }
+
+    // Whether no name has space.
+    pub(crate) fn is_small(&self) -> bool
+        ensures { result ≡ is_small self.now }
+    {
+        !(self.is_wide() || self.is_high())
+    }
 }
 
 // The name of the rectangle's sample.
-fn name_of<'b>(bank: &'b Bank<'_>, rectangle: &Rectangle) -> &'b [u8]
+pub(crate) fn name_of<'b>(bank: &'b Bank<'_>, rectangle: &Rectangle) -> &'b [u8]
     ensures { result.now ≡ name_of bank.now rectangle.now }
 {
     match bank.sample(u32::from(rectangle.sample)) {
@@ -106,7 +127,7 @@ pub(crate) fn put_rectangle<W: Write>(
     put_preset_zone(rectangle.preset_zone, output);
     put_ranges(rectangle, output);
     put_box(rectangle, output);
-    put_name(name, rectangle, output);
+    put_label(name, rectangle, output);
     put_root(rectangle, output);
 }
 
@@ -174,33 +195,47 @@ fn put_box<W: Write>(rectangle: &Rectangle, output: &mut Output<'_, W>)
     put_marks(&marks, output);
 }
 
-// Writes the name of the sample, if there is space.
-#[tactic(auto, unfolding(crate::specs::Picture::name_marks))]
-fn put_name<W: Write>(sample: &[u8], rectangle: &Rectangle, output: &mut Output<'_, W>)
-    ensures { Puts W.contents output.old output.new (marks_text (name_marks sample.now rectangle.now)) }
+// Writes the name of the sample if it has space, else the sample's number.
+#[tactic(auto, unfolding(crate::specs::Picture::label_marks))]
+fn put_label<W: Write>(sample: &[u8], rectangle: &Rectangle, output: &mut Output<'_, W>)
+    ensures { Puts W.contents output.old output.new (marks_text (label_marks sample.now rectangle.now)) }
 {
-    if rectangle.width() >= NAME_LENGTH && rectangle.height() >= NAME_HEIGHT {
-        put_horizontal_name(sample, rectangle, output);
-    } else if rectangle.height() >= TURNED_LENGTH {
-        put_vertical_name(sample, rectangle, output);
+    if rectangle.is_wide() {
+        put_horizontal(name(sample), rectangle, output);
+    } else if rectangle.is_high() {
+        put_vertical(name(sample), rectangle, output);
+    } else {
+        put_number(rectangle, output);
     }
 }
 
-fn put_horizontal_name<W: Write>(sample: &[u8], rectangle: &Rectangle, output: &mut Output<'_, W>)
-    ensures { Puts W.contents output.old output.new (marks_text (horizontal_marks sample.now rectangle.now)) }
+// Writes the sample's number along the longer side.
+fn put_number<W: Write>(rectangle: &Rectangle, output: &mut Output<'_, W>)
+    ensures { Puts W.contents output.old output.new (marks_text (number_marks rectangle.now)) }
+{
+    let sample = number(u32::from(rectangle.sample));
+    if rectangle.height() <= rectangle.width() {
+        put_horizontal(sample, rectangle, output);
+    } else {
+        put_vertical(sample, rectangle, output);
+    }
+}
+
+fn put_horizontal<W: Write>(label: Mark<'_>, rectangle: &Rectangle, output: &mut Output<'_, W>)
+    ensures { Puts W.contents output.old output.new (marks_text (horizontal_marks label.entry rectangle.now)) }
 {
     let marks = [
         text(b"<text x='50%' y='"),
         number(rectangle.name_line()),
         text(b"'>"),
-        name(sample),
+        label,
         text(b"</text>"),
     ];
     put_marks(&marks, output);
 }
 
-fn put_vertical_name<W: Write>(sample: &[u8], rectangle: &Rectangle, output: &mut Output<'_, W>)
-    ensures { Puts W.contents output.old output.new (marks_text (vertical_marks sample.now rectangle.now)) }
+fn put_vertical<W: Write>(label: Mark<'_>, rectangle: &Rectangle, output: &mut Output<'_, W>)
+    ensures { Puts W.contents output.old output.new (marks_text (vertical_marks label.entry rectangle.now)) }
 {
     let marks = [
         text(b"<text transform='translate("),
@@ -208,7 +243,7 @@ fn put_vertical_name<W: Write>(sample: &[u8], rectangle: &Rectangle, output: &mu
         text(b" "),
         number(rectangle.name_line()),
         text(b") rotate(-90)'>"),
-        name(sample),
+        label,
         text(b"</text>"),
     ];
     put_marks(&marks, output);

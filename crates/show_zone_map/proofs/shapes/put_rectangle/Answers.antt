@@ -1,7 +1,7 @@
 use Rattle.std.proofs.Common.{List, ℕ, ap}
 use Rattle.base_outputs.proofs.OutputLaws.{puts_as, puts_then}
 use Rattle.show_zone_map.specs.Marks.{marks_text}
-use Rattle.show_zone_map.specs.Picture.{drawn, title_marks, name_marks}
+use Rattle.show_zone_map.specs.Picture.{drawn, title_marks, label_marks}
 use Rattle.show_zone_map.proofs.shapes.put_rectangle.Goals as goal
 
 pub returns : goal.returns
@@ -11,7 +11,7 @@ returns g c =
     let title =
     puts_as _ _ (ap (λ (n : List ℕ). marks_text (title_marks n r)) c.name_of-name.ensures) c.put_title.ensures in
     let name =
-    puts_as _ _ (ap (λ (n : List ℕ). marks_text (name_marks n r)) c.name_of-name.ensures) c.put_name.ensures in
+    puts_as _ _ (ap (λ (n : List ℕ). marks_text (label_marks n r)) c.name_of-name.ensures) c.put_label.ensures in
     puts_then _ _ title
     (puts_then _ _ c.put_preset_zone.ensures
     (puts_then _ _ c.put_ranges.ensures

@@ -1,0 +1,6 @@
+use Rattle.base_outputs.proofs.OutputLaws.{puts_then}
+use Rattle.show_findings.proofs.repairs.put_clearing.Goals as goal
+
+pub returns : goal.returns
+returns g c =
+    puts_then _ _ c.put.ensures (puts_then _ _ c.put_owner.ensures (rw c.from.ensures at c.put_numbered.ensures))

@@ -1,0 +1,10 @@
+pub mod Numbers
+pub mod Kinds
+pub mod Presets
+pub mod Zones
+pub mod PresetZones
+pub mod Uses
+pub mod Texts
+pub mod Messages
+pub mod Repairs
+pub mod Lines

@@ -1,0 +1,96 @@
+//! Generators whose amounts are outside the ranges of the standard.
+
+use crate::finding::Finding;
+use crate::gathering::{owners_of, push_option};
+use crate::overridden::entries_of;
+use bank_core::{Bank, Owner, Place};
+use generator_rows::{DefaultAmount, GeneratorRow, row_of};
+use generators::is_range_operator;
+use sf_base::OutOfMemory;
+use std::alloc::Global;
+use zone_select::zones_in;
+
+/// Appends the generators with amounts outside their ranges.
+pub(crate) fn push_outside_ranges(
+    alloc: Global,
+    bank: &Bank<'_>,
+    found: &mut Vec<Finding>,
+) -> Result<(), OutOfMemory> {
+    let owners = owners_of(alloc, bank)?;
+    for owner in owners.as_slice() {
+        push_outside_of(bank, *owner, found)?;
+    }
+    Ok(())
+}
+
+fn push_outside_of(
+    bank: &Bank<'_>,
+    owner: Owner,
+    found: &mut Vec<Finding>,
+) -> Result<(), OutOfMemory> {
+    push_outside_at(bank, owner, Place::Global, found)?;
+    for zone in 0..zones_in(bank, owner) {
+        push_outside_at(bank, owner, Place::Zone(zone), found)?;
+    }
+    Ok(())
+}
+
+fn push_outside_at(
+    bank: &Bank<'_>,
+    owner: Owner,
+    place: Place,
+    found: &mut Vec<Finding>,
+) -> Result<(), OutOfMemory> {
+    for entry in entries_of(bank, owner, place) {
+        let (operator, amount) = *entry;
+        push_option(found, outside_range(owner, place, operator, amount))?;
+    }
+    Ok(())
+}
+
+fn outside_range(owner: Owner, place: Place, operator: u16, amount: u16) -> Option<Finding> {
+    let (low, high) = amount_range(owner, operator)?;
+    let signed = i32::from(amount.cast_signed());
+    if low <= signed && signed <= high || is_default(operator, amount) {
+        return None;
+    }
+    Some(Finding::OutsideRange {
+        owner,
+        place,
+        operator,
+        amount,
+        nearest: signed.max(low).min(high),
+    })
+}
+
+// The lowest and the highest amount of an operator in zones of an owner. Those of presets are added to those of
+// instruments, so they may be as far from 0 as the ends of the range are apart.
+fn amount_range(owner: Owner, operator: u16) -> Option<(i32, i32)> {
+    if is_range_operator(operator) {
+        return None;
+    }
+    Some(ends_in(owner, *row_of(operator)?))
+}
+
+fn ends_in(owner: Owner, row: GeneratorRow) -> (i32, i32) {
+    let (low, high) = (i32::from(row.low), i32::from(row.high));
+    match owner {
+        Owner::Preset(_) => (low - high, high - low),
+        Owner::Inst(_) => (low, high),
+    }
+}
+
+// Whether the amount is the default of the operator.
+fn is_default(operator: u16, amount: u16) -> bool {
+    match row_of(operator) {
+        Some(row) => is_default_of(row, amount),
+        None => false,
+    }
+}
+
+fn is_default_of(row: &GeneratorRow, amount: u16) -> bool {
+    match row.default {
+        DefaultAmount::Number(number) => amount.cast_signed() == number,
+        DefaultAmount::WholeRange | DefaultAmount::Nothing => false,
+    }
+}

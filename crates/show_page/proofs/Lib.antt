@@ -1,0 +1,4 @@
+mod Loops
+mod ZoneLaws
+mod MarkupLaws
+mod DataLaws

@@ -1,0 +1,4 @@
+pub mod PointRuns
+pub mod ExtremeLaws
+pub mod ColumnLaws
+pub mod Ranges

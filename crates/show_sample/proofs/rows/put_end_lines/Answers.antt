@@ -1,0 +1,5 @@
+use Rattle.show_sample.proofs.rows.put_end_lines.Goals as goal
+
+pub returns : goal.returns
+returns g c =
+    rw (c.text.ensures, c.number.ensures, c.text-2.ensures, c.number-2.ensures, c.text-3.ensures) at c.put_marks.ensures

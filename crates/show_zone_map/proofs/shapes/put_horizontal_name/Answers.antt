@@ -1,6 +1,0 @@
-use Rattle.show_zone_map.proofs.shapes.put_horizontal_name.Goals as goal
-
-pub returns : goal.returns
-returns g c =
-    rw (c.text.ensures, c.number.ensures, c.name_line.ensures, c.text-2.ensures, c.name.ensures, c.text-3.ensures) at
-    c.put_marks.ensures
