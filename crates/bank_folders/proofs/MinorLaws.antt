@@ -51,7 +51,11 @@ from_minor n words texts h =
     ∙ minor_is printed n (some_digits n (omega (arith, h))) (writes 65535 n (omega (arith, h)) (omega arith)).value
     (omega (arith, h))
 
+-- the minor version in the first line, whatever follows it
+pub first_minor : (n : ℕ) (texts : List ℕ) → n < 2 ^ 16 → minor_in (first_line LeftOut n ++ texts) ≡ n
+unfolding minor_in first_line piece_text
+first_minor n texts h = from_minor n (codes "without points") texts h
+
 pub minor_read : (b : Parts) → IsSound b → minor_in (bank_script LeftOut b) ≡ b.minor
-unfolding minor_in bank_script first_line piece_text
-minor_read b s =
-    from_minor b.minor (codes "without points") (texts_of (edits_of_bank (with_points LeftOut b))) s.fits.minor
+unfolding bank_script
+minor_read b s = first_minor b.minor (texts_of (edits_of_bank (with_points LeftOut b))) s.fits.minor

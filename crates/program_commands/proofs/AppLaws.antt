@@ -1,6 +1,6 @@
 -- The commands of sfbank read the same words alike, wherever the words of their operands lie.
 use Rattle.std.proofs.Common.{◌≡◌, ◌∙◌, ◌∷◌, ◌||◌, Bool, true, false, List, [], Option, Some, None, ap, ap₂, map}
-use Rattle.std.proofs.Common.{◌==◌, length, option_map, refl, subst, sym}
+use Rattle.std.proofs.Common.{option_map, refl, subst, sym}
 use Rattle.std.specs.Prelude.{find, if◌then◌else◌, is_some}
 use Rattle.std.specs.Borrow.{Bor}
 use Rattle.std.specs.List.{list_any}
@@ -15,7 +15,7 @@ use Rattle.clap.specs.declared.error.kind.ErrorKind.TheVariants.{InvalidValue}
 use Rattle.clap.specs.declared.builder.ValueParser.{ValueParser}
 use Rattle.clap.specs.declared.builder.ValueParser.TheVariants.{Names}
 use Rattle.program_commands.specs.declared.commands.WordParsers.{WordParsers}
-use Rattle.program_commands.specs.Commands.{WordList, app_with, at_no_address, level_words, member_words, parsers_of}
+use Rattle.program_commands.specs.Commands.{WordList, app_with, at_no_address, member_words, parsers_of}
 use Rattle.program_commands.specs.Commands.{sfbank_app, texts_of}
 use Rattle.program_commands.proofs.FaultLaws.{level_fault_same}
 use Rattle.program_commands.proofs.WalkLaws.{rows_same, with_other}
@@ -27,23 +27,18 @@ at_addresses (place ∷ places) [] = []
 at_addresses (place ∷ places) (word ∷ words) =
     record { ref_ptr = place.ref_ptr; now = word.now } ∷ at_addresses places words
 
--- the addresses for a list of words: only that of the levels has two
-abbrev pub places_for : WordList → WordList → List (Bor Text) → WordList
-places_for levels members names = if length names == 2 then levels else members
-
 -- words at other addresses
 abbrev pub moved_to : WordList → WordList → WordList
 moved_to places names = record { ref_ptr = places.ref_ptr; now = at_addresses places.now names.now }
 
 -- the parser with its names at the addresses of these
-abbrev pub with_places : WordList → WordList → ValueParser → ValueParser
-with_places levels members (Names names) = Names (moved_to (places_for levels members names.now) names)
-with_places levels members parser = parser
+abbrev pub with_places : WordList → ValueParser → ValueParser
+with_places places (Names names) = Names (moved_to places names)
+with_places places parser = parser
 
-pub names_read : (levels members : WordList) (parser : ValueParser) → reading_of (with_places levels members parser)
-    ≡ reading_of parser
-names_read levels members (Names names) = refl
-names_read levels members _ = refl
+pub names_read : (places : WordList) (parser : ValueParser) → reading_of (with_places places parser) ≡ reading_of parser
+names_read places (Names names) = refl
+names_read places _ = refl
 
 any_same : (ignore_case : Bool) (text : Text) (places words : List (Bor Text))
     → list_any (λ name. same_text ignore_case name.now text) (at_addresses places words)
@@ -53,12 +48,11 @@ any_same ignore_case text (place ∷ places) [] = refl
 any_same ignore_case text (place ∷ places) (word ∷ words) =
     ap (λ b. same_text ignore_case word.now text || b) (any_same ignore_case text places words)
 
-pub names_accept : (levels members : WordList) (ignore_case : Bool) (parser : ValueParser) (text : Text)
-    → value_kinds ignore_case (with_places levels members parser) text ≡ value_kinds ignore_case parser text
-names_accept levels members ignore_case (Names names) text =
-    ap (λ (b : Bool). if b then [] else InvalidValue ∷ [])
-    (any_same ignore_case text (places_for levels members names.now).now names.now)
-names_accept levels members ignore_case _ text = refl
+pub names_accept : (places : WordList) (ignore_case : Bool) (parser : ValueParser) (text : Text)
+    → value_kinds ignore_case (with_places places parser) text ≡ value_kinds ignore_case parser text
+names_accept places ignore_case (Names names) text =
+    ap (λ (b : Bool). if b then [] else InvalidValue ∷ []) (any_same ignore_case text places.now names.now)
+names_accept places ignore_case _ text = refl
 
 -- words are at their own addresses
 own_addresses : (places : List (Bor Text)) → at_addresses places (at_no_address (map (λ word. word.now) places)).now
@@ -74,22 +68,17 @@ words_moved places words same =
     subst moved same
     (ap (λ (ws : List (Bor Text)). record { ref_ptr = places.ref_ptr; now = ws }) (own_addresses places.now))
 
-module _ (levels members : WordList) where
+module _ (members : WordList) where
   -- the parsers of words at no address, moved there
   abbrev pub moved_parsers : WordParsers
-  moved_parsers = record {
-    levels = with_places levels members (Names (at_no_address level_words));
-    members = with_places levels members (Names (at_no_address member_words));
-  }
+  moved_parsers = record { members = with_places members (Names (at_no_address member_words)) }
 
-  parsers_moved : texts_of levels ≡ level_words → texts_of members ≡ member_words
-      → moved_parsers ≡ parsers_of levels members
-  parsers_moved first second = ap₂ parsers_of (words_moved levels level_words first)
-      (words_moved members member_words second)
+  parsers_moved : texts_of members ≡ member_words → moved_parsers ≡ parsers_of members
+  parsers_moved same = ap parsers_of (words_moved members member_words same)
 
   abbrev pub shape_at : Shape → Shape
   shape_at s =
-      record s { rules = map (with_other (with_places levels members) (names_read levels members)) s.rules }
+      record s { rules = map (with_other (with_places members) (names_read members)) s.rules }
 
   found_at : (word : Text) (subs : List Shape) → find (λ s. answers_to word (label_of s)) (map shape_at subs)
       ≡ option_map shape_at (find (λ s. answers_to word (label_of s)) subs)
@@ -108,7 +97,7 @@ module _ (levels members : WordList) where
       → option_map (λ s. rows_at s words) (option_map shape_at o) ≡ option_map (λ s. rows_at s words) o
   rows_at_same None words = refl
   rows_at_same (Some s) words = ap (λ (rows : List Row). Some (s.name, rows))
-      (rows_same (with_places levels members) (names_read levels members) s.rules [] words)
+      (rows_same (with_places members) (names_read members) s.rules [] words)
 
   entered_same : (app : App) (stop : Option (Text × List Text))
       → entered (record app { subs = map shape_at app.subs }) stop ≡ entered app stop
@@ -121,7 +110,7 @@ module _ (levels members : WordList) where
       ≡ option_map_or (λ s. level_fault s [] nothing_held words false []) o []
   faults_at_same None words = refl
   faults_at_same (Some s) words =
-      level_fault_same (with_places levels members) (names_read levels members) (names_accept levels members) s []
+      level_fault_same (with_places members) (names_read members) (names_accept members) s []
       words false []
 
   entered_fault_same : (app : App) (stop : Option (Text × List Text))
@@ -146,21 +135,20 @@ module _ (levels members : WordList) where
       (ap is_some (entered_same app stop)) (entered_fault_same app stop)
 
   -- the same command is used, with the same rows
-  pub subcommand_same : texts_of levels ≡ level_words → texts_of members ≡ member_words → (words : List Text)
-      → subcommand_of (app_with (parsers_of levels members)) words ≡ subcommand_of sfbank_app words
-  subcommand_same first second words =
-      ap (λ ps. subcommand_of (app_with ps) words) (sym (parsers_moved first second)) ∙ moved_subcommand words
+  pub subcommand_same : texts_of members ≡ member_words → (words : List Text)
+      → subcommand_of (app_with (parsers_of members)) words ≡ subcommand_of sfbank_app words
+  subcommand_same same words =
+      ap (λ ps. subcommand_of (app_with ps) words) (sym (parsers_moved same)) ∙ moved_subcommand words
 
   -- the words have the same fault
-  pub fault_same : texts_of levels ≡ level_words → texts_of members ≡ member_words → (words : List Text)
-      → fault_of (app_with (parsers_of levels members)) words ≡ fault_of sfbank_app words
-  fault_same first second words =
-      ap (λ ps. fault_of (app_with ps) words) (sym (parsers_moved first second)) ∙ moved_fault words
+  pub fault_same : texts_of members ≡ member_words → (words : List Text)
+      → fault_of (app_with (parsers_of members)) words ≡ fault_of sfbank_app words
+  fault_same same words = ap (λ ps. fault_of (app_with ps) words) (sym (parsers_moved same)) ∙ moved_fault words
 
   -- clap states how it reads these commands
-  pub simple_app : is_simple (app_with (parsers_of levels members)) ≡ true
+  pub simple_app : is_simple (app_with (parsers_of members)) ≡ true
   simple_app = refl
 
   -- and how it fails
-  pub free_app : is_simple_and_free (app_with (parsers_of levels members)) ≡ true
+  pub free_app : is_simple_and_free (app_with (parsers_of members)) ≡ true
   free_app = refl

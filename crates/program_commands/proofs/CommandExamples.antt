@@ -177,9 +177,9 @@ pub odd_input : word_given odd_words (codes "IN") ≡ Some (Some (codes "--expla
 unfolding clap_on_literals
 odd_input = refl
 
-pub map_level : word_given map_words (codes "LEVEL") ≡ Some (Some (codes "inst"))
+pub map_member : word_given map_words (codes "MEMBER") ≡ Some (Some (codes "inst"))
 unfolding clap_on_literals
-map_level = refl
+map_member = refl
 
 pub map_number : value_given map_words (codes "N") ≡ Some (Some (codes "7"))
 unfolding clap_on_literals

@@ -5,6 +5,7 @@ pub mod CommandLaws
 pub mod FaultLaws
 mod FlagLaws
 mod GetterLaws
+mod PlanLaws
 mod KitLaws
 mod PresetLaws
 mod RequestLaws

@@ -260,4 +260,4 @@ none_kept_with_zones rows notes zones = (tt, λ kept given. absurd (go kept give
 pub none_taken : (rows : List Row)
     → FindsValues IsTakenPreset (λ (presets : Vec TakenPreset). presets.items) rows (codes "preset") None
     → FindsOne None (λ (take : TakePaths). AreGiven rows (take_operands take))
-none_taken rows none = (tt, λ take given. none.1 take.presets given.1.1.1.1.1.1.1.1.0)
+none_taken rows none = (tt, λ take given. none.1 take.presets given.1.1.1.1.1.1.1.1.1.0)

@@ -83,22 +83,22 @@ pub asked_of_sfbank : {app : App} → IsSfbankApp app → (words : List Text) (r
 asked_of_sfbank {app} is words request parsed =
     let of_app : App → Type 0 = λ a. IsParsedBy a words request in
     let of_used : Option (Text × List Row) → Type 0 = λ o. AsksFor o request in
-    subst of_used (subcommand_same is.0 is.1 is.2 is.3 words) (subst of_app is.4 parsed (simple_app is.0 is.1))
+    subst of_used (subcommand_same is.0 is.1 words) (subst of_app is.2 parsed (simple_app is.0))
 
 -- a command with the app of sfbank fails by the faults of sfbank
 pub fails_as_sfbank : {app : App} → IsSfbankApp app → (words : List Text) (result : Result Request Error)
     → (is_simple_and_free app ≡ true → FailsByFault app words result) → FailsByFault sfbank_app words result
 fails_as_sfbank {app} is words (Ok request) fails =
     let of_app : App → Type 0 = λ a. is_simple_and_free a ≡ true → FailsByFault a words (Ok request) in
-    sym (fault_same is.0 is.1 is.2 is.3 words) ∙ subst of_app is.4 fails (free_app is.0 is.1)
+    sym (fault_same is.0 is.1 words) ∙ subst of_app is.2 fails (free_app is.0)
 fails_as_sfbank {app} is words (Err e) fails =
     let of_app : App → Type 0 = λ a. is_simple_and_free a ≡ true → FailsByFault a words (Err e) in
     let Fails : Kinds → Option (Text × List Row) → Type 0 = λ kinds used. HasKind kinds e ⊎ AsksForNone used in
     let with_fault : Kinds → Type 0 = λ kinds. Fails kinds (subcommand_of sfbank_app words) in
     let with_used : Option (Text × List Row) → Type 0 =
-    λ used. Fails (fault_of (app_with (parsers_of is.0 is.1)) words) used in
-    subst with_fault (fault_same is.0 is.1 is.2 is.3 words)
-    (subst with_used (subcommand_same is.0 is.1 is.2 is.3 words) (subst of_app is.4 fails (free_app is.0 is.1)))
+    λ used. Fails (fault_of (app_with (parsers_of is.0)) words) used in
+    subst with_fault (fault_same is.0 is.1 words)
+    (subst with_used (subcommand_same is.0 is.1 words) (subst of_app is.2 fails (free_app is.0)))
 
 -- the first of two conditions that hold
 first_of_both : (a b : Bool) → (a && b) ≡ true → a ≡ true

@@ -10,8 +10,8 @@ use Rattle.program_commands.specs.declared.commands.WordParsers.{WordParsers}
 use Rattle.program_commands.specs.declared.commands.Operand as operand
 use Rattle.program_commands.specs.declared.commands.Operand.TheVariants as variant
 
--- an argument of a command with its name: any word, a path, paths, a number of 32 bits, a level and the word for a
--- member are required; a path or such a number after these is optional; a flag, a number of 16 bits with its default, a
+-- an argument of a command with its name: any word, a path, paths, a number of 32 bits, the word for a member are
+-- required; a path or such a number after these is optional; a flag, a number of 16 bits with its default, a
 -- word, words given one by one and this many words given together are options
 pub data Argument : Type 0 where
   Word : Text → Argument
@@ -20,7 +20,6 @@ pub data Argument : Type 0 where
   OptionalPath : Text → Argument
   Number : Text → Argument
   OptionalNumber : Text → Argument
-  Level : Text → Argument
   Member : Text → Argument
   Flag : Text → Argument
   Small : Text → Text → Argument
@@ -35,10 +34,6 @@ WordList = Bor (List (Bor Text))
 -- the words that it points to
 abbrev pub texts_of : WordList → List Text
 texts_of words = map (λ word. word.now) words.now
-
--- the words for the two levels of owners
-abbrev pub level_words : List Text
-level_words = codes "preset" ∷ codes "inst" ∷ []
 
 -- the words for a preset, an instrument and a sample
 abbrev pub member_words : List Text
@@ -73,6 +68,9 @@ dry_run_flag = Flag (codes "dry-run")
 abbrev pub script_option : Argument
 script_option = Single (codes "script")
 
+abbrev pub no_comments_flag : Argument
+no_comments_flag = Flag (codes "no-comments")
+
 abbrev pub report_flag : Argument
 report_flag = Flag (codes "report")
 
@@ -85,18 +83,19 @@ apply_arguments =
 -- the arguments of a command that finds edits
 abbrev pub plan_arguments : List Argument
 plan_arguments =
-    dry_run_flag ∷ script_option ∷ force_flag ∷ input_path ∷ output_path ∷ undo_path ∷ []
+    dry_run_flag ∷ script_option ∷ no_comments_flag ∷ force_flag ∷ input_path ∷ output_path ∷ undo_path ∷ []
 
 -- the arguments of one that copies from a second bank
 abbrev pub second_bank_arguments : List Argument
 second_bank_arguments =
-    dry_run_flag ∷ script_option ∷ force_flag ∷ input_path ∷ Path (codes "FROM") ∷ output_path ∷ undo_path ∷ []
+    dry_run_flag ∷ script_option ∷ no_comments_flag ∷ force_flag ∷ input_path ∷ Path (codes "FROM") ∷ output_path
+    ∷ undo_path ∷ []
 
 -- the arguments of `copy`
 abbrev pub copy_arguments : List Argument
 copy_arguments =
-    Single (codes "name") ∷ Single (codes "as") ∷ dry_run_flag ∷ script_option ∷ force_flag ∷ input_path
-    ∷ Member (codes "MEMBER") ∷ Number (codes "N") ∷ output_path ∷ undo_path ∷ []
+    Single (codes "name") ∷ Single (codes "as") ∷ dry_run_flag ∷ script_option ∷ no_comments_flag ∷ force_flag
+    ∷ input_path ∷ Member (codes "MEMBER") ∷ Number (codes "N") ∷ output_path ∷ undo_path ∷ []
 
 -- the options of reading a recording
 abbrev pub read_arguments : List Argument
@@ -126,8 +125,9 @@ abbrev pub commands_to_live : List (Text × List Argument)
 commands_to_live =
     (codes "apply", apply_arguments)
     ∷ (codes "canon", input_path ∷ output_path ∷ [])
+    ∷ (codes "check", Flag (codes "strict") ∷ input_path ∷ [])
     ∷ (codes "copy", copy_arguments)
-    ∷ (codes "diff", force_flag ∷ Path (codes "A") ∷ Path (codes "B") ∷ output_path ∷ [])
+    ∷ (codes "diff", no_comments_flag ∷ force_flag ∷ Path (codes "A") ∷ Path (codes "B") ∷ output_path ∷ [])
     ∷ (codes "explain", Word (codes "TOPIC") ∷ [])
     ∷ (codes "import", import_arguments)
     ∷ (codes "keep", Single (codes "notes") ∷ Flag (codes "zones") ∷ Repeated (codes "preset") ∷ plan_arguments)
@@ -137,13 +137,14 @@ commands_to_live =
 -- the commands from `map` on
 abbrev pub commands_from_map : List (Text × List Argument)
 commands_from_map =
-    (codes "map", force_flag ∷ input_path ∷ Level (codes "LEVEL") ∷ Number (codes "N") ∷ output_path ∷ [])
+    (codes "map", force_flag ∷ input_path ∷ Member (codes "MEMBER") ∷ Number (codes "N") ∷ output_path ∷ [])
     ∷ (codes "merge", Small (codes "shift") (codes "0") ∷ second_bank_arguments)
     ∷ (codes "new", force_flag ∷ Small (codes "minor") (codes "4") ∷ output_path ∷ [])
     ∷ (codes "pack", force_flag ∷ folder_path ∷ output_path ∷ [])
+    ∷ (codes "page", force_flag ∷ input_path ∷ output_path ∷ [])
     ∷ (codes "play", force_flag ∷ report_flag ∷ input_path ∷ Path (codes "NOTES") ∷ output_path ∷ [])
     ∷ (codes "replace", replace_arguments)
-    ∷ (codes "script", force_flag ∷ Flag (codes "no-points") ∷ input_path ∷ output_path ∷ [])
+    ∷ (codes "script", Flag (codes "no-points") ∷ no_comments_flag ∷ force_flag ∷ input_path ∷ output_path ∷ [])
     ∷ (codes "show", Flag (codes "zones") ∷ Flag (codes "uses") ∷ input_path ∷ [])
     ∷ (codes "take", Repeated (codes "preset") ∷ second_bank_arguments)
     ∷ (codes "tidy", Flag (codes "merge") ∷ plan_arguments)
@@ -181,7 +182,6 @@ rule_for parsers (Number name) =
     record (rule_for_required name) { parser = Some (number_parser 32) }
 rule_for parsers (OptionalNumber name) =
     record (rule_for_positional name) { parser = Some (number_parser 32) }
-rule_for parsers (Level name) = record (rule_for_required name) { parser = Some parsers.levels }
 rule_for parsers (Member name) = record (rule_for_required name) { parser = Some parsers.members }
 rule_for parsers (Flag name) = record (rule_for_option name) { action = Some SetTrue }
 rule_for parsers (Small name default) = record (rule_for_option name) {
@@ -219,30 +219,20 @@ abbrev pub at_no_address : List Text → WordList
 at_no_address words = record { ref_ptr = (0, 0); now = map (λ word. record { ref_ptr = (0, 0); now = word }) words }
 
 -- the parsers of operands that are one of these words
-abbrev pub parsers_of : WordList → WordList → WordParsers
-parsers_of levels members = record { levels = parser.Names levels; members = parser.Names members }
+abbrev pub parsers_of : WordList → WordParsers
+parsers_of members = record { members = parser.Names members }
 
 -- what clap reads of sfbank: the program with its commands and their arguments
 abbrev pub sfbank_app : App
-sfbank_app = app_with (parsers_of (at_no_address level_words) (at_no_address member_words))
+sfbank_app = app_with (parsers_of (at_no_address member_words))
 
 -- these are the parsers of operands that are one of some words, with the words at any addresses
 abbrev pub AreWordParsers : WordParsers → Type 0
-AreWordParsers parsers =
-    (levels : WordList)
-    × (members : WordList)
-    × (texts_of levels ≡ level_words)
-    × (texts_of members ≡ member_words)
-    × (parsers ≡ parsers_of levels members)
+AreWordParsers parsers = (members : WordList) × (texts_of members ≡ member_words) × (parsers ≡ parsers_of members)
 
 -- this is sfbank_app, with the words at any addresses
 abbrev pub IsSfbankApp : App → Type 0
-IsSfbankApp app =
-    (levels : WordList)
-    × (members : WordList)
-    × (texts_of levels ≡ level_words)
-    × (texts_of members ≡ member_words)
-    × (app ≡ app_with (parsers_of levels members))
+IsSfbankApp app = (members : WordList) × (texts_of members ≡ member_words) × (app ≡ app_with (parsers_of members))
 
 -- an operand of the code as an argument
 abbrev pub argument_of : operand.Operand → Argument
@@ -252,7 +242,6 @@ argument_of (variant.Paths name help) = Paths name.now
 argument_of (variant.OptionalPath name help) = OptionalPath name.now
 argument_of (variant.Number name help) = Number name.now
 argument_of (variant.OptionalNumber name help) = OptionalNumber name.now
-argument_of (variant.Level name help) = Level name.now
 argument_of (variant.Member name help) = Member name.now
 argument_of (variant.Flag name help) = Flag name.now
 argument_of (variant.Small name value default help) = Small name.now default.now

@@ -10,7 +10,6 @@ use Rattle.clap.specs.Words.{App, HasKind, Row, Text, all_of, fault_of, first_of
 use Rattle.clap.specs.Words.{subcommand_of}
 use Rattle.clap.specs.declared.error.Error.{Error}
 use Rattle.clap.specs.declared.parser.matches.ArgMatches.{ArgMatches}
-use Rattle.bank_changes.specs.declared.members.Owner.{Owner}
 use Rattle.bank_changes.specs.declared.members.Owner.TheVariants.{Preset, Inst}
 use Rattle.sf_base.specs.Names.{IsName}
 use Rattle.plan_presets.specs.declared.numbers.CopiedMember.{CopiedMember}
@@ -39,10 +38,12 @@ use Rattle.program_commands.specs.declared.recordings.ImportPaths.{ImportPaths}
 use Rattle.program_commands.specs.declared.recordings.ReplacePaths.{ReplacePaths}
 use Rattle.program_commands.specs.declared.recordings.WaveAllPaths.{WaveAllPaths}
 use Rattle.program_commands.specs.declared.words.Request.{Request}
-use Rattle.program_commands.specs.declared.words.Request.TheVariants.{Apply, ApplyOnly, Canon, Copy, Diff}
+use Rattle.program_commands.specs.declared.words.Request.TheVariants.{Apply, ApplyOnly, Canon, Check, Copy, Diff}
 use Rattle.program_commands.specs.declared.words.Request.TheVariants.{Explain, Import, ImportKit, Keep, Live, Map}
-use Rattle.program_commands.specs.declared.words.Request.TheVariants.{Merge, New, Pack, Play, Replace, Script, Show}
+use Rattle.program_commands.specs.declared.words.Request.TheVariants.{Merge, New, Pack, Page, Play, Replace, Script, Show}
 use Rattle.program_commands.specs.declared.words.Request.TheVariants.{Take, Tidy, Unpack, Wave, WaveAll}
+use Rattle.program_commands.specs.declared.words.Drawn.{Drawn}
+use Rattle.program_commands.specs.declared.words.Drawn.TheVariants.{Ranges, Waveform}
 use Rattle.program_commands.specs.declared.words.Forms.{Forms}
 use Rattle.program_commands.specs.declared.words.Forms.TheVariants.{Every, Neutral}
 
@@ -77,19 +78,21 @@ abbrev pub is_neutral : Forms → Bool
 is_neutral Every = false
 is_neutral Neutral = true
 
--- the word for the level of an owner
-abbrev pub level_word : Owner → Text
-level_word (Preset n) = codes "preset"
-level_word (Inst n) = codes "inst"
+-- the word for what is drawn
+abbrev pub drawn_word : Drawn → Text
+drawn_word (Ranges (Preset n)) = codes "preset"
+drawn_word (Ranges (Inst n)) = codes "inst"
+drawn_word (Waveform n) = codes "sample"
 
--- the number of an owner at its level
-abbrev pub owner_number : Owner → ℕ
-owner_number (Preset n) = n
-owner_number (Inst n) = n
+-- its number in its list
+abbrev pub drawn_number : Drawn → ℕ
+drawn_number (Ranges (Preset n)) = n
+drawn_number (Ranges (Inst n)) = n
+drawn_number (Waveform n) = n
 
--- the operands that name an owner
-abbrev pub owner_operands : Owner → List Operand
-owner_operands owner = Word (codes "LEVEL") (level_word owner) ∷ Number (codes "N") 32 (owner_number owner) ∷ []
+-- the operands that name what is drawn
+abbrev pub drawn_operands : Drawn → List Operand
+drawn_operands drawn = Word (codes "MEMBER") (drawn_word drawn) ∷ Number (codes "N") 32 (drawn_number drawn) ∷ []
 
 -- an option with the path of an output, if it is used
 abbrev pub optional_output : Text → Option (Bor Text) → Operand
@@ -105,6 +108,7 @@ plan_operands paths =
     ∷ Flag (codes "dry-run") paths.dry_run
     ∷ optional_output (codes "script") paths.script
     ∷ NotBoth (codes "script") (codes "dry-run")
+    ∷ Flag (codes "no-comments") paths.no_comments
     ∷ Flag (codes "force") paths.force
     ∷ []
 
@@ -296,11 +300,13 @@ operands_of (ApplyOnly paths) =
     ∷ Set (codes "no-undo")
     ∷ []
 operands_of (Canon paths) = Input (codes "IN") paths.input.now ∷ Output (codes "OUT") paths.out.now ∷ []
+operands_of (Check paths) = Input (codes "IN") paths.input.now ∷ Flag (codes "strict") paths.strict ∷ []
 operands_of (Copy copy) = copy_operands copy
 operands_of (Diff paths) =
     Input (codes "A") paths.first.now
     ∷ Input (codes "B") paths.second.now
     ∷ Output (codes "OUT") paths.out.now
+    ∷ Flag (codes "no-comments") paths.no_comments
     ∷ Flag (codes "force") paths.force
     ∷ []
 operands_of (Explain topic) = topic_operands topic
@@ -311,8 +317,8 @@ operands_of (Live paths) =
     Input (codes "IN") paths.input.now ∷ Path (codes "PCM") paths.pcm.now ∷ Flag (codes "force") paths.force ∷ []
 operands_of (Map paths) =
     Input (codes "IN") paths.input.now
-    ∷ Word (codes "LEVEL") (level_word paths.owner)
-    ∷ Number (codes "N") 32 (owner_number paths.owner)
+    ∷ Word (codes "MEMBER") (drawn_word paths.drawn)
+    ∷ Number (codes "N") 32 (drawn_number paths.drawn)
     ∷ Output (codes "OUT") paths.out.now
     ∷ Flag (codes "force") paths.force
     ∷ []
@@ -321,6 +327,8 @@ operands_of (New bank) =
     Output (codes "OUT") bank.out.now ∷ Number (codes "minor") 16 bank.minor ∷ Flag (codes "force") bank.force ∷ []
 operands_of (Pack paths) =
     Path (codes "FOLDER") paths.folder.now ∷ Output (codes "OUT") paths.out.now ∷ Flag (codes "force") paths.force ∷ []
+operands_of (Page paths) =
+    Input (codes "IN") paths.input.now ∷ Output (codes "OUT") paths.out.now ∷ Flag (codes "force") paths.force ∷ []
 operands_of (Play paths) =
     Input (codes "IN") paths.input.now
     ∷ Input (codes "NOTES") paths.notes.now
@@ -332,6 +340,7 @@ operands_of (Script paths) =
     Input (codes "IN") paths.input.now
     ∷ Output (codes "OUT") paths.out.now
     ∷ Flag (codes "no-points") paths.no_points
+    ∷ Flag (codes "no-comments") paths.no_comments
     ∷ Flag (codes "force") paths.force
     ∷ []
 operands_of (Show paths) =
@@ -356,6 +365,7 @@ abbrev pub command_of : Request → Text
 command_of (Apply paths) = codes "apply"
 command_of (ApplyOnly paths) = codes "apply"
 command_of (Canon paths) = codes "canon"
+command_of (Check paths) = codes "check"
 command_of (Copy copy) = codes "copy"
 command_of (Diff paths) = codes "diff"
 command_of (Explain topic) = codes "explain"
@@ -367,6 +377,7 @@ command_of (Map paths) = codes "map"
 command_of (Merge merge) = codes "merge"
 command_of (New bank) = codes "new"
 command_of (Pack paths) = codes "pack"
+command_of (Page paths) = codes "page"
 command_of (Play paths) = codes "play"
 command_of (Replace paths) = codes "replace"
 command_of (Script paths) = codes "script"

@@ -31,16 +31,12 @@ const IMPORT_USAGE: &str = "sfbank import [OPTIONS] <IN> <WAVE>... <OUT> <UNDO>
 const WAVE_USAGE: &str = "sfbank wave [--force] [--pair] <IN> <S> <OUT>
        sfbank wave [--force] [--instrument <N>] --all <FOLDER> <IN>";
 
-/// The names of the two levels.
-static LEVELS: [&str; 2] = ["preset", "inst"];
-
 /// The words for a preset, an instrument and a sample.
 static MEMBERS: [&str; 3] = ["preset", "inst", "sample"];
 
 /// The parsers of operands that are one of some words.
 #[derive(Clone, Copy)]
 struct WordParsers<'a> {
-    levels: ValueParser<'a>,
     members: ValueParser<'a>,
 }
 
@@ -69,8 +65,6 @@ enum Operand {
     Number(&'static str, &'static str),
     /// A 32-bit number, optional, after the required operands.
     OptionalNumber(&'static str, &'static str),
-    /// `preset` or `inst`, required.
-    Level(&'static str, &'static str),
     /// `preset`, `inst` or `sample`, required.
     Member(&'static str, &'static str),
     /// `--NAME`, optional.
@@ -131,6 +125,12 @@ const DRY_RUN: Operand = Operand::Flag("dry-run", "Prints the script of edits, a
 /// The option that saves the script of the edits.
 const SCRIPT: Operand = Operand::Single("script", "FILE", "Saves the script of edits too");
 
+/// The flag of the commands that write scripts.
+const NO_COMMENTS: Operand = Operand::Flag(
+    "no-comments",
+    "Writes no comments that name what the numbers on a line mean",
+);
+
 /// The flag of the commands that play.
 const REPORT: Operand = Operand::Flag(
     "report",
@@ -144,7 +144,7 @@ const LIVE_FORCE: Operand = Operand::Flag(
 );
 
 /// The commands up to `live`. One table of all would be too long to be proved.
-static COMMANDS_TO_LIVE: [Entry; 8] = [
+static COMMANDS_TO_LIVE: [Entry; 9] = [
     Entry {
         name: "apply",
         about: "Runs a script of edits on a bank, and writes its undo script",
@@ -174,6 +174,16 @@ static COMMANDS_TO_LIVE: [Entry; 8] = [
         example: "Example: sfbank canon organ.sf2 tidy.sf2",
     },
     Entry {
+        name: "check",
+        about: "Lists what is probably a mistake in a bank, each with the edit that would repair it",
+        usage: None,
+        operands: &[
+            Operand::Flag("strict", "Ends with status 7 if there is anything to list"),
+            Operand::Path("IN", "The bank to check"),
+        ],
+        example: "Example: sfbank check organ.sf2",
+    },
+    Entry {
         name: "copy",
         about: "Copies a preset, an instrument or a sample to the end of its list",
         usage: None,
@@ -186,6 +196,7 @@ static COMMANDS_TO_LIVE: [Entry; 8] = [
             ),
             DRY_RUN,
             SCRIPT,
+            NO_COMMENTS,
             PLAN_FORCE,
             Operand::Path("IN", "The bank to copy in"),
             Operand::Member("MEMBER", "What to copy"),
@@ -200,6 +211,7 @@ static COMMANDS_TO_LIVE: [Entry; 8] = [
         about: "Writes a script that turns bank A into bank B",
         usage: None,
         operands: &[
+            NO_COMMENTS,
             FORCE,
             Operand::Path("A", "The first bank"),
             Operand::Path("B", "The second bank, of the same minor version"),
@@ -276,6 +288,7 @@ static COMMANDS_TO_LIVE: [Entry; 8] = [
             ),
             DRY_RUN,
             SCRIPT,
+            NO_COMMENTS,
             PLAN_FORCE,
             Operand::Path("IN", "The bank to reduce"),
             Operand::Path("OUT", "Where the smaller bank is written; may be IN"),
@@ -301,15 +314,15 @@ static COMMANDS_TO_LIVE: [Entry; 8] = [
 ];
 
 /// The commands from `map` on.
-static COMMANDS_FROM_MAP: [Entry; 12] = [
+static COMMANDS_FROM_MAP: [Entry; 13] = [
     Entry {
         name: "map",
-        about: "Draws the key and velocity ranges of a preset or an instrument as an SVG picture",
+        about: "Draws the ranges of a preset or an instrument, or the waveform of a sample, as an SVG picture",
         usage: None,
         operands: &[
             FORCE,
             Operand::Path("IN", "The bank to look at"),
-            Operand::Level("LEVEL", "What to draw"),
+            Operand::Member("MEMBER", "What to draw"),
             Operand::Number("N", "The number that `show` lists it by"),
             Operand::Path("OUT", "Where the picture is written"),
         ],
@@ -328,6 +341,7 @@ static COMMANDS_FROM_MAP: [Entry; 12] = [
             ),
             DRY_RUN,
             SCRIPT,
+            NO_COMMENTS,
             PLAN_FORCE,
             Operand::Path("IN", "The bank to add to"),
             Operand::Path("FROM", "The bank to add"),
@@ -367,6 +381,17 @@ static COMMANDS_FROM_MAP: [Entry; 12] = [
         example: "Example: sfbank pack organ changed.sf2",
     },
     Entry {
+        name: "page",
+        about: "Writes a bank as an HTML page, with its maps, waveforms and mistakes",
+        usage: None,
+        operands: &[
+            FORCE,
+            Operand::Path("IN", "The bank to show"),
+            Operand::Path("OUT", "Where the page is written"),
+        ],
+        example: "Example: sfbank page organ.sf2 organ.html",
+    },
+    Entry {
         name: "play",
         about: "Plays notes on a bank into a WAVE file",
         usage: None,
@@ -401,11 +426,12 @@ static COMMANDS_FROM_MAP: [Entry; 12] = [
         about: "Writes a script that makes the bank from the empty bank of its minor version",
         usage: None,
         operands: &[
-            FORCE,
             Operand::Flag(
                 "no-points",
                 "Leaves out the points of samples: to read and compare; it can't be run if a sample has a loop",
             ),
+            NO_COMMENTS,
+            FORCE,
             Operand::Path("IN", "The bank to read"),
             Operand::Path("OUT", "Where the script is written"),
         ],
@@ -437,6 +463,7 @@ static COMMANDS_FROM_MAP: [Entry; 12] = [
             ),
             DRY_RUN,
             SCRIPT,
+            NO_COMMENTS,
             PLAN_FORCE,
             Operand::Path("IN", "The bank to copy into"),
             Operand::Path("FROM", "The bank to copy from"),
@@ -453,6 +480,7 @@ static COMMANDS_FROM_MAP: [Entry; 12] = [
             Operand::Flag("merge", "Joins equal samples and equal instruments too"),
             DRY_RUN,
             SCRIPT,
+            NO_COMMENTS,
             PLAN_FORCE,
             Operand::Path("IN", "The bank to tidy"),
             Operand::Path("OUT", "Where the tidied bank is written; may be IN"),
@@ -551,7 +579,6 @@ fn word_parsers<'a>() -> WordParsers<'a>
     ensures { AreWordParsers result }
 {
     WordParsers {
-        levels: ValueParser::from(LEVELS.as_slice()),
         members: ValueParser::from(MEMBERS.as_slice()),
     }
 }
@@ -641,7 +668,6 @@ fn arg_of<'a>(alloc: Global, operand: Operand, parsers: WordParsers<'a>) -> Arg<
         Operand::OptionalNumber(name, help) => {
             positional(alloc, name, help).value_parser(value_parser!(u32))
         }
-        Operand::Level(name, help) => required(alloc, name, help).value_parser(parsers.levels),
         Operand::Member(name, help) => required(alloc, name, help).value_parser(parsers.members),
         Operand::Flag(name, help) => option(alloc, name, help).action(ArgAction::SetTrue),
         Operand::Small(name, value, default, help) => option(alloc, name, help)

@@ -18,6 +18,7 @@ pub use names::recording_name;
 pub use plans::{CopyPaths, KeepPaths, Kept, MergePaths, PlanPaths, TakePaths, TidyPaths, Zones};
 pub use recordings::{ImportPaths, ReplacePaths, WaveAllPaths, WavePaths};
 pub use words::{
-    ApplyOnlyPaths, ApplyPaths, CanonPaths, DiffPaths, Forms, LivePaths, MapPaths, NewBank,
-    PackPaths, PlayPaths, Request, ScriptPaths, ShowPaths, UnpackPaths, request_of,
+    ApplyOnlyPaths, ApplyPaths, CanonPaths, CheckPaths, DiffPaths, Drawn, Forms, LivePaths,
+    MapPaths, NewBank, PackPaths, PagePaths, PlayPaths, Request, ScriptPaths, ShowPaths,
+    UnpackPaths, request_of,
 };

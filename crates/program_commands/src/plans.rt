@@ -25,6 +25,8 @@ pub struct PlanPaths<'a> {
     pub dry_run: bool,
     /// Where the script of the edits is saved, if it is.
     pub script: Option<&'a str>,
+    /// Whether that script has no comments.
+    pub no_comments: bool,
     /// Whether the two scripts may replace banks.
     pub force: bool,
 }
@@ -102,6 +104,7 @@ pub(crate) fn read_plan<'a>(matches: &ArgMatches<'a>) -> Option<PlanPaths<'a>>
         undo: read_output(matches, "UNDO")?,
         dry_run: read_flag(matches, "dry-run"),
         script: read_optional_output(matches, "script"),
+        no_comments: read_flag(matches, "no-comments"),
         force: read_flag(matches, "force"),
     })
 }

@@ -2,7 +2,7 @@
 ghost use Rattle.std.specs.Prelude.{◌≡◌, ◌≢◌, IfOk, codes, false, map, option_map, true};
 ghost use Rattle.clap.specs.Words.{app_of, first_of, is_simple_and_free, subcommand_of, subcommand_rows_of};
 ghost use Rattle.program_commands.specs.Commands.{sfbank_app};
-ghost use Rattle.program_commands.specs.Words.{Number, Flag, is_neutral, owner_operands, operands_of};
+ghost use Rattle.program_commands.specs.Words.{Number, Flag, is_neutral, drawn_operands, operands_of};
 ghost use Rattle.program_commands.specs.Words.{rows_in, AreGiven, AsksFor, FailsByFault, FindsOne, IsGiven};
 ghost use Rattle.program_commands.specs.Words.{IsParsedBy};
 
@@ -34,6 +34,8 @@ pub enum Request<'a> {
     ApplyOnly(ApplyOnlyPaths<'a>),
     /// Write a bank in its canonical form.
     Canon(CanonPaths<'a>),
+    /// List what is probably a mistake.
+    Check(CheckPaths<'a>),
     /// Copy a preset, an instrument or a sample.
     Copy(CopyPaths<'a>),
     /// Write a script that turns one bank into another.
@@ -48,7 +50,7 @@ pub enum Request<'a> {
     Keep(KeepPaths<'a>),
     /// Edit and play a bank live.
     Live(LivePaths<'a>),
-    /// Draw the key and velocity ranges of a preset or an instrument.
+    /// Draw the key and velocity ranges of a preset or an instrument, or the waveform of a sample.
     Map(MapPaths<'a>),
     /// Add all that another bank has.
     Merge(MergePaths<'a>),
@@ -56,6 +58,8 @@ pub enum Request<'a> {
     New(NewBank<'a>),
     /// Make the bank of a folder.
     Pack(PackPaths<'a>),
+    /// Write a bank as an HTML page.
+    Page(PagePaths<'a>),
     /// Play notes on a bank into a WAVE file.
     Play(PlayPaths<'a>),
     /// Put a recording in the place of a sample.
@@ -112,12 +116,22 @@ pub struct CanonPaths<'a> {
     pub out: &'a str,
 }
 
+/// The operands of `check`.
+#[derive(Clone, Copy)]
+pub struct CheckPaths<'a> {
+    pub input: &'a str,
+    /// Whether a finding is a fault.
+    pub strict: bool,
+}
+
 /// The operands of `diff`.
 #[derive(Clone, Copy)]
 pub struct DiffPaths<'a> {
     pub first: &'a str,
     pub second: &'a str,
     pub out: &'a str,
+    /// Whether the script has no comments.
+    pub no_comments: bool,
     /// Whether the script may replace a bank.
     pub force: bool,
 }
@@ -131,12 +145,20 @@ pub struct LivePaths<'a> {
     pub force: bool,
 }
 
+/// What `map` draws.
+#[derive(Clone, Copy)]
+pub enum Drawn {
+    /// The key and velocity ranges of a preset or an instrument.
+    Ranges(Owner),
+    /// The waveform of the sample with this number.
+    Waveform(u32),
+}
+
 /// The operands of `map`.
 #[derive(Clone, Copy)]
 pub struct MapPaths<'a> {
     pub input: &'a str,
-    /// The preset or instrument whose ranges are drawn.
-    pub owner: Owner,
+    pub drawn: Drawn,
     pub out: &'a str,
     /// Whether the picture may replace a bank.
     pub force: bool,
@@ -161,6 +183,15 @@ pub struct PackPaths<'a> {
     pub force: bool,
 }
 
+/// The operands of `page`.
+#[derive(Clone, Copy)]
+pub struct PagePaths<'a> {
+    pub input: &'a str,
+    pub out: &'a str,
+    /// Whether the page may replace a bank.
+    pub force: bool,
+}
+
 /// The operands of `play`.
 #[derive(Clone, Copy)]
 pub struct PlayPaths<'a> {
@@ -178,6 +209,8 @@ pub struct ScriptPaths<'a> {
     pub out: &'a str,
     /// Whether the script leaves out the points of samples.
     pub no_points: bool,
+    /// Whether the script has no comments.
+    pub no_comments: bool,
     /// Whether the script may replace a bank.
     pub force: bool,
 }
@@ -392,6 +425,7 @@ fn request_of_command<'a>(name: &str, words: &ArgMatches<'a>) -> Option<Request<
     Some(match name {
         "apply" => return request_to_apply(words),
         "canon" => Request::Canon(read_canon(words)?),
+        "check" => Request::Check(read_check(words)?),
         "copy" => return request_to_copy(words),
         "diff" => Request::Diff(read_diff(words)?),
         "explain" => Request::Explain(read_topic(words)?),
@@ -400,6 +434,7 @@ fn request_of_command<'a>(name: &str, words: &ArgMatches<'a>) -> Option<Request<
         "merge" => Request::Merge(read_merge(words)?),
         "new" => Request::New(read_new(words)?),
         "pack" => Request::Pack(read_pack(words)?),
+        "page" => Request::Page(read_page(words)?),
         "play" => Request::Play(read_play(words)?),
         "replace" => Request::Replace(read_replace(words)?),
         "script" => Request::Script(read_script(words)?),
@@ -463,6 +498,15 @@ fn read_canon<'a>(matches: &ArgMatches<'a>) -> Option<CanonPaths<'a>>
     })
 }
 
+fn read_check<'a>(matches: &ArgMatches<'a>) -> Option<CheckPaths<'a>>
+    ensures { FindsOne result (λ paths. AreGiven (rows_in matches.now) (operands_of (Request.Check paths))) }
+{
+    Some(CheckPaths {
+        input: read_input(matches, "IN")?,
+        strict: read_flag(matches, "strict"),
+    })
+}
+
 fn read_diff<'a>(matches: &ArgMatches<'a>) -> Option<DiffPaths<'a>>
     ensures { FindsOne result (λ paths. AreGiven (rows_in matches.now) (operands_of (Request.Diff paths))) }
 {
@@ -470,6 +514,7 @@ fn read_diff<'a>(matches: &ArgMatches<'a>) -> Option<DiffPaths<'a>>
         first: read_input(matches, "A")?,
         second: read_input(matches, "B")?,
         out: read_output(matches, "OUT")?,
+        no_comments: read_flag(matches, "no-comments"),
         force: read_flag(matches, "force"),
     })
 }
@@ -489,21 +534,23 @@ fn read_map<'a>(matches: &ArgMatches<'a>) -> Option<MapPaths<'a>>
 {
     Some(MapPaths {
         input: read_input(matches, "IN")?,
-        owner: read_owner(matches)?,
+        drawn: read_drawn(matches)?,
         out: read_output(matches, "OUT")?,
         force: read_flag(matches, "force"),
     })
 }
 
-fn read_owner(matches: &ArgMatches<'_>) -> Option<Owner>
-    ensures { FindsOne result (λ owner. AreGiven (rows_in matches.now) (owner_operands owner)) }
+fn read_drawn(matches: &ArgMatches<'_>) -> Option<Drawn>
+    ensures { FindsOne result (λ drawn. AreGiven (rows_in matches.now) (drawn_operands drawn)) }
 {
-    let level = read_word(matches, "LEVEL")?;
+    let member = read_word(matches, "MEMBER")?;
     let number = read_number(matches, "N")?;
-    if level == "preset" {
-        Some(Owner::Preset(number))
-    } else if level == "inst" {
-        Some(Owner::Inst(number))
+    if member == "preset" {
+        Some(Drawn::Ranges(Owner::Preset(number)))
+    } else if member == "inst" {
+        Some(Drawn::Ranges(Owner::Inst(number)))
+    } else if member == "sample" {
+        Some(Drawn::Waveform(number))
     } else {
         None
     }
@@ -515,6 +562,16 @@ fn read_new<'a>(matches: &ArgMatches<'a>) -> Option<NewBank<'a>>
     Some(NewBank {
         out: read_output(matches, "OUT")?,
         minor: read_small(matches, "minor")?,
+        force: read_flag(matches, "force"),
+    })
+}
+
+fn read_page<'a>(matches: &ArgMatches<'a>) -> Option<PagePaths<'a>>
+    ensures { FindsOne result (λ paths. AreGiven (rows_in matches.now) (operands_of (Request.Page paths))) }
+{
+    Some(PagePaths {
+        input: read_input(matches, "IN")?,
+        out: read_output(matches, "OUT")?,
         force: read_flag(matches, "force"),
     })
 }
@@ -537,6 +594,7 @@ fn read_script<'a>(matches: &ArgMatches<'a>) -> Option<ScriptPaths<'a>>
         input: read_input(matches, "IN")?,
         out: read_output(matches, "OUT")?,
         no_points: read_flag(matches, "no-points"),
+        no_comments: read_flag(matches, "no-comments"),
         force: read_flag(matches, "force"),
     })
 }

@@ -27,7 +27,7 @@ use Rattle.plan_presets.specs.declared.fault.PresetFault.TheVariants as preset
 use Rattle.program_explanations.specs.declared.explanations.FaultCode.{FaultCode}
 use Rattle.program_explanations.specs.declared.explanations.FaultCode.TheVariants.{Reading, Script, Notes, Recording, Output}
 use Rattle.program_explanations.specs.declared.explanations.FaultCode.TheVariants.{Refused, NotNeutral, OtherVersion}
-use Rattle.program_explanations.specs.declared.explanations.FaultCode.TheVariants.{Presets, PlanFailed, Table, FolderThere}
+use Rattle.program_explanations.specs.declared.explanations.FaultCode.TheVariants.{Presets, PlanFailed, Table, FolderThere, HasFindings}
 use Rattle.program_explanations.specs.declared.explanations.TheConstants.{ALL}
 use Rattle.program_explanations.specs.Explanations.{number_of, name_of}
 
@@ -156,6 +156,7 @@ all_listed OtherVersion = refl
 all_listed (Presets it) = of_presets it
 all_listed PlanFailed = refl
 all_listed FolderThere = refl
+all_listed HasFindings = refl
 
 -- a fault or refusal with this number is found
 abbrev pub Found : ℕ → Type 0

@@ -14,7 +14,7 @@ use Rattle.edit_refusals.specs.RefusalNames as refusals
 use Rattle.program_explanations.specs.declared.explanations.FaultCode.{FaultCode}
 use Rattle.program_explanations.specs.declared.explanations.FaultCode.TheVariants.{Reading, Script, Notes, Recording, Output}
 use Rattle.program_explanations.specs.declared.explanations.FaultCode.TheVariants.{Refused, NotNeutral, OtherVersion}
-use Rattle.program_explanations.specs.declared.explanations.FaultCode.TheVariants.{Presets, PlanFailed, Table, FolderThere}
+use Rattle.program_explanations.specs.declared.explanations.FaultCode.TheVariants.{Presets, PlanFailed, Table, FolderThere, HasFindings}
 use Rattle.program_explanations.specs.declared.explanations.Explanation.{Explanation}
 
 -- the number of each fault and refusal, as its own crate defines it
@@ -31,6 +31,7 @@ number_of OtherVersion = 51
 number_of (Presets fault) = presets.number_of fault
 number_of PlanFailed = 66
 number_of FolderThere = 81
+number_of HasFindings = 82
 
 -- the name of each fault and refusal, as its own crate defines it
 abbrev pub name_of : FaultCode → List ℕ
@@ -46,6 +47,7 @@ name_of OtherVersion = codes "OtherVersion"
 name_of (Presets fault) = presets.name_of fault
 name_of PlanFailed = codes "PlanFailed"
 name_of FolderThere = codes "FolderThere"
+name_of HasFindings = codes "HasFindings"
 
 -- some fault or refusal has the number that is asked for, and this number and name are its own
 abbrev pub IsOfNumber : ℕ → ℕ → List ℕ → Type 0

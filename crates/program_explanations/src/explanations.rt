@@ -47,6 +47,8 @@ pub enum FaultCode {
     PlanFailed,
     /// A folder that is there already, where a new one is made.
     FolderThere,
+    /// A bank with findings, where none is accepted.
+    HasFindings,
 }
 
 /// The explanation of a fault or refusal.
@@ -70,7 +72,7 @@ pub struct Explanations<'t>(pub &'t [Explanation]);
 const ANY_NUMBERS: PresetNumbers = PresetNumbers { bank: 0, number: 0 };
 
 /// One fault or refusal for each number, in the order of the numbers. The fields of a variant have any value.
-static ALL: [FaultCode; 76] = [
+static ALL: [FaultCode; 77] = [
     FaultCode::Reading(ReadFault::NotRiff),
     FaultCode::Reading(ReadFault::NotSfbk),
     FaultCode::Reading(ReadFault::Truncated),
@@ -147,6 +149,7 @@ static ALL: [FaultCode; 76] = [
     FaultCode::Recording(WaveFault::OtherRate),
     FaultCode::Recording(WaveFault::ShortForLoop),
     FaultCode::FolderThere,
+    FaultCode::HasFindings,
 ];
 
 impl FaultCode {
@@ -181,6 +184,7 @@ impl FaultCode {
             FaultCode::Presets(fault) => fault.number(),
             FaultCode::PlanFailed => 66,
             FaultCode::FolderThere => 81,
+            FaultCode::HasFindings => 82,
         }
     }
 
@@ -201,6 +205,7 @@ impl FaultCode {
             FaultCode::Presets(fault) => fault.name(),
             FaultCode::PlanFailed => "PlanFailed",
             FaultCode::FolderThere => "FolderThere",
+            FaultCode::HasFindings => "HasFindings",
         }
     }
 
@@ -238,6 +243,10 @@ impl FaultCode {
             FaultCode::FolderThere => (
                 "FOLDER is there already, and files in it could be replaced.",
                 "Give a new folder, or add --force to write into this one.",
+            ),
+            FaultCode::HasFindings => (
+                "The bank has what is probably a mistake: each is on a line of the output.",
+                "Run the edits after 'repair:' that you agree with, or leave out --strict.",
             ),
         }
     }

@@ -12,7 +12,8 @@ use Rattle.program_reports.specs.declared.details.Details.{Details}
 use Rattle.program_reports.specs.declared.details.Advice.{Advice}
 use Rattle.program_reports.specs.declared.details.Advice.TheVariants.{Nothing, Line, Explained}
 use Rattle.program_reports.specs.declared.fault.Fault.{Fault}
-use Rattle.program_reports.specs.declared.fault.Fault.TheVariants.{File, FolderThere, Output, RowFile, RowRecording, Run}
+use Rattle.program_reports.specs.declared.fault.Fault.TheVariants.{File, FolderThere, HasFindings, Output, RowFile}
+use Rattle.program_reports.specs.declared.fault.Fault.TheVariants.{RowRecording, Run}
 use Rattle.program_reports.specs.declared.run_fault.RunFault.{RunFault}
 use Rattle.program_reports.specs.declared.run_fault.RunFault.TheVariants.{Read, ReadFirst, ReadSecond, ReadFrom, Script}
 use Rattle.program_reports.specs.declared.run_fault.RunFault.TheVariants.{Refused, NotNeutral, OtherVersion, Notes}
@@ -66,6 +67,7 @@ IsAdvice (RowFile row why) text = text ≡ indented (reason_of why)
 IsAdvice (RowRecording row fault) text = IsExplained (Some (code.Recording fault)) text
 IsAdvice (Output fault path) text = IsExplained (Some (code.Output fault)) text
 IsAdvice (FolderThere path) text = IsExplained (Some code.FolderThere) text
+IsAdvice (HasFindings path) text = IsExplained (Some code.HasFindings) text
 IsAdvice (Run fault path) text = IsExplained (code_of fault) text
 IsAdvice fault text = text ≡ []
 

@@ -134,11 +134,14 @@ write_line path written =
 abbrev pub file_line : List ℕ → List ℕ
 file_line path = concat (codes "sfbank: file fault " ∷ path ∷ codes "\n" ∷ [])
 
+-- a line that ends with a number, a name and a path
+abbrev pub path_line : List ℕ → ℕ → List ℕ → List ℕ → List ℕ
+path_line start number name path =
+    concat (start ∷ decimal number ∷ codes " " ∷ name ∷ codes " " ∷ path ∷ codes "\n" ∷ [])
+
 -- an output that is rejected, by the number and the name of the fault, and its path
 abbrev pub rejected_line : ℕ → List ℕ → List ℕ → List ℕ
-rejected_line number name path =
-    concat
-    (codes "sfbank: output fault " ∷ decimal number ∷ codes " " ∷ name ∷ codes " " ∷ path ∷ codes "\n" ∷ [])
+rejected_line number name path = path_line (codes "sfbank: output fault ") number name path
 
 abbrev pub output_line : List ℕ → OutputFault → List ℕ
 output_line path fault = rejected_line (rejected.number_of fault) (rejected.name_of fault) path
@@ -147,6 +150,12 @@ output_line path fault = rejected_line (rejected.number_of fault) (rejected.name
 abbrev pub folder_there_line : List ℕ → List ℕ
 folder_there_line path =
     rejected_line (explanations.number_of code.FolderThere) (explanations.name_of code.FolderThere) path
+
+-- a bank that has findings
+abbrev pub has_findings_line : List ℕ → List ℕ
+has_findings_line path =
+    path_line (codes "sfbank: check fault ") (explanations.number_of code.HasFindings)
+    (explanations.name_of code.HasFindings) path
 
 -- a number, or a name, that no fault and no refusal has
 abbrev pub no_number_line : ℕ → List ℕ

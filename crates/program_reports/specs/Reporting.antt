@@ -5,7 +5,7 @@ use Rattle.program_reports.specs.Details.{AreDetails}
 use Rattle.program_reports.specs.FaultLines as lines
 use Rattle.program_reports.specs.declared.fault.Fault.{Fault}
 use Rattle.program_reports.specs.declared.fault.Fault.TheVariants.{Words, NotText, NoNumber, NoName, File, Output, Run}
-use Rattle.program_reports.specs.declared.fault.Fault.TheVariants.{FolderThere, PipeClosed, RowFile, RowRecording}
+use Rattle.program_reports.specs.declared.fault.Fault.TheVariants.{FolderThere, HasFindings, PipeClosed, RowFile, RowRecording}
 
 -- the exit status of a fault
 abbrev pub status_of : Fault → ℕ
@@ -18,6 +18,7 @@ status_of (RowFile row why) = 5
 status_of (RowRecording row fault) = 2
 status_of (Output fault path) = 5
 status_of (FolderThere path) = 5
+status_of (HasFindings path) = 7
 status_of (Run fault path) = lines.status_of fault
 status_of PipeClosed = 5
 
@@ -33,6 +34,7 @@ line_of (RowFile row why) = lines.row_file_line row
 line_of (RowRecording row fault) = lines.row_recording_line row fault
 line_of (Output fault path) = lines.output_line path.now fault
 line_of (FolderThere path) = lines.folder_there_line path.now
+line_of (HasFindings path) = lines.has_findings_line path.now
 line_of (Run fault path) = lines.fault_line path.now fault
 line_of PipeClosed = []
 

@@ -62,6 +62,7 @@ fn advice_on(fault: &Fault<'_>) -> Advice
         }
         Fault::Output(fault, _) => Advice::Explained(FaultCode::Output(*fault).explanation()),
         Fault::FolderThere(_) => Advice::Explained(FaultCode::FolderThere.explanation()),
+        Fault::HasFindings(_) => Advice::Explained(FaultCode::HasFindings.explanation()),
         Fault::Run(fault, _) => advice_on_run(fault),
         Fault::Words(_)
         | Fault::NotText

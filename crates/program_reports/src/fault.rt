@@ -38,6 +38,8 @@ pub enum Fault<'a> {
     Output(OutputFault, &'a str),
     /// The folder at this path is there already.
     FolderThere(&'a str),
+    /// The bank at this path has findings, which are printed.
+    HasFindings(&'a str),
     /// The run failed. A write fault is about this path.
     Run(RunFault, &'a str),
     /// The reader of an output closed its pipe early, which is not reported.

@@ -3,7 +3,7 @@ ghost use Rattle.std.specs.Prelude.{◌≡◌, IfOk, Some};
 ghost use Rattle.base_outputs.specs.Output.{Puts};
 ghost use Rattle.base_outputs.specs.Writing.{Writes};
 ghost use Rattle.sample_view.specs.Pieces.{joined_bytes};
-ghost use Rattle.program_reports.specs.FaultLines.{fault_line, status_of, read_line, first_read_line, second_read_line, from_read_line, read_text, script_line, notes_line, table_line, text_line, refused_line, refused_start, not_neutral_line, named_line, recording_line, in_recording_line, row_start, row_file_line, row_recording_line, recording_text, no_member_line, preset_line, preset_text, full_line, write_line, file_line, output_line, rejected_line, no_number_line, no_name_line, folder_there_line};
+ghost use Rattle.program_reports.specs.FaultLines.{fault_line, status_of, read_line, first_read_line, second_read_line, from_read_line, read_text, script_line, notes_line, table_line, text_line, refused_line, refused_start, not_neutral_line, named_line, recording_line, in_recording_line, row_start, row_file_line, row_recording_line, recording_text, no_member_line, preset_line, preset_text, full_line, write_line, file_line, output_line, rejected_line, no_number_line, no_name_line, folder_there_line, has_findings_line, path_line};
 
 use crate::fault::RowPath;
 use crate::run_fault::RunFault;
@@ -373,13 +373,39 @@ pub(crate) fn put_folder_there<W: Write>(path: &str, output: &mut Output<'_, W>)
     put_rejected(explanation.number, explanation.name, path, output);
 }
 
-fn put_rejected<'t, W: Write>(number: u8, name: &'t str, path: &'t str, output: &mut Output<'_, W>)
+fn put_rejected<W: Write>(number: u8, name: &str, path: &str, output: &mut Output<'_, W>)
     ensures { Puts W.contents output.old output.new (rejected_line number name.now path.now) }
+{
+    put_path_line(b"sfbank: output fault ", number, name, path, output);
+}
+
+/// Puts the line of a bank that has findings.
+pub(crate) fn put_has_findings<W: Write>(path: &str, output: &mut Output<'_, W>)
+    ensures { Puts W.contents output.old output.new (has_findings_line path.now) }
+{
+    let explanation = FaultCode::HasFindings.explanation();
+    put_path_line(
+        b"sfbank: check fault ",
+        explanation.number,
+        explanation.name,
+        path,
+        output,
+    );
+}
+
+fn put_path_line<'t, W: Write>(
+    start: &'t [u8],
+    number: u8,
+    name: &'t str,
+    path: &'t str,
+    output: &mut Output<'_, W>,
+)
+    ensures { Puts W.contents output.old output.new (path_line start.now number name.now path.now) }
 {
     let mut digits = Buffer::new();
     put_pieces(
         &[
-            b"sfbank: output fault ",
+            start,
             digits.format(number).as_bytes(),
             b" ",
             name.as_bytes(),

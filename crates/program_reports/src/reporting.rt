@@ -7,8 +7,8 @@ ghost use Rattle.program_reports.specs.Reporting.{AreShown, Reports, line_of, st
 use crate::details::{Details, details_of, put_details};
 use crate::fault::Fault;
 use crate::fault_lines::{
-    exit_status, put_fault, put_file_fault, put_folder_there, put_no_name, put_no_number,
-    put_output_fault, put_row_file, put_row_recording,
+    exit_status, put_fault, put_file_fault, put_folder_there, put_has_findings, put_no_name,
+    put_no_number, put_output_fault, put_row_file, put_row_recording,
 };
 use base_outputs::Output;
 use base_texts::{Text, write_text};
@@ -46,6 +46,7 @@ fn put_line<W: Write>(fault: &Fault<'_>, output: &mut Output<'_, W>)
         Fault::RowRecording(row, fault) => put_row_recording(row, *fault, output),
         Fault::Output(fault, path) => put_output_fault(path, *fault, output),
         Fault::FolderThere(path) => put_folder_there(path, output),
+        Fault::HasFindings(path) => put_has_findings(path, output),
         Fault::Run(fault, path) => put_fault(fault, path, output),
         Fault::Words(_) => {}
         Fault::PipeClosed => {}
@@ -94,6 +95,7 @@ fn status_of(fault: &Fault<'_>) -> u8
         | Fault::Output(_, _)
         | Fault::FolderThere(_)
         | Fault::PipeClosed => 5,
+        Fault::HasFindings(_) => 7,
         Fault::Run(fault, _) => exit_status(fault),
     }
 }

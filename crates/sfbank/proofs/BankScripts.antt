@@ -1,5 +1,5 @@
 -- The script of a file's bank.
-use Rattle.std.proofs.Common.{◌≡◌, ℕ, List, [], ◌∷◌, Option, None, Result, Ok, Err, refl, sym, ap, ◌∙◌}
+use Rattle.std.proofs.Common.{◌≡◌, ℕ, List, [], ◌∷◌, Option, None, Result, Ok, Err, refl, sym, ap, ◌∙◌, Bool, true, false}
 use Rattle.sf_base.specs.declared.memory.Failure.{Failure}
 use Rattle.bank_parts.specs.declared.parts.Parts.{Parts}
 use Rattle.bank_parts.specs.Sound.{IsSound}
@@ -17,13 +17,12 @@ use Rattle.bank_edits.specs.Runs.{AllAccepted, undo_list}
 use Rattle.edit_script.specs.declared.parsing.Line.{Line}
 use Rattle.edit_script.specs.Script.{script_of}
 use Rattle.edit_script.specs.Printing.{texts_of}
-use Rattle.script_of_bank.specs.declared.samples.SamplePoints.{SamplePoints}
-use Rattle.script_of_bank.specs.declared.samples.SamplePoints.TheVariants.{Kept}
 use Rattle.script_of_bank.specs.BankEdits.{empty}
-use Rattle.script_of_bank.specs.BankScript.{bank_script, IsScript}
+use Rattle.script_of_bank.specs.BankScript.{IsScript}
 use Rattle.script_of_bank.specs.LeadsTo.{Leads}
 use Rattle.script_of_bank.proofs.AcceptedLaws.{sound_empty}
 use Rattle.script_of_bank.proofs.PrintedLaws.{text_gives, text_determines}
+use Rattle.commented_scripts.proofs.CommentedLaws as laws
 use Rattle.program_reports.specs.declared.run_fault.RunFault.{RunFault}
 use Rattle.program_reports.specs.declared.run_fault.RunFault.TheVariants as run
 use Rattle.file_host.specs.declared.faults.Which.TheVariants.{Out}
@@ -31,34 +30,36 @@ use Rattle.program_reports.specs.RunFaults.{in_run}
 use Rattle.sfbank.specs.Outcome.{Done, edits_of, RefusedLine, first_refused, both_texts, unless_refused}
 use Rattle.sfbank.specs.Outcome.{after_script, after_reading, bank_in, outcome, play_outcome}
 use Rattle.sfbank.specs.Written.{IsWritten, RunsOneText}
-use Rattle.sfbank.specs.BankScripts.{script_outcome, start_of, IsRemade, ScriptsDistinguish, RemadeRendersSame}
+use Rattle.sfbank.specs.BankScripts.{form_text, script_outcome, start_of, whole_form, IsRemade, ScriptsDistinguish}
+use Rattle.sfbank.specs.BankScripts.{RemadeRendersSame}
+use Rattle.sfbank.specs.declared.script.ScriptForm.{ScriptForm}
 use Rattle.sfbank.proofs.OneText.{not_read, runs_one_text, canon_text}
 use Rattle.sfbank.proofs.Restores.{reading_done, outcome_canon}
 use Rattle.sfbank.proofs.RenderLaws.{played_on_canon}
 
 -- ---- the run
 
-pub script_not_read : (U : Type 0) (points : SamplePoints) (failure : Failure ReadFault) (known : Option (List ℕ))
+pub script_not_read : (U : Type 0) (form : ScriptForm) (failure : Failure ReadFault) (known : Option (List ℕ))
     (file : List ℕ)
     → Fails failure (fault_of file)
-    → RunsOneText {U = U} known known (script_outcome points file) (Err (in_run run.Read failure))
+    → RunsOneText {U = U} known known (script_outcome form file) (Err (in_run run.Read failure))
 unfolding script_outcome
-script_not_read U points failure known file h =
-    not_read U failure known (fault_of file) (Ok (bank_script points (bank_in file))) h
+script_not_read U form failure known file h =
+    not_read U failure known (fault_of file) (Ok (form_text form (bank_in file))) h
 
-pub script_text : (points : SamplePoints) (file : List ℕ) (b : Parts) (counts : Counts) → ReadsAs file b counts
-    → script_outcome points file ≡ Ok (bank_script points b)
+pub script_text : (form : ScriptForm) (file : List ℕ) (b : Parts) (counts : Counts) → ReadsAs file b counts
+    → script_outcome form file ≡ Ok (form_text form b)
 unfolding script_outcome
-script_text points file b counts r =
-    ap (λ (o : Option ReadFault). after_reading o (Ok (bank_script points (bank_in file)))) r.0
-    ∙ ap (λ (c : Content). Ok (bank_script points c.bank)) r.1
+script_text form file b counts r =
+    ap (λ (o : Option ReadFault). after_reading o (Ok (form_text form (bank_in file)))) r.0
+    ∙ ap (λ (c : Content). Ok (form_text form c.bank)) r.1
 
-pub script_runs : {U : Type 0} (points : SamplePoints) (old new : Option (List ℕ)) (file : List ℕ) (b : Parts)
+pub script_runs : {U : Type 0} (form : ScriptForm) (old new : Option (List ℕ)) (file : List ℕ) (b : Parts)
     (counts : Counts) (r : Result U RunFault)
-    → ReadsAs file b counts → IsWritten Out old new (bank_script points b) r
-    → RunsOneText old new (script_outcome points file) r
-script_runs points old new file b counts r reads h =
-    runs_one_text old new (script_outcome points file) (bank_script points b) r (script_text points file b counts reads)
+    → ReadsAs file b counts → IsWritten Out old new (form_text form b) r
+    → RunsOneText old new (script_outcome form file) r
+script_runs form old new file b counts r reads h =
+    runs_one_text old new (script_outcome form file) (form_text form b) r (script_text form file b counts reads)
     h
 
 -- ---- a script that leads from one bank to another
@@ -87,22 +88,33 @@ script_leads a text b s =
 pub sound_in : (file : List ℕ) → AreBytes file → fault_of file ≡ None → IsSound (bank_in file)
 sound_in file bytes read = record { valid = read_valid file bytes read; fits = read_fits file bytes }
 
-script_is : (file text : List ℕ) → script_outcome Kept file ≡ Ok text
-    → (fault_of file ≡ None) × (bank_script Kept (bank_in file) ≡ text)
+-- the script of a bank leads to it, with comments or without
+whole_gives : (comments : Bool) (b : Parts) → IsSound b → IsScript (empty b.minor) (form_text (whole_form comments) b) b
+whole_gives true b sound = laws.gives b sound
+whole_gives false b sound = text_gives b sound
+
+-- two banks with one script are equal
+whole_determines : (comments : Bool) (a b : Parts) → IsSound a → IsSound b
+    → form_text (whole_form comments) a ≡ form_text (whole_form comments) b → a ≡ b
+whole_determines true a b s r e = laws.determines a b s r e
+whole_determines false a b s r e = text_determines a b s r e
+
+script_is : (comments : Bool) (file text : List ℕ) → script_outcome (whole_form comments) file ≡ Ok text
+    → (fault_of file ≡ None) × (form_text (whole_form comments) (bank_in file) ≡ text)
 unfolding script_outcome
-script_is file text h =
-    let read = reading_done (fault_of file) (Ok (bank_script Kept (bank_in file))) text h in (read.0, cc)
+script_is comments file text h =
+    let read = reading_done (fault_of file) (Ok (form_text (whole_form comments) (bank_in file))) text h in (read.0, cc)
 
 pub remade : (file : List ℕ) → AreBytes file → IsRemade file
-remade file bytes text h =
+remade file bytes comments text h =
     let b = bank_in file in
-    let is = script_is file text h in
+    let is = script_is comments file text h in
     let sound = sound_in file bytes is.0 in
-    let s = text_gives b sound in (
+    let s = whole_gives comments b sound in (
       texts_of (undo_list (empty b.minor) (edits_of s.lines)),
       ap (outcome (start_of file)) (sym is.1)
-          ∙ outcome_canon (empty b.minor) (bank_script Kept b) (sound_empty b sound)
-          ∙ script_leads (empty b.minor) (bank_script Kept b) b s,
+          ∙ outcome_canon (empty b.minor) (form_text (whole_form comments) b) (sound_empty b sound)
+          ∙ script_leads (empty b.minor) (form_text (whole_form comments) b) b s,
     )
 
 -- banks with the same canonical file are equal
@@ -113,22 +125,23 @@ determined_by_canon a b s r e =
     sym first ∙ ap bank_in e ∙ second
 
 pub distinguishes : ScriptsDistinguish
-distinguishes a b in_a in_b read_a read_b =
+distinguishes comments a b in_a in_b read_a read_b =
     let s = sound_in a in_a read_a in
     let r = sound_in b in_b read_b in
-    let script_a = script_text Kept a (bank_in a) _ (read_a, refl) in
-    let script_b = script_text Kept b (bank_in b) _ (read_b, refl) in
+    let script_a = script_text (whole_form comments) a (bank_in a) _ (read_a, refl) in
+    let script_b = script_text (whole_form comments) b (bank_in b) _ (read_b, refl) in
     let canon_a = canon_text a (bank_in a) _ (read_a, refl) in
     let canon_b = canon_text b (bank_in b) _ (read_b, refl) in (
-      (λ e. let same : bank_script Kept (bank_in a) ≡ bank_script Kept (bank_in b) = cc in
-          canon_a ∙ ap (λ (c : Parts). Ok (canon c)) (text_determines (bank_in a) (bank_in b) s r same) ∙ sym canon_b),
+      (λ e. let same : form_text (whole_form comments) (bank_in a) ≡ form_text (whole_form comments) (bank_in b) = cc in
+          canon_a ∙ ap (λ (c : Parts). Ok (canon c)) (whole_determines comments (bank_in a) (bank_in b) s r same)
+          ∙ sym canon_b),
       (λ e. let same : canon (bank_in a) ≡ canon (bank_in b) = cc in
-          script_a ∙ ap (λ (c : Parts). Ok (bank_script Kept c)) (determined_by_canon (bank_in a) (bank_in b) s r same)
+          script_a ∙ ap (λ (c : Parts). Ok (form_text (whole_form comments) c)) (determined_by_canon (bank_in a) (bank_in b) s r same)
           ∙ sym script_b),
     )
 
 pub remade_renders_same : RemadeRendersSame
-remade_renders_same file text notes done bytes h run_done =
-    let made = remade file bytes text h in
+remade_renders_same comments file text notes done bytes h run_done =
+    let made = remade file bytes comments text h in
     let same : done.out ≡ canon (bank_in file) = cc in
-    ap (λ (t : List ℕ). play_outcome t notes) same ∙ played_on_canon file notes bytes (script_is file text h).0
+    ap (λ (t : List ℕ). play_outcome t notes) same ∙ played_on_canon file notes bytes (script_is comments file text h).0

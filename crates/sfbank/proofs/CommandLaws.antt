@@ -3,18 +3,16 @@ use Rattle.std.proofs.Common.{◌≡◌, ℕ, List, Some, None, Ok, Err, Bool, t
 use Rattle.std.specs.Prelude.{slice_get, ◌||◌, if◌then◌else◌}
 use Rattle.bank_parts.specs.declared.parts.Parts.{Parts}
 use Rattle.bank_parts.specs.declared.parts.Sample.{Sample}
-use Rattle.bank_changes.specs.declared.members.Owner.{Owner}
+use Rattle.program_commands.specs.declared.words.Drawn.{Drawn}
 use Rattle.bank_format.specs.declared.fault.Counts.{Counts}
 use Rattle.bank_format.specs.Canon.{canon}
 use Rattle.bank_format.specs.ReadChecks.{ReadsAs}
 use Rattle.edit_forms.specs.declared.cause.Cause.TheVariants.{NoSuchSample}
-use Rattle.script_of_bank.specs.declared.samples.SamplePoints.{SamplePoints}
-use Rattle.script_of_bank.specs.BankScript.{bank_script}
+use Rattle.sfbank.specs.declared.script.ScriptForm.{ScriptForm}
 use Rattle.script_notes.specs.Notes.{notes_of}
 use Rattle.show_listing.specs.declared.listing.Details.{Details}
 use Rattle.show_listing.specs.Listing.{listing}
 use Rattle.show_listing.specs.Details.{detailed_listing}
-use Rattle.show_zone_map.specs.Picture.{picture}
 use Rattle.wave_file.specs.SampleWave.{sample_wave}
 use Rattle.wave_file.specs.declared.options.ReadOptions.{ReadOptions}
 use Rattle.wave_file.specs.ReadChecks.{recording_in}
@@ -23,8 +21,8 @@ use Rattle.program_reports.specs.declared.run_fault.RunFault.{RunFault}
 use Rattle.program_reports.specs.declared.run_fault.RunFault.TheVariants as run
 use Rattle.sfbank.specs.Outcome.{bank_in, counts_in, after_notes, canon_outcome, show_outcome}
 use Rattle.sfbank.specs.Outcome.{show_details_outcome, play_outcome}
-use Rattle.sfbank.specs.BankScripts.{script_outcome}
-use Rattle.sfbank.specs.Maps.{has_owner, if_there, map_outcome}
+use Rattle.sfbank.specs.BankScripts.{form_text, script_outcome}
+use Rattle.sfbank.specs.Maps.{drawing, has_drawn, if_there, map_outcome}
 use Rattle.sfbank.specs.Recordings.{wave_of, wave_outcome, pair_outcome, pair_wave_of, Change, after_recording}
 use Rattle.sfbank.specs.Recordings.{recording_outcome}
 use Rattle.sfbank.specs.Written.{FailsBefore}
@@ -41,10 +39,10 @@ pub canon_fails : {X : Type 0} (view : X → Parts × Counts) (fault : RunFault)
 unfolding canon_outcome
 canon_fails view fault file h = bank_fails view fault file (Ok (canon (bank_in file))) h
 
-pub script_fails : {X : Type 0} (view : X → Parts × Counts) (points : SamplePoints) (fault : RunFault) (file : List ℕ)
-    → ReadsBank view file (Err fault) → FailsBefore fault (script_outcome points file)
+pub script_fails : {X : Type 0} (view : X → Parts × Counts) (form : ScriptForm) (fault : RunFault) (file : List ℕ)
+    → ReadsBank view file (Err fault) → FailsBefore fault (script_outcome form file)
 unfolding script_outcome
-script_fails view points fault file h = bank_fails view fault file (Ok (bank_script points (bank_in file))) h
+script_fails view form fault file h = bank_fails view fault file (Ok (form_text form (bank_in file))) h
 
 pub show_fails : {X : Type 0} (view : X → Parts × Counts) (fault : RunFault) (file : List ℕ)
     → ReadsBank view file (Err fault) → FailsBefore fault (show_outcome file)
@@ -62,11 +60,11 @@ pub play_fails : {X : Type 0} (view : X → Parts × Counts) (fault : RunFault) 
 unfolding play_outcome
 play_fails view fault file notes h = bank_fails view fault file (after_notes (bank_in file) (notes_of notes)) h
 
-pub map_fails : {X : Type 0} (view : X → Parts × Counts) (fault : RunFault) (file : List ℕ) (o : Owner)
-    → ReadsBank view file (Err fault) → FailsBefore fault (map_outcome file o)
+pub map_fails : {X : Type 0} (view : X → Parts × Counts) (fault : RunFault) (file : List ℕ) (d : Drawn)
+    → ReadsBank view file (Err fault) → FailsBefore fault (map_outcome file d)
 unfolding map_outcome
-map_fails view fault file o h =
-    bank_fails view fault file (if_there (has_owner (bank_in file) o) o (picture (bank_in file) o)) h
+map_fails view fault file d h =
+    bank_fails view fault file (if_there (has_drawn (bank_in file) d) d (drawing (bank_in file) d)) h
 
 pub wave_fails : {X : Type 0} (view : X → Parts × Counts) (fault : RunFault) (file : List ℕ) (number : ℕ)
     → ReadsBank view file (Err fault) → FailsBefore fault (wave_outcome file number)

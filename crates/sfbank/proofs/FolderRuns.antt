@@ -1,5 +1,5 @@
 -- Runs that make the bank of a folder.
-use Rattle.std.proofs.Common.{◌≡◌, ◌∙◌, ◌+◌, ◌++◌, ℕ, zero, suc, List, [], ◌∷◌, drop, map, length, Option, Some, None}
+use Rattle.std.proofs.Common.{◌≡◌, ◌∙◌, ◌+◌, ◌++◌, ℕ, zero, suc, Bool, true, false, List, [], ◌∷◌, drop, map, length, Option, Some, None}
 use Rattle.std.proofs.Common.{Result, Ok, Err, ap, refl, subst, sym, arith}
 use Rattle.std.specs.Prelude.{slice_get}
 use Rattle.std.specs.List.{AllZip, zip}
@@ -12,14 +12,18 @@ use Rattle.bank_format.specs.Canon.{canon}
 use Rattle.bank_folders.specs.declared.bare.BareSample.{BareSample}
 use Rattle.bank_folders.specs.Folders.{bare_samples, points_for}
 use Rattle.bank_folders.specs.Minors.{minor_in}
-use Rattle.bank_folders.specs.Laws.{GetsPoints, IsPacked, bare_lines}
+use Rattle.bank_folders.specs.Laws.{GetsPoints, bare_lines}
 use Rattle.bank_folders.proofs.FolderLaws.{give_bank}
 use Rattle.edit_script.specs.declared.parsing.Line.{Line}
 use Rattle.edit_script.specs.Script.{script_of}
 use Rattle.edit_script.specs.Printing.{numbered}
 use Rattle.edit_script.proofs.LineLaws.{edits_numbered}
 use Rattle.script_of_bank.specs.BankEdits.{edits_of_bank, empty}
-use Rattle.script_of_bank.specs.BankScript.{bank_script}
+use Rattle.commented_scripts.specs.CommentedScript.{commented_script}
+use Rattle.commented_scripts.proofs.CommentedLaws as laws
+use Rattle.bank_parts.specs.Sound.{IsSound}
+use Rattle.bank_folders.proofs.MinorLaws.{first_minor}
+use Rattle.sfbank.specs.BankScripts.{bare_form, form_text}
 use Rattle.script_of_bank.specs.LeadsTo.{Leads}
 use Rattle.script_of_bank.specs.declared.samples.SamplePoints.TheVariants.{LeftOut}
 use Rattle.script_of_bank.proofs.Law.{whole}
@@ -140,13 +144,25 @@ listed_made b leads =
     (lines_lead (empty b.minor) (numbered 2 (edits_of_bank b)) b
     (subst (λ es. Leads (empty b.minor) es b) (sym (edits_numbered 2 (edits_of_bank b))) leads))
 
-pub bank_packs : (b : Parts) → IsPacked b → Leads (empty b.minor) (edits_of_bank b) b
-    → pack_outcome (bank_script LeftOut b) (map sample_wave b.samples) ≡ Ok (canon b)
+-- the text of a bank without points is read as the same edits, with comments or without
+pub bare_read : (comments : Bool) (b : Parts) → IsSound b → script_of (form_text (bare_form comments) b) ≡ Ok (bare_lines b)
+bare_read true b sound = laws.lists LeftOut b sound
+bare_read false b sound = (give_bank b sound).read
+
+bare_minor : (comments : Bool) (b : Parts) → IsSound b → minor_in (form_text (bare_form comments) b) ≡ b.minor
+unfolding commented_script
+bare_minor true b sound = first_minor b.minor _ sound.fits.minor
+bare_minor false b sound = (give_bank b sound).minor
+
+pub bank_packs : (comments : Bool) (b : Parts) → IsSound b
+    → pack_outcome (form_text (bare_form comments) b) (map sample_wave b.samples) ≡ Ok (canon b)
 unfolding pack_outcome
-bank_packs b h leads =
+bank_packs comments b sound =
+    let h = give_bank b sound in
+    let leads = whole b sound in
     let waves = map sample_wave b.samples in
     let points = map (λ (s : Sample). s.points) b.samples in
-    (λ i. packed (h.minor i) (lines_read (h.read i)) waves)
+    (λ i. packed (bare_minor comments b sound i) (lines_read (bare_read comments b sound i)) waves)
     ∙ ap (after_points b.minor (bare_lines b)) (points_given 1 (bare_samples (bare_lines b)) b.samples h.points)
     ∙ ap (made_of b.minor) h.given
     ∙ listed_made b leads
@@ -178,13 +194,14 @@ waves_are file b pre (s ∷ samples) (w ∷ waves) n e outcomes h =
     length_more (y ∷ xs) x = ap suc (length_more xs x)
 
 pub packs_back : FoldersPackBack
-packs_back file text waves bytes read e are =
+packs_back comments file text waves bytes read e are =
     let b = bank_in file in
     let sound = sound_in file bytes read in
-    let text_is : bank_script LeftOut b ≡ text = ok_same (sym (script_text LeftOut file b _ (read, refl)) ∙ e) in
+    let text_is : form_text (bare_form comments) b ≡ text =
+    ok_same (sym (script_text (bare_form comments) file b _ (read, refl)) ∙ e) in
     let waves_is : waves ≡ map sample_wave b.samples =
     waves_are file b [] b.samples waves 0 refl (λ k. wave_on file k b _ (read, refl)) are in
-    (λ i. pack_outcome (sym text_is i) (waves_is i)) ∙ bank_packs b (give_bank b sound) (whole b sound)
+    (λ i. pack_outcome (sym text_is i) (waves_is i)) ∙ bank_packs comments b sound
   where
     ok_same : {X E : Type 0} {a b : X} → (let r : Result X E = Ok a in r) ≡ Ok b → a ≡ b
     ok_same h = cc

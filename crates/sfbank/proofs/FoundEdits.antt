@@ -1,6 +1,6 @@
 -- How edits that are found make the end of a request.
-use Rattle.std.proofs.Common.{◌≡◌, ℕ, List, Option, Some, None, Result, Ok, Err, Bool, true, false, refl, sym, ap, subst, inr, ◌∙◌}
-use Rattle.std.specs.Prelude.{if◌then◌else◌}
+use Rattle.std.proofs.Common.{◌≡◌, ℕ, List, Option, Some, None, Result, Ok, Err, Bool, true, false, refl, sym, ap, subst, inl, inr, ◌∙◌}
+use Rattle.std.specs.Prelude.{if◌then◌else◌, not}
 use Rattle.std.specs.Borrow.{Bor}
 use Rattle.bank_parts.specs.declared.parts.Parts.{Parts}
 use Rattle.bank_format.specs.Reading.{Content}
@@ -8,7 +8,7 @@ use Rattle.bank_format.specs.ReadChecks.{fault_of}
 use Rattle.bank_format.specs.declared.fault.ReadFault.{ReadFault}
 use Rattle.edit_forms.specs.declared.edit.Edit.{Edit}
 use Rattle.bank_edits.specs.Runs.{AllAccepted}
-use Rattle.edit_script.specs.Printing.{texts_of}
+use Rattle.sfbank.specs.EditTexts.{edits_text}
 use Rattle.file_host.specs.World.{World}
 use Rattle.plan_edits.specs.declared.fault.PlanFault.{PlanFault}
 use Rattle.plan_presets.specs.declared.numbers.PresetNumbers.{PresetNumbers}
@@ -24,8 +24,8 @@ use Rattle.sfbank.specs.Purposes.{Purpose, keeping_listed, promise_of}
 use Rattle.sfbank.specs.PlannedEdits.{IsPlanned, IsScript, of_plan}
 use Rattle.sfbank.specs.PlanParts.{Action, Why, Edits, Found, Prints, SavesAll, edits_at, saves_found}
 use Rattle.sfbank.specs.PlanParts.{standard_output, with_edits}
-use Rattle.sfbank.specs.Ends.{FindsEdits, Outside, EndsFor}
-use Rattle.sfbank.specs.Outputs.{PrintsAt, SavesPairAt}
+use Rattle.sfbank.specs.Ends.{EndsAs, FindsEdits, Outside, EndsFor}
+use Rattle.sfbank.specs.Outputs.{PrintsOrFails, SavesPairAt}
 use Rattle.sfbank.specs.Steps.{IsReadAs}
 use Rattle.sfbank.proofs.PlanLaws.{at, memory_fails, untouched}
 use Rattle.sfbank.proofs.OutcomeLaws.{both_end, outcome_fails, prints_end}
@@ -34,22 +34,24 @@ use Rattle.sfbank.proofs.PlannedEdits.{planned}
 -- the action, printed or saved
 abbrev chosen : PlanPaths → Purpose → List ℕ → Bool → Result Action Why
 chosen p purpose file dry_run =
-    Ok (if dry_run then Prints standard_output (Edits purpose file) else saves_found p.script p.out.now p.undo.now purpose file)
+    Ok (if dry_run then Prints standard_output (Edits (not p.no_comments) purpose file)
+    else saves_found p.script p.out.now p.undo.now (not p.no_comments) purpose file)
 
 -- the same for a script at this path, or for none
 abbrev saved_for : PlanPaths → Purpose → List ℕ → Option (Bor (List ℕ)) → Result Action Why
-saved_for p purpose file script = Ok (saves_found script p.out.now p.undo.now purpose file)
+saved_for p purpose file script = Ok (saves_found script p.out.now p.undo.now (not p.no_comments) purpose file)
 
 -- the edits that are found are the script's
-pub is_script : (purpose : Purpose) (file : List ℕ) (b : Parts) (edits : List Edit) → IsReadAs file b
-    → promise_of purpose b edits → AllAccepted b edits → IsScript (promise_of purpose) file (texts_of edits)
-is_script purpose file b edits r promised accepted =
+pub is_script : (comments : Bool) (purpose : Purpose) (file : List ℕ) (b : Parts) (edits : List Edit) → IsReadAs file b
+    → promise_of purpose b edits → AllAccepted b edits
+    → IsScript comments (promise_of purpose) file (edits_text comments b edits)
+is_script comments purpose file b edits r promised accepted =
     let same : b ≡ bank_in file = sym (ap (λ (c : Content). c.bank) r.1.1) in
     record {
       edits = edits;
       promised = subst (λ (x : Parts). promise_of purpose x edits) same promised;
       is_accepted = subst (λ (x : Parts). AllAccepted x edits) same accepted;
-      is_text = refl;
+      is_text = ap (λ (x : Parts). edits_text comments x edits) same;
     }
 
 -- and their texts are those of the edited bank
@@ -63,12 +65,21 @@ is_planned purpose file b edits done r promised accepted texts =
 -- their script is printed
 pub edits_print : (files : Option World) (p : PlanPaths) (purpose : Purpose) (file text : List ℕ)
     (old new : Option (List ℕ)) (written : ℕ) (end : Result (Unit {0}) Fault) → p.dry_run ≡ true
-    → IsScript (promise_of purpose) file text → PrintsAt standard_output text old new end
+    → IsScript (not p.no_comments) (promise_of purpose) file text → PrintsOrFails text old new end
     → EndsFor (λ w. Ok (edits_at p purpose file)) (at files old) (at files new) written end
 edits_print None p purpose file text old new written end dry is h = tt
 edits_print (Some w) p purpose file text old new written end dry is h =
-    prints_end w standard_output text (Edits purpose file) (Ok (edits_at p purpose file)) old new written end
-    (ap (chosen p purpose file) dry) is h
+    let planned : Result Action Why = Ok (edits_at p purpose file) in
+    elim h [
+      | inl m ↦
+          subst
+          (λ (r : Result (Unit {0}) Fault). EndsAs w planned (at (Some w) old) (at (Some w) new) written r)
+          (sym m.1)
+          (memory_fails planned (at (Some w) old) (at (Some w) new) (record { files = refl; printed = m.2 }))
+      | inr printed ↦
+          prints_end w standard_output text (Edits (not p.no_comments) purpose file) planned old new written end
+          (ap (chosen p purpose file) dry) is printed
+    ]
 
 -- both texts are saved
 pub edits_saved : (files new : Option World) (p : PlanPaths) (purpose : Purpose) (file : List ℕ) (done : Done)
@@ -83,7 +94,7 @@ edits_saved (Some w) new p purpose file done printed written end saves none is h
 -- all three texts are saved
 pub all_saved : (files new : Outside) (p : PlanPaths) (script : Bor (List ℕ)) (purpose : Purpose) (file : List ℕ)
     (written : ℕ) (end : Result (Unit {0}) Fault) → p.dry_run ≡ false → p.script ≡ Some script
-    → EndsFor (λ w. Ok (SavesAll script.now p.out.now p.undo.now purpose file)) files new written end
+    → EndsFor (λ w. Ok (SavesAll script.now p.out.now p.undo.now (not p.no_comments) purpose file)) files new written end
     → EndsFor (λ w. Ok (edits_at p purpose file)) files new written end
 all_saved files new p script purpose file written end saves some h =
     subst (λ (r : Result Action Why). EndsFor (λ w. r) files new written end)

@@ -16,7 +16,7 @@ use Rattle.program_commands.specs.declared.words.Request.TheVariants.{ImportKit}
 use Rattle.program_commands.specs.declared.kits.KitSource.TheVariants.{Files, Table}
 use Rattle.program_reports.specs.declared.fault.Fault.{Fault}
 use Rattle.program_reports.specs.declared.fault.Fault.TheVariants.{Words, NotText, NoNumber, NoName, File, Output, Run, PipeClosed}
-use Rattle.program_reports.specs.declared.fault.Fault.TheVariants.{FolderThere, RowFile, RowRecording}
+use Rattle.program_reports.specs.declared.fault.Fault.TheVariants.{FolderThere, HasFindings, RowFile, RowRecording}
 use Rattle.program_reports.specs.declared.run_fault.RunFault.{RunFault}
 use Rattle.program_reports.specs.declared.run_fault.RunFault.TheVariants as run
 use Rattle.wave_file.specs.declared.fault.WaveFault.{WaveFault}
@@ -284,6 +284,7 @@ row_fails w e why (File path f) planned is h = absurd h
 row_fails w e why (Output f path) planned is h = absurd h
 row_fails w e why (RowFile row f) planned is h = absurd h
 row_fails w e why (FolderThere path) planned is h = absurd h
+row_fails w e why (HasFindings path) planned is h = absurd h
 row_fails w e why PipeClosed planned is h = absurd h
 row_fails w e why (Run (run.Read f) path) planned is h = absurd h
 row_fails w e why (Run (run.ReadFirst f) path) planned is h = absurd h
@@ -462,6 +463,7 @@ stops_given w before files e after (File path g) h f = absurd f
 stops_given w before files e after (Output g path) h f = absurd f
 stops_given w before files e after (RowRecording row g) h f = absurd f
 stops_given w before files e after (FolderThere path) h f = absurd f
+stops_given w before files e after (HasFindings path) h f = absurd f
 stops_given w before files e after PipeClosed h f = absurd f
 stops_given w before files e after (Run (run.Read g) path) h f = absurd f
 stops_given w before files e after (Run (run.ReadFirst g) path) h f = absurd f

@@ -19,6 +19,7 @@ mod KitPlans
 mod SavedFolders
 mod FolderPlans
 mod OutcomeLaws
+mod Findings
 mod CommandLaws
 mod LiveLaws
 pub mod UndoneFiles

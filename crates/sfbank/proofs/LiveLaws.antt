@@ -5,7 +5,7 @@ use Rattle.program_commands.specs.declared.words.LivePaths.{LivePaths}
 use Rattle.program_commands.specs.declared.words.Request.TheVariants.{Live}
 use Rattle.program_reports.specs.declared.fault.Fault.{Fault}
 use Rattle.program_reports.specs.declared.fault.Fault.TheVariants.{Words, NotText, NoNumber, NoName, File, Output, Run, PipeClosed}
-use Rattle.program_reports.specs.declared.fault.Fault.TheVariants.{FolderThere, RowFile, RowRecording}
+use Rattle.program_reports.specs.declared.fault.Fault.TheVariants.{FolderThere, HasFindings, RowFile, RowRecording}
 use Rattle.program_reports.specs.declared.run_fault.RunFault.TheVariants as run
 use Rattle.sfbank.specs.PlanParts.{Action, Why, Plays, with_input}
 use Rattle.sfbank.specs.Plans.{plan}
@@ -54,6 +54,7 @@ memory_stops p w planned old new (Err NotText) h = absurd h
 memory_stops p w planned old new (Err (RowFile row why)) h = absurd h
 memory_stops p w planned old new (Err (RowRecording row why)) h = absurd h
 memory_stops p w planned old new (Err (FolderThere path)) h = absurd h
+memory_stops p w planned old new (Err (HasFindings path)) h = absurd h
 memory_stops p w planned old new (Err (NoNumber n)) h = absurd h
 memory_stops p w planned old new (Err (NoName n)) h = absurd h
 memory_stops p w planned old new (Err (File path f)) h = absurd h

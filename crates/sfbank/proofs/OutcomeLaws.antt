@@ -1,6 +1,7 @@
 -- How the outcome of a run makes the end of a request.
 use Rattle.std.proofs.Common.{◌≡◌, ◌||◌, ℕ, Bool, List, Option, Some, None, Result, Ok, Err, refl, sym, ap, subst, ◌∙◌, inl, inr}
 use Rattle.std.proofs.KnownBytes.{Keeps-refl}
+use Rattle.std.specs.Io.KnownBytes.{Appends}
 use Rattle.std.specs.Borrow.{Bor}
 use Rattle.bank_parts.specs.declared.parts.Parts.{Parts}
 use Rattle.bank_format.specs.declared.fault.Counts.{Counts}
@@ -14,7 +15,7 @@ use Rattle.program_commands.specs.declared.explain.Topic.{Topic}
 use Rattle.program_commands.specs.declared.words.Request.TheVariants.{Explain}
 use Rattle.program_reports.specs.declared.fault.Fault.{Fault}
 use Rattle.program_reports.specs.declared.fault.Fault.TheVariants.{Words, NotText, NoNumber, NoName, File, Output, Run, PipeClosed}
-use Rattle.program_reports.specs.declared.fault.Fault.TheVariants.{FolderThere, RowFile, RowRecording}
+use Rattle.program_reports.specs.declared.fault.Fault.TheVariants.{FolderThere, HasFindings, RowFile, RowRecording}
 use Rattle.program_reports.specs.Reporting.{Ends}
 use Rattle.program_reports.specs.declared.run_fault.RunFault.{RunFault}
 use Rattle.program_reports.specs.declared.run_fault.RunFault.TheVariants as run
@@ -24,9 +25,10 @@ use Rattle.sfbank.specs.PlanParts.{Action, Content, Texts, Known, Why, Fails, Sa
 use Rattle.sfbank.specs.PlanParts.{standard_output, put_at}
 use Rattle.sfbank.specs.PlanParts.{Difference, with_text, without_undo, with_print, with_both, with_difference}
 use Rattle.sfbank.specs.Differences.{TwoBanks, FindsDifference, banks_in, two_banks_of}
-use Rattle.sfbank.specs.Ends.{Outside, AreTexts, IsContent, IsEarly, IsStopped, EndsAs, EndsFor, path_of}
+use Rattle.sfbank.specs.Ends.{Outside, AreTexts, Does, IsContent, IsEarly, IsStopped, EndsAs, EndsFor, StopsIn, path_of}
 use Rattle.sfbank.specs.Meanings.{EndsExplained, MeansPlan}
-use Rattle.sfbank.specs.Outputs.{FailsFirst, PrintsAt, PrintsOutcome, LacksTopic, FailsTopic, PrintsExplanation, SavesPairAt}
+use Rattle.sfbank.specs.Outputs.{FailsFirst, PrintsAt, PrintsFirst, PrintsOutcome, LacksTopic, FailsTopic}
+use Rattle.sfbank.specs.Outputs.{PrintsExplanation, SavesPairAt}
 use Rattle.sfbank.specs.Steps.{ReadsBank}
 use Rattle.sfbank.proofs.PlanLaws.{at, untouched, nothing, ends_early, memory_fails}
 
@@ -114,55 +116,64 @@ only_fails files printed written path why outcome h =
 
 -- ---- a text that is printed
 
+-- where an action stops that prints a text
+print_stops : (w : World) (path text : List ℕ) (action : Action) (planned : Result Action Why)
+    (old new : Option (List ℕ)) (written : ℕ) (fault : Fault) → planned ≡ Ok action
+    → ((n : ℕ) → PrintsFirst n text old new → StopsIn action Out n path written (at (Some w) old) (at (Some w) new))
+    → PrintsAt {U = Unit {0}} path text old new (Err fault)
+    → EndsAs {U = Unit {0}} w planned (at (Some w) old) (at (Some w) new) written (Err fault)
+print_stops w path text action planned old new written (Run (run.Write Out n) at) e stops h =
+    record { action = action; is_planned = e; stops = rw h.0 (stops n h.1) }
+print_stops w path text action planned old new written PipeClosed e stops h =
+    record { action = action; is_planned = e; some = Out; n = h.0; at = path; stops = stops h.0 h.1 }
+print_stops w path text action planned old new written (Run (run.Write Undo n) at) e stops h = absurd h
+print_stops w path text action planned old new written (Words x) e stops h = absurd h
+print_stops w path text action planned old new written NotText e stops h = absurd h
+print_stops w path text action planned old new written (RowFile row why) e stops h = absurd h
+print_stops w path text action planned old new written (RowRecording row why) e stops h = absurd h
+print_stops w path text action planned old new written (FolderThere p) e stops h = absurd h
+print_stops w path text action planned old new written (HasFindings p) e stops h = absurd h
+print_stops w path text action planned old new written (NoNumber n) e stops h = absurd h
+print_stops w path text action planned old new written (NoName n) e stops h = absurd h
+print_stops w path text action planned old new written (File p f) e stops h = absurd h
+print_stops w path text action planned old new written (Output f p) e stops h = absurd h
+print_stops w path text action planned old new written (Run (run.Read f) p) e stops h = absurd h
+print_stops w path text action planned old new written (Run (run.ReadFirst f) p) e stops h = absurd h
+print_stops w path text action planned old new written (Run (run.ReadSecond f) p) e stops h = absurd h
+print_stops w path text action planned old new written (Run (run.Script f) p) e stops h = absurd h
+print_stops w path text action planned old new written (Run (run.Refused n f) p) e stops h = absurd h
+print_stops w path text action planned old new written (Run (run.NotNeutral n) p) e stops h = absurd h
+print_stops w path text action planned old new written (Run run.OtherVersion p) e stops h = absurd h
+print_stops w path text action planned old new written (Run run.PlanFailed p) e stops h = absurd h
+print_stops w path text action planned old new written (Run (run.ReadFrom f) p) e stops h = absurd h
+print_stops w path text action planned old new written (Run (run.Presets f) p) e stops h = absurd h
+print_stops w path text action planned old new written (Run (run.Full f) p) e stops h = absurd h
+print_stops w path text action planned old new written (Run (run.Notes f) p) e stops h = absurd h
+print_stops w path text action planned old new written (Run (run.Recording f) p) e stops h = absurd h
+print_stops w path text action planned old new written (Run (run.Table f) p) e stops h = absurd h
+print_stops w path text action planned old new written (Run (run.InRecording i f) p) e stops h = absurd h
+print_stops w path text action planned old new written (Run (run.NoMember f) p) e stops h = absurd h
+print_stops w path text action planned old new written (Run run.Memory p) e stops h = absurd h
+
+-- how an action ends that prints a text: what it does if the text is printed whole, and where it stops
+pub print_ends : (w : World) (path text : List ℕ) (action : Action) (planned : Result Action Why)
+    (old new : Option (List ℕ)) (written : ℕ) (end : Result (Unit {0}) Fault) → planned ≡ Ok action
+    → ((u : Unit {0}) → end ≡ Ok u → Appends old new text → Does action (at (Some w) old) (at (Some w) new))
+    → ((n : ℕ) → PrintsFirst n text old new → StopsIn action Out n path written (at (Some w) old) (at (Some w) new))
+    → PrintsAt path text old new end → EndsAs w planned (at (Some w) old) (at (Some w) new) written end
+print_ends w path text action planned old new written (Ok u) e does stops h =
+    record { action = action; is_planned = e; does = does u refl h }
+print_ends w path text action planned old new written (Err fault) e does stops h =
+    print_stops w path text action planned old new written fault e stops h
+
 pub prints_end : (w : World) (path text : List ℕ) (content : Content) (planned : Result Action Why)
     (old new : Option (List ℕ)) (written : ℕ) (end : Result (Unit {0}) Fault)
     → planned ≡ Ok (Prints path content) → IsContent content text → PrintsAt path text old new end
     → EndsAs w planned (at (Some w) old) (at (Some w) new) written end
-prints_end w path text content planned old new written (Ok u) e is h = record {
-  action = Prints path content;
-  is_planned = e;
-  does = record { text = text; is = is; printed = h; files = refl };
-}
-prints_end w path text content planned old new written (Err (Run (run.Write Out n) at)) e is h = record {
-  action = Prints path content;
-  is_planned = e;
-  stops = (h.0, record { text = text; is = is; within = h.1.0; printed = h.1.1; files = refl });
-}
-prints_end w path text content planned old new written (Err PipeClosed) e is h = record {
-  action = Prints path content;
-  is_planned = e;
-  some = Out;
-  n = h.0;
-  at = path;
-  stops = (refl, record { text = text; is = is; within = h.1.0; printed = h.1.1; files = refl });
-}
-prints_end w path text content planned old new written (Err (Run (run.Write Undo n) at)) e is h = absurd h
-prints_end w path text content planned old new written (Err (Words x)) e is h = absurd h
-prints_end w path text content planned old new written (Err NotText) e is h = absurd h
-prints_end w path text content planned old new written (Err (RowFile row why)) e is h = absurd h
-prints_end w path text content planned old new written (Err (RowRecording row why)) e is h = absurd h
-prints_end w path text content planned old new written (Err (FolderThere p)) e is h = absurd h
-prints_end w path text content planned old new written (Err (NoNumber n)) e is h = absurd h
-prints_end w path text content planned old new written (Err (NoName n)) e is h = absurd h
-prints_end w path text content planned old new written (Err (File p f)) e is h = absurd h
-prints_end w path text content planned old new written (Err (Output f p)) e is h = absurd h
-prints_end w path text content planned old new written (Err (Run (run.Read f) p)) e is h = absurd h
-prints_end w path text content planned old new written (Err (Run (run.ReadFirst f) p)) e is h = absurd h
-prints_end w path text content planned old new written (Err (Run (run.ReadSecond f) p)) e is h = absurd h
-prints_end w path text content planned old new written (Err (Run (run.Script f) p)) e is h = absurd h
-prints_end w path text content planned old new written (Err (Run (run.Refused n f) p)) e is h = absurd h
-prints_end w path text content planned old new written (Err (Run (run.NotNeutral n) p)) e is h = absurd h
-prints_end w path text content planned old new written (Err (Run run.OtherVersion p)) e is h = absurd h
-prints_end w path text content planned old new written (Err (Run run.PlanFailed p)) e is h = absurd h
-prints_end w path text content planned old new written (Err (Run (run.ReadFrom f) p)) e is h = absurd h
-prints_end w path text content planned old new written (Err (Run (run.Presets f) p)) e is h = absurd h
-prints_end w path text content planned old new written (Err (Run (run.Full f) p)) e is h = absurd h
-prints_end w path text content planned old new written (Err (Run (run.Notes f) p)) e is h = absurd h
-prints_end w path text content planned old new written (Err (Run (run.Recording f) p)) e is h = absurd h
-prints_end w path text content planned old new written (Err (Run (run.Table f) p)) e is h = absurd h
-prints_end w path text content planned old new written (Err (Run (run.InRecording i f) p)) e is h = absurd h
-prints_end w path text content planned old new written (Err (Run (run.NoMember f) p)) e is h = absurd h
-prints_end w path text content planned old new written (Err (Run run.Memory p)) e is h = absurd h
+prints_end w path text content planned old new written end e is h =
+    print_ends w path text (Prints path content) planned old new written end e
+    (λ u done all. record { text = text; is = is; printed = all; files = refl })
+    (λ n first. (refl, record { text = text; is = is; within = first.0; printed = first.1; files = refl })) h
 
 -- a run that fails before it prints
 print_fails : (w : World) (outcome : Result (List ℕ) RunFault) (old new : Option (List ℕ)) (written : ℕ)
@@ -263,6 +274,7 @@ both_end w out undo texts done planned new printed written (Err NotText) e are h
 both_end w out undo texts done planned new printed written (Err (RowFile row why)) e are h = absurd h
 both_end w out undo texts done planned new printed written (Err (RowRecording row why)) e are h = absurd h
 both_end w out undo texts done planned new printed written (Err (FolderThere path)) e are h = absurd h
+both_end w out undo texts done planned new printed written (Err (HasFindings path)) e are h = absurd h
 both_end w out undo texts done planned new printed written (Err (NoNumber n)) e are h = absurd h
 both_end w out undo texts done planned new printed written (Err (NoName n)) e are h = absurd h
 both_end w out undo texts done planned new printed written (Err (File p f)) e are h = absurd h
@@ -300,42 +312,43 @@ both_fail files printed written out undo why outcome h =
 
 -- ---- a difference
 
-pub difference_put : (path a b : List ℕ) (old new : Outside) (written : ℕ) (end : Result (Unit {0}) Fault)
+pub difference_put : (comments : Bool) (path a b : List ℕ) (old new : Outside) (written : ℕ) (end : Result (Unit {0}) Fault)
     → two_banks_of a b ≡ Ok (banks_in a b)
-    → EndsFor (λ w. Ok (put_at w path (Difference a b))) old new written end
-    → EndsFor (λ w. with_difference w path a b (two_banks_of a b)) old new written end
-difference_put path a b old new written end e h =
-    subst (λ (r : Result TwoBanks RunFault). EndsFor (λ w. with_difference w path a b r) old new written end) (sym e) h
+    → EndsFor (λ w. Ok (put_at w path (Difference comments a b))) old new written end
+    → EndsFor (λ w. with_difference w path comments a b (two_banks_of a b)) old new written end
+difference_put comments path a b old new written end e h =
+    subst (λ (r : Result TwoBanks RunFault). EndsFor (λ w. with_difference w path comments a b r) old new written end) (sym e) h
 
 -- why two banks have no difference, as a run's fault
-no_difference : {X : Type 0} (view : X → List ℕ) (a b : List ℕ) (why : RunFault) → FindsDifference view a b (Err why)
+no_difference : {X : Type 0} (comments : Bool) (view : X → List ℕ) (a b : List ℕ) (why : RunFault)
+    → FindsDifference comments view a b (Err why)
     → FailsBefore why (two_banks_of a b)
-no_difference view a b (run.Read f) h = h
-no_difference view a b (run.ReadFirst f) h = h
-no_difference view a b (run.ReadSecond f) h = h
-no_difference view a b (run.Script f) h = h
-no_difference view a b (run.Refused n f) h = h
-no_difference view a b (run.NotNeutral n) h = h
-no_difference view a b run.OtherVersion h = h
-no_difference view a b run.PlanFailed h = h
-no_difference view a b (run.ReadFrom f) h = h
-no_difference view a b (run.Presets f) h = h
-no_difference view a b (run.Full f) h = h
-no_difference view a b (run.Notes f) h = h
-no_difference view a b (run.Recording f) h = h
-no_difference view a b (run.Table f) h = h
-no_difference view a b (run.InRecording i f) h = h
-no_difference view a b (run.NoMember f) h = h
-no_difference view a b run.Memory h = tt
-no_difference view a b (run.Write f n) h = absurd h
+no_difference comments view a b (run.Read f) h = h
+no_difference comments view a b (run.ReadFirst f) h = h
+no_difference comments view a b (run.ReadSecond f) h = h
+no_difference comments view a b (run.Script f) h = h
+no_difference comments view a b (run.Refused n f) h = h
+no_difference comments view a b (run.NotNeutral n) h = h
+no_difference comments view a b run.OtherVersion h = h
+no_difference comments view a b run.PlanFailed h = h
+no_difference comments view a b (run.ReadFrom f) h = h
+no_difference comments view a b (run.Presets f) h = h
+no_difference comments view a b (run.Full f) h = h
+no_difference comments view a b (run.Notes f) h = h
+no_difference comments view a b (run.Recording f) h = h
+no_difference comments view a b (run.Table f) h = h
+no_difference comments view a b (run.InRecording i f) h = h
+no_difference comments view a b (run.NoMember f) h = h
+no_difference comments view a b run.Memory h = tt
+no_difference comments view a b (run.Write f n) h = absurd h
 
-pub difference_fails : {X : Type 0} (view : X → List ℕ) (files : Option World) (printed : Option (List ℕ)) (written : ℕ)
-    (path : Bor (List ℕ)) (a b : List ℕ) (why : RunFault) → FindsDifference view a b (Err why)
-    → EndsFor {U = Unit {0}} (λ w. with_difference w path.now a b (two_banks_of a b)) (at files printed) (at files printed) written
+pub difference_fails : {X : Type 0} (comments : Bool) (view : X → List ℕ) (files : Option World) (printed : Option (List ℕ)) (written : ℕ)
+    (path : Bor (List ℕ)) (a b : List ℕ) (why : RunFault) → FindsDifference comments view a b (Err why)
+    → EndsFor {U = Unit {0}} (λ w. with_difference w path.now comments a b (two_banks_of a b)) (at files printed) (at files printed) written
     (Err (Run why path))
-difference_fails view files printed written path a b why h =
-    outcome_fails files printed written path (λ w r. with_difference w path.now a b r) why (two_banks_of a b) (λ w fault. refl)
-    (no_difference view a b why h)
+difference_fails comments view files printed written path a b why h =
+    outcome_fails files printed written path (λ w r. with_difference w path.now comments a b r) why (two_banks_of a b) (λ w fault. refl)
+    (no_difference comments view a b why h)
 
 -- ---- an outcome that is another one
 

@@ -17,9 +17,7 @@ use Rattle.file_host.specs.declared.input_fault.InputFault.TheVariants.{TooLong}
 use Rattle.file_host.specs.World.{World, file_at, file_put, held_at, is_nothing, most_bytes, place_of, read_of, stores_at}
 use Rattle.file_host.specs.World.{with_file, with_folder}
 use Rattle.program_reports.specs.declared.run_fault.RunFault.{RunFault}
-use Rattle.script_of_bank.specs.BankScript.{bank_script}
-use Rattle.script_of_bank.specs.declared.samples.SamplePoints.TheVariants.{LeftOut}
-use Rattle.script_of_bank.proofs.Law.{whole}
+use Rattle.sfbank.specs.BankScripts.{bare_form, form_text}
 use Rattle.wave_file.specs.SampleWave.{sample_wave}
 use Rattle.sfbank.specs.FolderPlans.{entries_due, entries_or_none, folder_steps, sample_entry, sample_steps, samples_path}
 use Rattle.sfbank.specs.Folders.{lines_read}
@@ -30,7 +28,7 @@ use Rattle.sfbank.specs.PackedFiles.{path_of_step}
 use Rattle.sfbank.specs.PlanParts.{FolderStep, MakesFolder, SavesFile}
 use Rattle.sfbank.specs.SavedFolders.{saved_step, saved_steps}
 use Rattle.sfbank.proofs.BankScripts.{sound_in}
-use Rattle.sfbank.proofs.FolderRuns.{bank_packs}
+use Rattle.sfbank.proofs.FolderRuns.{bank_packs, bare_read}
 
 -- ---- what a step keeps
 
@@ -187,14 +185,14 @@ saved_folders folder file old left now bytes read is apart short alike =
     let there = all_there_now steps left now alike
     (subst (λ (w : World). AllByRecursion (IsThere w) steps) (sym is) (all_there steps old apart short)) in
     record {
-      text = bank_script LeftOut b;
+      text = form_text (bare_form true) b;
       waves = map sample_wave b.samples;
       is_text = there.1.1.0;
       are_waves = subst
           (λ (r : Result (List Line) RunFault).
           AllZip (λ (e : Entry) (wave : List ℕ). file_at now e.path ≡ Ok wave) (entries_or_none (entries_due folder r))
           (map sample_wave b.samples))
-          (ap lines_read (sym packed.read))
+          (ap lines_read (sym (bare_read true b sound)))
           (waves_there now folder (bare_samples (bare_lines b)) b.samples 0 packed.files there.1.1.1);
-      packs = bank_packs b packed (whole b sound);
+      packs = bank_packs true b sound;
     }

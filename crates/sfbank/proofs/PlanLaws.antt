@@ -12,11 +12,11 @@ use Rattle.file_host.specs.declared.input_fault.InputFault.TheVariants.{NotFound
 use Rattle.program_commands.specs.declared.words.Request.{Request}
 use Rattle.program_reports.specs.declared.fault.Fault.{Fault}
 use Rattle.program_reports.specs.declared.fault.Fault.TheVariants.{Words, NotText, NoNumber, NoName, File, Output, Run, PipeClosed}
-use Rattle.program_reports.specs.declared.fault.Fault.TheVariants.{FolderThere, RowFile, RowRecording}
+use Rattle.program_reports.specs.declared.fault.Fault.TheVariants.{FolderThere, HasFindings, RowFile, RowRecording}
 use Rattle.program_reports.specs.declared.run_fault.RunFault.TheVariants as run
 use Rattle.sfbank.specs.PlanParts.{Action, Why, Unread, Inputs, GivesInput, no_bank, with_input}
 use Rattle.sfbank.specs.Plans.{AreInputs, plan}
-use Rattle.sfbank.specs.PlanParts.{FolderStep, Plays, Prints, Saves, SavesAll, SavesBoth, SavesFolder}
+use Rattle.sfbank.specs.PlanParts.{Checks, FolderStep, Plays, Prints, Saves, SavesAll, SavesBoth, SavesFolder}
 use Rattle.sfbank.specs.Ends.{Outside, IsUntouched, IsEarly, StopsForMemory, EndsAs, EndsFor}
 use Rattle.sfbank.specs.Meanings.{MeansPlan}
 use Rattle.sfbank.specs.SavedFolders.{HasSaved, saved_steps}
@@ -44,10 +44,11 @@ pub memory_fails : (planned : Result Action Why) (old new : Outside) → IsUntou
 memory_fails (Err why) old new u = u
 memory_fails (Ok (Saves path content)) old new u = u
 memory_fails (Ok (SavesBoth out undo texts)) old new u = u
-memory_fails (Ok (SavesAll script out undo purpose file)) old new u = inl u
+memory_fails (Ok (SavesAll script out undo comments purpose file)) old new u = inl u
 memory_fails (Ok (SavesFolder folder force steps)) old new u =
     record { files = saved_none steps old.files new.files u.files; printed = u.printed }
 memory_fails (Ok (Prints path content)) old new u = u
+memory_fails (Ok (Checks path b)) old new u = u
 memory_fails (Ok (Plays paths file)) old new u = u
 
 -- no file is changed, for this fault
@@ -58,6 +59,7 @@ ends_early w planned old new written NotText h u = absurd h
 ends_early w planned old new written (RowFile row why) h u = (h, u)
 ends_early w planned old new written (RowRecording row why) h u = (h, u)
 ends_early w planned old new written (FolderThere path) h u = (h, u)
+ends_early w planned old new written (HasFindings path) h u = absurd h
 ends_early w planned old new written (NoNumber number) h u = (h, u)
 ends_early w planned old new written (NoName name) h u = (h, u)
 ends_early w planned old new written (File path why) h u = (h, u)
@@ -269,6 +271,7 @@ input_stops old new p NotText h = absurd h
 input_stops old new p (RowFile row why) h = absurd h
 input_stops old new p (RowRecording row why) h = absurd h
 input_stops old new p (FolderThere path) h = absurd h
+input_stops old new p (HasFindings path) h = absurd h
 input_stops old new p (NoNumber n) h = absurd h
 input_stops old new p (NoName n) h = absurd h
 input_stops old new p (Output f path) h = absurd h

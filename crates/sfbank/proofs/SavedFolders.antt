@@ -15,7 +15,7 @@ use Rattle.file_host.specs.Saving.{Spoils}
 use Rattle.file_host.specs.declared.faults.Which.TheVariants.{Out, Undo}
 use Rattle.program_reports.specs.declared.fault.Fault.{Fault}
 use Rattle.program_reports.specs.declared.fault.Fault.TheVariants.{Words, NotText, NoNumber, NoName, File, Output, Run, PipeClosed}
-use Rattle.program_reports.specs.declared.fault.Fault.TheVariants.{FolderThere, RowFile, RowRecording}
+use Rattle.program_reports.specs.declared.fault.Fault.TheVariants.{FolderThere, HasFindings, RowFile, RowRecording}
 use Rattle.program_reports.specs.declared.run_fault.RunFault.TheVariants as run
 use Rattle.sfbank.specs.Ends.{EndsAs, EndsFor, RejectsFolder}
 use Rattle.sfbank.specs.FolderPlans.{sample_steps, sample_path}
@@ -74,6 +74,7 @@ fails_within folder pre ss post all old mid new written (Run (run.Write Undo n) 
 fails_within folder pre ss post all old mid new written (Words x) e m h = absurd h
 fails_within folder pre ss post all old mid new written NotText e m h = absurd h
 fails_within folder pre ss post all old mid new written (FolderThere path) e m h = absurd h
+fails_within folder pre ss post all old mid new written (HasFindings path) e m h = absurd h
 fails_within folder pre ss post all old mid new written (RowFile row why) e m h = absurd h
 fails_within folder pre ss post all old mid new written (RowRecording row why) e m h = absurd h
 fails_within folder pre ss post all old mid new written (NoNumber k) e m h = absurd h
@@ -189,6 +190,7 @@ folder_fails w folder force steps new printed written (Run (run.Write Undo n) p)
 folder_fails w folder force steps new printed written (Words x) h = absurd h
 folder_fails w folder force steps new printed written NotText h = absurd h
 folder_fails w folder force steps new printed written (FolderThere path) h = absurd h
+folder_fails w folder force steps new printed written (HasFindings path) h = absurd h
 folder_fails w folder force steps new printed written (RowFile row why) h = absurd h
 folder_fails w folder force steps new printed written (RowRecording row why) h = absurd h
 folder_fails w folder force steps new printed written (NoNumber k) h = absurd h

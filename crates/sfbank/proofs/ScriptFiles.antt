@@ -5,9 +5,7 @@ use Rattle.hydra_records.specs.Records.{AreBytes}
 use Rattle.bank_format.specs.Canon.{canon}
 use Rattle.bank_format.specs.ReadChecks.{fault_of}
 use Rattle.base_outputs.specs.declared.output_fault.OutputFault.TheVariants.{HoldsBank}
-use Rattle.script_of_bank.specs.BankScript.{bank_script}
-use Rattle.script_of_bank.specs.declared.samples.SamplePoints.{SamplePoints}
-use Rattle.script_of_bank.specs.declared.samples.SamplePoints.TheVariants.{Kept}
+use Rattle.sfbank.specs.declared.script.ScriptForm.{ScriptForm}
 use Rattle.file_host.specs.declared.input_fault.InputFault.{InputFault}
 use Rattle.file_host.specs.World.{World, held_at, file_at}
 use Rattle.file_host.specs.Checks.{is_bank_at}
@@ -15,9 +13,9 @@ use Rattle.program_commands.specs.declared.words.ApplyPaths.{ApplyPaths}
 use Rattle.program_reports.specs.declared.run_fault.RunFault.{RunFault}
 use Rattle.sfbank.specs.Outcome.{Done, bank_in, outcome, play_outcome}
 use Rattle.sfbank.specs.EditRuns.{outcome_of}
-use Rattle.sfbank.specs.BankScripts.{script_outcome}
+use Rattle.sfbank.specs.BankScripts.{form_text, script_outcome, whole_form}
 use Rattle.sfbank.specs.Differences.{TwoBanks, two_banks_of}
-use Rattle.sfbank.specs.PlanParts.{Action, Why, Rejected, Saves, Prints, Text, Difference, points_of, unless}
+use Rattle.sfbank.specs.PlanParts.{Action, Why, Rejected, Saves, Prints, Text, Difference, form_of, points_of, unless}
 use Rattle.sfbank.specs.PlanParts.{with_difference}
 use Rattle.sfbank.specs.PlanParts as plans
 use Rattle.sfbank.specs.ScriptFiles.{RunsScript, Leads, DifferencesLead, ScriptsLead}
@@ -31,10 +29,10 @@ use Rattle.sfbank.proofs.UndoneFiles.{held_text, pair_out, unless_done, applied_
 
 -- ---- what was planned
 
-difference_planned : (w : World) (path a b : List ℕ) (r : Result TwoBanks RunFault) (action : Action)
-    → with_difference w path a b r ≡ Ok action → (banks : TwoBanks) × (r ≡ Ok banks)
-difference_planned w path a b (Ok banks) action e = (banks, refl)
-difference_planned w path a b (Err fault) action e = cc
+difference_planned : (w : World) (path : List ℕ) (comments : Bool) (a b : List ℕ) (r : Result TwoBanks RunFault) (action : Action)
+    → with_difference w path comments a b r ≡ Ok action → (banks : TwoBanks) × (r ≡ Ok banks)
+difference_planned w path comments a b (Ok banks) action e = (banks, refl)
+difference_planned w path comments a b (Err fault) action e = cc
 
 saved_or_printed : (b : Bool) (path x text : List ℕ)
     → (if b then Prints path (Text x) else Saves path (Text x)) ≡ Saves path (Text text) → x ≡ text
@@ -83,9 +81,10 @@ leads_to second now new bank file script undo back bytes read b is =
 pub differences_lead : DifferencesLead
 differences_lead paths second old left now new a b text file script back bytes c stores h =
     let test = not paths.force && is_bank_at old paths.out.now in
-    let rest = with_difference old paths.out.now a b (two_banks_of a b) in
+    let comments = not paths.no_comments in
+    let rest = with_difference old paths.out.now comments a b (two_banks_of a b) in
     let banks =
-    difference_planned old paths.out.now a b (two_banks_of a b) (Saves paths.out.now (Difference a b))
+    difference_planned old paths.out.now comments a b (two_banks_of a b) (Saves paths.out.now (Difference comments a b))
     (unless_done test (Rejected paths.out.now HoldsBank) rest _ c.planned) in
     let held = ap (λ (w : World). held_at w paths.out.now) c.files ∙ held_text old paths.out.now text stores in
     let gives = script_gives second paths.out.now text left now new a file script back held h in
@@ -93,20 +92,21 @@ differences_lead paths second old left now new a b text file script back bytes c
     (ok_same back _ (outcome a text) gives c.differs.0.leads)
 
 -- a file that has a script is a bank
-is_bank : (points : SamplePoints) (file text : List ℕ) → script_outcome points file ≡ Ok text → fault_of file ≡ None
+is_bank : (form : ScriptForm) (file text : List ℕ) → script_outcome form file ≡ Ok text → fault_of file ≡ None
 unfolding script_outcome
-is_bank points file text e = (reading_done (fault_of file) (Ok (bank_script points (bank_in file))) text e).0
+is_bank form file text e = (reading_done (fault_of file) (Ok (form_text form (bank_in file))) text e).0
 
 pub scripts_lead : ScriptsLead
 scripts_lead paths second old left now new bank text file script back bytes c stores h =
     let test = not paths.force && is_bank_at old paths.out.now in
-    let rest = plans.with_text old paths.out.now (script_outcome (points_of paths.no_points) bank) in
-    let whole : script_outcome Kept bank ≡ Ok text =
-    (λ i. script_outcome (points_of (sym c.points i)) bank)
-    ∙ text_planned old paths.out.now text (script_outcome (points_of paths.no_points) bank)
+    let rest = plans.with_text old paths.out.now (script_outcome (form_of paths) bank) in
+    let comments = not paths.no_comments in
+    let all : script_outcome (whole_form comments) bank ≡ Ok text =
+    (λ i. script_outcome (record { points = points_of (sym c.points i); comments = comments }) bank)
+    ∙ text_planned old paths.out.now text (script_outcome (form_of paths) bank)
     (unless_done test (Rejected paths.out.now HoldsBank) rest _ c.planned) in
     let held = ap (λ (w : World). held_at w paths.out.now) c.files ∙ held_text old paths.out.now text stores in
     let gives = script_gives second paths.out.now text left now new _ file script back held h in
-    let made = remade bank bytes text whole in
-    leads_to second now new bank file script made.0 back bytes (is_bank Kept bank text whole) h.done
+    let made = remade bank bytes comments text all in
+    leads_to second now new bank file script made.0 back bytes (is_bank (whole_form comments) bank text all) h.done
     (ok_same back _ _ gives made.1)

@@ -1,10 +1,11 @@
 -- How a plan ends: what it leaves of the world of files, and what it prints.
 use Rattle.std.specs.Prelude.{◌≡◌, ◌⊎◌, ◌≤◌, ℕ, List, [], length, take, string_bytes, Option, Some, None, Result, Ok, Err}
-use Rattle.std.specs.Prelude.{Bool, false, ⊤}
+use Rattle.std.specs.Prelude.{◌==◌, Bool, true, false, ⊤}
 use Rattle.std.specs.Option.{option_map}
 use Rattle.std.specs.Io.KnownBytes.{Appends, Keeps}
+use Rattle.bank_parts.specs.declared.parts.Parts.{Parts}
 use Rattle.base_outputs.specs.declared.output_fault.OutputFault.TheVariants.{HoldsBank}
-use Rattle.edit_script.specs.Printing.{texts_of}
+use Rattle.show_findings.specs.declared.finding.Finding.{Finding}
 use Rattle.file_host.specs.World.{World, held_at, is_nothing, with_pair}
 use Rattle.file_host.specs.World as world
 use Rattle.file_host.specs.Saving.{Spoils, SpoilsPair}
@@ -15,16 +16,18 @@ use Rattle.program_commands.specs.declared.explain.Topic.{Topic}
 use Rattle.program_commands.specs.declared.explain.Topic.TheVariants.{Number, Name}
 use Rattle.program_reports.specs.declared.fault.Fault.{Fault}
 use Rattle.program_reports.specs.declared.fault.Fault.TheVariants.{NoNumber, NoName, File, Output, Run}
-use Rattle.program_reports.specs.declared.fault.Fault.TheVariants.{FolderThere, RowFile, RowRecording, PipeClosed}
+use Rattle.program_reports.specs.declared.fault.Fault.TheVariants.{FolderThere, HasFindings, RowFile, RowRecording, PipeClosed}
 use Rattle.program_reports.specs.declared.run_fault.RunFault.TheVariants as run
 use Rattle.sfbank.specs.Outcome.{Done, bank_in}
 use Rattle.sfbank.specs.Differences.{IsDifference}
+use Rattle.sfbank.specs.EditTexts.{edits_text}
+use Rattle.sfbank.specs.Findings.{AreFindings, IsPage, ListsFindings, finding_lines}
 use Rattle.sfbank.specs.Purposes.{Purpose, promise_of}
 use Rattle.sfbank.specs.Topics.{IsTopicText, IsUnexplained}
 use Rattle.sfbank.specs.PlannedEdits.{IsPlanned, IsScript}
 use Rattle.sfbank.specs.PlanParts.{Action, Content, FolderStep, Texts, Known, Found, Saves, SavesAll, SavesBoth, Prints, Plays}
 use Rattle.sfbank.specs.PlanParts.{Text, Difference, Edits, Explanation as Explains, Why, Rejected, Unread, Fails}
-use Rattle.sfbank.specs.PlanParts.{SavesFolder, UnreadRow, FailsRow, standard_output}
+use Rattle.sfbank.specs.PlanParts.{Checks, Findings, Page, SavesFolder, UnreadRow, FailsRow, standard_output}
 use Rattle.sfbank.specs.SavedFolders.{HasSaved, MayWrite, StopsAmong, saved_steps}
 
 -- the world of files, and the bytes of the standard output
@@ -42,9 +45,11 @@ pub record IsUntouched (old new : Outside) : Type 0 where
 -- these bytes are the content
 abbrev pub IsContent : Content → List ℕ → Type 0
 IsContent (Text text) bytes = bytes ≡ text
-IsContent (Difference a b) bytes = IsDifference a b bytes × (bank_in a ≡ bank_in b → bytes ≡ [])
-IsContent (Edits purpose file) bytes = IsScript (promise_of purpose) file bytes
+IsContent (Difference comments a b) bytes = IsDifference comments a b bytes × (bank_in a ≡ bank_in b → bytes ≡ [])
+IsContent (Edits comments purpose file) bytes = IsScript comments (promise_of purpose) file bytes
 IsContent (Explains topic) bytes = IsTopicText topic bytes
+IsContent (Findings b) bytes = ListsFindings b bytes
+IsContent (Page b) bytes = IsPage b bytes
 
 -- these are the texts of a bank's file and of its undo script
 abbrev pub AreTexts : Texts → Done → Type 0
@@ -68,12 +73,12 @@ pub record SavesPair (out undo : List ℕ) (texts : Texts) (old new : Outside) :
   pub printed : Keeps old.printed new.printed
 
 -- The script of edits that are found is saved whole, then the bank's file and its undo script.
-pub record SavesThree (script out undo : List ℕ) (purpose : Purpose) (file : List ℕ) (old new : Outside) : Type 0 where
+pub record SavesThree (script out undo : List ℕ) (comments : Bool) (purpose : Purpose) (file : List ℕ) (old new : Outside) : Type 0 where
   pub done : Done
   pub found : IsPlanned (promise_of purpose) file done
   pub files : new.files
       ≡ option_map (with_pair undo done.undo out done.out)
-      (option_map (world.with_text script (texts_of found.edits)) old.files)
+      (option_map (world.with_text script (edits_text comments (bank_in file) found.edits)) old.files)
   pub printed : Keeps old.printed new.printed
 
 -- A folder is saved, if it may be there already or nothing is there, and all else is as it was.
@@ -89,12 +94,21 @@ pub record PrintsText (content : Content) (old new : Outside) : Type 0 where
   pub printed : Appends old.printed new.printed text
   pub files : new.files ≡ old.files
 
+-- the findings of a bank are printed whole, none or some, and no file is changed
+pub record PrintsFindings (b : Parts) (none : Bool) (old new : Outside) : Type 0 where
+  pub findings : List Finding
+  pub are : AreFindings b findings
+  pub some : (length findings == 0) ≡ none
+  pub printed : Appends old.printed new.printed (finding_lines b findings)
+  pub files : new.files ≡ old.files
+
 abbrev pub Does : Action → Outside → Outside → Type 0
 Does (Saves path content) old new = SavesFile path content old new
 Does (SavesBoth out undo texts) old new = SavesPair out undo texts old new
-Does (SavesAll script out undo purpose file) old new = SavesThree script out undo purpose file old new
+Does (SavesAll script out undo comments purpose file) old new = SavesThree script out undo comments purpose file old new
 Does (SavesFolder folder force steps) old new = SavesInFolder folder force steps old new
 Does (Prints path content) old new = PrintsText content old new
+Does (Checks path b) old new = PrintsFindings b true old new
 Does (Plays paths file) old new = ⊥
 
 -- ---- an action that stops in a write fault
@@ -117,11 +131,11 @@ pub record StopsPair (out undo : List ℕ) (texts : Texts) (old new : Outside) :
   pub printed : Keeps old.printed new.printed
 
 -- the script of edits is whole, and both files are as they were, or whole
-pub record StopsAfterScript (script out undo : List ℕ) (purpose : Purpose) (file : List ℕ) (old new : Outside)
+pub record StopsAfterScript (script out undo : List ℕ) (comments : Bool) (purpose : Purpose) (file : List ℕ) (old new : Outside)
     : Type 0 where
   pub done : Done
   pub found : IsPlanned (promise_of purpose) file done
-  pub files : SpoilsPair (option_map (world.with_text script (texts_of found.edits)) old.files) new.files
+  pub files : SpoilsPair (option_map (world.with_text script (edits_text comments (bank_in file) found.edits)) old.files) new.files
       undo done.undo out done.out
   pub printed : Keeps old.printed new.printed
 
@@ -144,10 +158,10 @@ path_of which.Out out undo = out
 path_of which.Undo out undo = undo
 
 -- A text that is saved stops at its path: the script of edits, or one of the texts after it.
-abbrev pub StopsInOne : Which → List ℕ → List ℕ → List ℕ → List ℕ → Purpose → List ℕ → Outside → Outside → Type 0
-StopsInOne some at script out undo purpose file old new =
-    ((some ≡ which.Out) × (at ≡ script) × StopsFile script (Edits purpose file) old new)
-    ⊎ ((at ≡ path_of some out undo) × StopsAfterScript script out undo purpose file old new)
+abbrev pub StopsInOne : Which → List ℕ → List ℕ → List ℕ → List ℕ → Bool → Purpose → List ℕ → Outside → Outside → Type 0
+StopsInOne some at script out undo comments purpose file old new =
+    ((some ≡ which.Out) × (at ≡ script) × StopsFile script (Edits comments purpose file) old new)
+    ⊎ ((at ≡ path_of some out undo) × StopsAfterScript script out undo comments purpose file old new)
 
 -- an action stops after so many bytes of a text at a path, where the last failed save wrote `written` bytes
 abbrev pub StopsIn : Action → Which → ℕ → List ℕ → ℕ → Outside → Outside → Type 0
@@ -155,11 +169,12 @@ StopsIn (Saves path content) which.Out n at written old new =
     (at ≡ path) × (n ≡ written) × StopsFile path content old new
 StopsIn (SavesBoth out undo texts) some n at written old new =
     (at ≡ path_of some out undo) × (n ≡ written) × StopsPair out undo texts old new
-StopsIn (SavesAll script out undo purpose file) some n at written old new =
-    (n ≡ written) × StopsInOne some at script out undo purpose file old new
+StopsIn (SavesAll script out undo comments purpose file) some n at written old new =
+    (n ≡ written) × StopsInOne some at script out undo comments purpose file old new
 StopsIn (SavesFolder folder force steps) which.Out n at written old new =
     (at ≡ folder) × (n ≡ written) × StopsInFolder steps old new
 StopsIn (Prints path content) which.Out n at written old new = (at ≡ path) × StopsPrint content n old new
+StopsIn (Checks path b) which.Out n at written old new = (at ≡ standard_output) × StopsPrint (Findings b) n old new
 StopsIn action other n at written old new = ⊥
 
 -- ---- a request
@@ -167,8 +182,8 @@ StopsIn action other n at written old new = ⊥
 -- edits have to be found
 abbrev pub FindsEdits : Result Action Why → Type 0
 FindsEdits (Ok (SavesBoth out undo (Found purpose file))) = ⊤
-FindsEdits (Ok (SavesAll script out undo purpose file)) = ⊤
-FindsEdits (Ok (Prints path (Edits purpose file))) = ⊤
+FindsEdits (Ok (SavesAll script out undo comments purpose file)) = ⊤
+FindsEdits (Ok (Prints path (Edits comments purpose file))) = ⊤
 FindsEdits other = ⊥
 
 -- a topic has to be explained, and nothing explains it
@@ -226,20 +241,27 @@ pub record SavesSome (steps : List FolderStep) (old new : Outside) : Type 0 wher
   pub files : HasSaved steps old.files new.files
   pub printed : Keeps old.printed new.printed
 
+-- a planned check at this path finds something, which is printed
+abbrev pub FindsSome : Result Action Why → List ℕ → Outside → Outside → Type 0
+FindsSome (Ok (Checks path b)) at old new = (at ≡ path) × PrintsFindings b false old new
+FindsSome planned at old new = ⊥
+
 -- An allocation failed. Nothing is changed, but the script of edits may be saved, or the first files of a folder.
 abbrev pub StopsForMemory : Result Action Why → Outside → Outside → Type 0
-StopsForMemory (Ok (SavesAll script out undo purpose file)) old new =
-    IsUntouched old new ⊎ SavesFile script (Edits purpose file) old new
+StopsForMemory (Ok (SavesAll script out undo comments purpose file)) old new =
+    IsUntouched old new ⊎ SavesFile script (Edits comments purpose file) old new
 StopsForMemory (Ok (SavesFolder folder force steps)) old new = SavesSome steps old new
 StopsForMemory planned old new = IsUntouched old new
 
--- What is planned is done; or it stops in a write fault, or for memory; or nothing is changed, for the fault of the plan.
+-- What is planned is done; or it stops in a write fault, or for memory; or a check finds something; or nothing is changed,
+-- for the fault of the plan.
 -- `written` is the count of the last failed save.
 abbrev pub EndsAs : {U : Type 0} → World → Result Action Why → Outside → Outside → ℕ → Result U Fault → Type 0
 EndsAs w planned old new written (Ok u) = IsDone planned old new
 EndsAs w planned old new written (Err (Run (run.Write some n) at)) = IsStopped planned some n at.now old new written
 EndsAs w planned old new written (Err (Run run.Memory at)) = StopsForMemory planned old new
 EndsAs w planned old new written (Err PipeClosed) = IsCutOff planned old new written
+EndsAs w planned old new written (Err (HasFindings at)) = FindsSome planned at.now old new
 EndsAs w planned old new written (Err fault) = IsEarly w planned fault × IsUntouched old new
 
 -- the same, as far as the world is known

@@ -1,5 +1,5 @@
 -- The plans of requests that write a bank as a folder, or make the bank of a folder.
-use Rattle.std.specs.Prelude.{ℕ, suc, List, [], ◌∷◌, map, codes, Some, None, Result, Ok, Err}
+use Rattle.std.specs.Prelude.{ℕ, suc, true, List, [], ◌∷◌, map, codes, Some, None, Result, Ok, Err}
 use Rattle.std.specs.Path.{path_join}
 use Rattle.bank_parts.specs.declared.parts.Parts.{Parts}
 use Rattle.bank_parts.specs.declared.parts.Sample.{Sample}
@@ -14,9 +14,8 @@ use Rattle.file_host.specs.World.{World}
 use Rattle.program_commands.specs.declared.words.PackPaths.{PackPaths}
 use Rattle.program_commands.specs.declared.words.UnpackPaths.{UnpackPaths}
 use Rattle.program_reports.specs.declared.run_fault.RunFault.{RunFault}
-use Rattle.script_of_bank.specs.BankScript.{bank_script}
-use Rattle.script_of_bank.specs.declared.samples.SamplePoints.TheVariants.{LeftOut}
 use Rattle.wave_file.specs.SampleWave.{sample_wave}
+use Rattle.sfbank.specs.BankScripts.{bare_form, form_text}
 use Rattle.sfbank.specs.Folders.{lines_read, pack_outcome}
 use Rattle.sfbank.specs.KitPlans.{Entry, fails_recorded, paths_of, with_waves}
 use Rattle.sfbank.specs.Outcome.{after_reading, bank_in}
@@ -61,10 +60,10 @@ inner_steps folder file text samples = MakesFolder (samples_path folder) ∷ fil
 abbrev pub steps_with : Path → List ℕ → List ℕ → List Sample → List FolderStep
 steps_with folder file text samples = MakesFolder folder ∷ inner_steps folder file text samples
 
--- ---- a bank as a folder
+-- ---- a bank as a folder: its script without points, with comments, and its samples
 
 abbrev pub folder_steps : Path → Parts → List FolderStep
-folder_steps folder b = steps_with folder bank_file (bank_script LeftOut b) b.samples
+folder_steps folder b = steps_with folder bank_file (form_text (bare_form true) b) b.samples
 
 -- the bank of a file, or its first failed check
 abbrev pub bank_outcome : List ℕ → Result Parts RunFault

@@ -1,5 +1,5 @@
 -- A bank as a folder: the bank that is made of its text and of its WAVE files.
-use Rattle.std.specs.Prelude.{◌≡◌, ℕ, suc, List, [], ◌∷◌, None, Result, Ok, Err}
+use Rattle.std.specs.Prelude.{◌≡◌, ℕ, suc, Bool, List, [], ◌∷◌, None, Result, Ok, Err}
 use Rattle.bank_parts.specs.declared.parts.Sample.{Sample}
 use Rattle.std.specs.List.{AllZip, enumerate_from, zip}
 use Rattle.hydra_records.specs.Records.{AreBytes}
@@ -11,12 +11,11 @@ use Rattle.bank_folders.specs.Minors.{minor_in}
 use Rattle.edit_script.specs.declared.parsing.Line.{Line}
 use Rattle.edit_script.specs.Script.{script_of}
 use Rattle.script_of_bank.specs.BankEdits.{empty}
-use Rattle.script_of_bank.specs.declared.samples.SamplePoints.TheVariants.{LeftOut}
 use Rattle.script_tokens.specs.declared.fault.ScriptFault.{ScriptFault}
 use Rattle.wave_file.specs.declared.fault.WaveFault.{WaveFault}
 use Rattle.program_reports.specs.declared.run_fault.RunFault.{RunFault}
 use Rattle.program_reports.specs.declared.run_fault.RunFault.TheVariants as run
-use Rattle.sfbank.specs.BankScripts.{script_outcome}
+use Rattle.sfbank.specs.BankScripts.{bare_form, script_outcome}
 use Rattle.sfbank.specs.Outcome.{after_script, bank_in}
 use Rattle.sfbank.specs.PlanParts.{without_undo}
 use Rattle.sfbank.specs.Recordings.{wave_outcome}
@@ -78,6 +77,6 @@ AreItsWaves file waves = AreWavesFrom file 0 (bank_in file).samples waves
 -- The script of a file without points and the WAVE file of each of its samples make the canonical file of its bank.
 abbrev pub FoldersPackBack : Type 0
 FoldersPackBack =
-    (file text : List ℕ) (waves : List (List ℕ)) → AreBytes file → fault_of file ≡ None
-    → script_outcome LeftOut file ≡ Ok text → AreItsWaves file waves
+    (comments : Bool) (file text : List ℕ) (waves : List (List ℕ)) → AreBytes file → fault_of file ≡ None
+    → script_outcome (bare_form comments) file ≡ Ok text → AreItsWaves file waves
     → pack_outcome text waves ≡ Ok (canon (bank_in file))

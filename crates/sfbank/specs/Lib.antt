@@ -17,6 +17,7 @@ pub mod Prepared
 pub mod NewBanks
 pub mod BankScripts
 pub mod SavedBanks
+pub mod EditTexts
 pub mod Differences
 pub mod Recordings
 pub mod Kits
@@ -31,6 +32,7 @@ pub mod Folders
 pub mod KitPlans
 pub mod FolderPlans
 pub mod KitFolders
+pub mod Findings
 pub mod Plans
 pub mod Topics
 pub mod Ends

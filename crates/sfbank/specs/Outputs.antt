@@ -35,6 +35,12 @@ PrintsAt path text old new (Err (Run (run.Write which.Out n) at)) = (at.now ≡ 
 PrintsAt path text old new (Err PipeClosed) = (n : ℕ) × PrintsFirst n text old new
 PrintsAt path text old new (Err fault) = ⊥
 
+-- a text is printed, or nothing since an allocation failed
+abbrev pub PrintsOrFails : {U : Type 0} → List ℕ → Option (List ℕ) → Option (List ℕ) → Result U Fault → Type 0
+PrintsOrFails text old new result =
+    ((path : Bor (List ℕ)) × (result ≡ Err (Run run.Memory path)) × Keeps old new)
+    ⊎ PrintsAt standard_output text old new result
+
 -- a run fails before it prints anything: by its fault, or since an allocation failed
 abbrev pub FailsFirst : {U : Type 0} → Result (List ℕ) RunFault → Option (List ℕ) → Option (List ℕ) → Result U Fault
     → Type 0

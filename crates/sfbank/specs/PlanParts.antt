@@ -4,6 +4,7 @@ use Rattle.std.specs.Prelude.{if◌then◌else◌, codes, not, ⊤}
 use Rattle.std.specs.Borrow.{Bor}
 use Rattle.std.specs.Path.{path_file_stem}
 use Rattle.std.specs.Option.{option_map_or, unwrap_or}
+use Rattle.bank_parts.specs.declared.parts.Parts.{Parts}
 use Rattle.base_outputs.specs.declared.output_fault.OutputFault.{OutputFault}
 use Rattle.base_outputs.specs.declared.output_fault.OutputFault.TheVariants.{SameFile, HoldsBank}
 use Rattle.file_host.specs.declared.input_fault.InputFault.{InputFault}
@@ -15,11 +16,14 @@ use Rattle.show_listing.specs.declared.listing.Details.{Details}
 use Rattle.program_commands.specs.declared.explain.Topic.{Topic}
 use Rattle.program_commands.specs.declared.recordings.ImportPaths.{ImportPaths}
 use Rattle.program_commands.specs.declared.recordings.WavePaths.{WavePaths}
+use Rattle.program_commands.specs.declared.words.CheckPaths.{CheckPaths}
 use Rattle.program_commands.specs.declared.words.LivePaths.{LivePaths}
 use Rattle.program_commands.specs.declared.plans.PlanPaths.{PlanPaths}
+use Rattle.program_commands.specs.declared.words.ScriptPaths.{ScriptPaths}
 use Rattle.program_commands.specs.declared.words.ShowPaths.{ShowPaths}
 use Rattle.program_reports.specs.declared.run_fault.RunFault.{RunFault}
 use Rattle.sfbank.specs.Outcome.{Done, show_outcome, show_details_outcome}
+use Rattle.sfbank.specs.declared.script.ScriptForm.{ScriptForm}
 use Rattle.sfbank.specs.Differences.{TwoBanks}
 use Rattle.sfbank.specs.Recordings.{pair_outcome, wave_outcome}
 use Rattle.sfbank.specs.Purposes.{Purpose}
@@ -33,13 +37,15 @@ Path = List ℕ
 abbrev pub standard_output : Path
 standard_output = codes "-"
 
--- What is written: these bytes, a script that is found between two files or for the bank of a file, or the text about a
--- topic.
+-- What is written: these bytes, a script that is found between two files or for the bank of a file, with comments or
+-- without, the text about a topic, the findings of a bank, or its page with them.
 pub data Content : Type 0 where
   Text : List ℕ → Content
-  Difference : List ℕ → List ℕ → Content
-  Edits : Purpose → List ℕ → Content
+  Difference : Bool → List ℕ → List ℕ → Content
+  Edits : Bool → Purpose → List ℕ → Content
   Explanation : Topic → Content
+  Findings : Parts → Content
+  Page : Parts → Content
 
 -- A bank's file and an undo script: these texts, or those of edits that are found for the bank of a file.
 pub data Texts : Type 0 where
@@ -52,13 +58,15 @@ pub data FolderStep : Type 0 where
   SavesFile : Path → List ℕ → FolderStep
 
 -- What a request does: it saves a file, a bank with its undo script, or before these the script of edits that are found;
--- it saves a folder, which may be there already or not, step by step; it prints, or it begins a session on a file.
+-- it saves a folder, which may be there already or not, step by step; it prints, or prints the findings of a bank at a
+-- path, which may have none, or it begins a session on a file.
 pub data Action : Type 0 where
   Saves : Path → Content → Action
   SavesBoth : Path → Path → Texts → Action
-  SavesAll : Path → Path → Path → Purpose → List ℕ → Action
+  SavesAll : Path → Path → Path → Bool → Purpose → List ℕ → Action
   SavesFolder : Path → Bool → List FolderStep → Action
   Prints : Path → Content → Action
+  Checks : Path → Parts → Action
   Plays : LivePaths → List ℕ → Action
 
 -- Why a request does nothing: an output is rejected, an input can't be read, or a run fails; of a recording of a kit or of
@@ -118,6 +126,16 @@ abbrev pub with_print : Result (List ℕ) RunFault → Result Action Why
 with_print (Ok text) = Ok (Prints standard_output (Text text))
 with_print (Err fault) = Err (Fails standard_output fault)
 
+-- the findings of a bank on the standard output; if it may have none, they are a fault of its file
+abbrev pub with_findings : CheckPaths → Result Parts RunFault → Result Action Why
+with_findings p (Ok b) = Ok (if p.strict then Checks p.input.now b else Prints standard_output (Findings b))
+with_findings p (Err fault) = Err (Fails standard_output fault)
+
+-- the page of a bank, at a path
+abbrev pub with_page : World → Path → Result Parts RunFault → Result Action Why
+with_page world path (Ok b) = Ok (put_at world path (Page b))
+with_page world path (Err fault) = Err (Fails path fault)
+
 -- the outcome of a run with an undo script, at two paths
 abbrev pub with_both : Path → Path → Result Done RunFault → Result Action Why
 with_both out undo (Ok done) = Ok (SavesBoth out undo (Known done))
@@ -129,19 +147,20 @@ without_undo (Ok done) = Ok done.out
 without_undo (Err fault) = Err fault
 
 -- a difference of two files whose banks are of one version
-abbrev pub with_difference : World → Path → List ℕ → List ℕ → Result TwoBanks RunFault → Result Action Why
-with_difference world path a b (Ok banks) = Ok (put_at world path (Difference a b))
-with_difference world path a b (Err fault) = Err (Fails path fault)
+abbrev pub with_difference : World → Path → Bool → List ℕ → List ℕ → Result TwoBanks RunFault → Result Action Why
+with_difference world path comments a b (Ok banks) = Ok (put_at world path (Difference comments a b))
+with_difference world path comments a b (Err fault) = Err (Fails path fault)
 
 -- edits that are found for a bank: both texts are saved, after the script of the edits if it has a path
-abbrev pub saves_found : Option (Bor Path) → Path → Path → Purpose → List ℕ → Action
-saves_found None out undo purpose file = SavesBoth out undo (Found purpose file)
-saves_found (Some script) out undo purpose file = SavesAll script.now out undo purpose file
+abbrev pub saves_found : Option (Bor Path) → Path → Path → Bool → Purpose → List ℕ → Action
+saves_found None out undo comments purpose file = SavesBoth out undo (Found purpose file)
+saves_found (Some script) out undo comments purpose file = SavesAll script.now out undo comments purpose file
 
 -- the same, or the script is printed
 abbrev pub edits_at : PlanPaths → Purpose → List ℕ → Action
 edits_at p purpose file =
-    if p.dry_run then Prints standard_output (Edits purpose file) else saves_found p.script p.out.now p.undo.now purpose file
+    if p.dry_run then Prints standard_output (Edits (not p.no_comments) purpose file)
+    else saves_found p.script p.out.now p.undo.now (not p.no_comments) purpose file
 
 -- the same for the bank of a file, if it is one, and for a purpose, if there is one
 abbrev pub with_edits : PlanPaths → List ℕ → Result Purpose RunFault → Result Action Why
@@ -178,6 +197,10 @@ listing_outcome paths file =
 
 abbrev pub points_of : Bool → SamplePoints
 points_of left_out = if left_out then LeftOut else Kept
+
+-- the form of the script that the words of `script` ask for
+abbrev pub form_of : ScriptPaths → ScriptForm
+form_of paths = record { points = points_of paths.no_points; comments = not paths.no_comments }
 
 -- the name of an imported recording: that of its file, without its extension
 abbrev pub name_in : List ℕ → List ℕ

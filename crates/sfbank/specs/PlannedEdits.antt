@@ -20,6 +20,7 @@ use Rattle.plan_copy.specs.Copying.{IsCopying, IsPlayed, copies}
 use Rattle.plan_take.specs.Taking.{is_taken, on_preset}
 use Rattle.program_reports.specs.declared.run_fault.RunFault.{RunFault}
 use Rattle.program_reports.specs.declared.run_fault.RunFault.TheVariants as run
+use Rattle.sfbank.specs.EditTexts.{edits_text}
 use Rattle.sfbank.specs.Outcome.{Done, both_texts, bank_in, outcome, play_outcome}
 use Rattle.sfbank.specs.Written.{Writers, Runs}
 use Rattle.program_commands.specs.declared.plans.Zones.{Zones}
@@ -32,12 +33,12 @@ pub record IsPlanned (promise : Promise) (file : List ℕ) (done : Done) : Type 
   pub is_accepted : AllAccepted (bank_in file) edits
   pub scripted : outcome file (texts_of edits) ≡ Ok done
 
--- This is the script of edits that keep the promise.
-pub record IsScript (promise : Promise) (file text : List ℕ) : Type 0 where
+-- This is the script of edits that keep the promise, with comments or without.
+pub record IsScript (comments : Bool) (promise : Promise) (file text : List ℕ) : Type 0 where
   pub edits : List Edit
   pub promised : promise (bank_in file) edits
   pub is_accepted : AllAccepted (bank_in file) edits
-  pub is_text : text ≡ texts_of edits
+  pub is_text : text ≡ edits_text comments (bank_in file) edits
 
 -- the edits of a plan for a bank, and both texts
 pub record HasTexts (promise : Promise) (b : Parts) (done : Done) : Type 0 where

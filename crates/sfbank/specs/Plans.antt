@@ -1,12 +1,12 @@
 -- What a request does, as a function of the world of files and of what its inputs give.
-use Rattle.std.specs.Prelude.{◌||◌, [], ◌∷◌, Option, Some, None, Result, Ok}
+use Rattle.std.specs.Prelude.{◌||◌, not, [], ◌∷◌, Option, Some, None, Result, Ok}
 use Rattle.std.specs.Prelude.{⊤}
 use Rattle.file_host.specs.World.{World}
 use Rattle.file_host.specs.Checks.{is_one_file}
 use Rattle.script_of_bank.specs.declared.samples.SamplePoints.TheVariants.{Kept}
 use Rattle.program_commands.specs.declared.words.Request.{Request}
-use Rattle.program_commands.specs.declared.words.Request.TheVariants.{Apply, ApplyOnly, Canon, Copy, Diff, Explain, Import, ImportKit, Keep}
-use Rattle.program_commands.specs.declared.words.Request.TheVariants.{Live, Map, Merge, New, Pack, Play, Replace, Script, Show}
+use Rattle.program_commands.specs.declared.words.Request.TheVariants.{Apply, ApplyOnly, Canon, Check, Copy, Diff, Explain, Import, ImportKit}
+use Rattle.program_commands.specs.declared.words.Request.TheVariants.{Keep, Live, Map, Merge, New, Pack, Page, Play, Replace, Script, Show}
 use Rattle.program_commands.specs.declared.words.Request.TheVariants.{Take, Tidy, Unpack, Wave, WaveAll}
 use Rattle.program_commands.specs.declared.plans.Kept as kept
 use Rattle.program_commands.specs.declared.plans.Kept.TheVariants.{Notes, Presets}
@@ -26,14 +26,15 @@ use Rattle.sfbank.specs.KitFolders.{with_samples}
 use Rattle.sfbank.specs.KitPlans.{GiveWaves, entries_of, kit_plan, members_of, table_of, work_of}
 use Rattle.sfbank.specs.PlanParts.{Path, standard_output, Action, Why, Inputs, GivesInput, apart, no_bank, with_input}
 use Rattle.sfbank.specs.PlanParts.{with_text, with_print, with_both, without_undo, with_difference, with_edits}
-use Rattle.sfbank.specs.PlanParts.{undo_apart, both_apart, listing_outcome, points_of, import_name, export_outcome}
-use Rattle.sfbank.specs.PlanParts.{Explanation, Prints, Plays}
+use Rattle.sfbank.specs.PlanParts.{undo_apart, both_apart, listing_outcome, form_of, import_name, export_outcome}
+use Rattle.sfbank.specs.PlanParts.{Explanation, Prints, Plays, with_findings, with_page}
 
 -- the paths of the inputs
 abbrev pub first_input : Request → Option Path
 first_input (Apply paths) = Some paths.input.now
 first_input (ApplyOnly paths) = Some paths.input.now
 first_input (Canon paths) = Some paths.input.now
+first_input (Check paths) = Some paths.input.now
 first_input (Copy copy) = Some copy.paths.input.now
 first_input (Diff paths) = Some paths.first.now
 first_input (Explain topic) = None
@@ -45,6 +46,7 @@ first_input (Map paths) = Some paths.input.now
 first_input (Merge merge) = Some merge.paths.input.now
 first_input (New bank) = None
 first_input (Pack paths) = Some (text_path paths.folder.now)
+first_input (Page paths) = Some paths.input.now
 first_input (Play paths) = Some paths.input.now
 first_input (Replace paths) = Some paths.input.now
 first_input (Script paths) = Some paths.input.now
@@ -112,6 +114,7 @@ plan (ApplyOnly p) world inputs =
     (λ file. with_input p.script.now inputs.second
     (λ script. with_text world p.out.now (without_undo (outcome_of p.forms file script)))))
 plan (Canon p) world inputs = with_input p.input.now inputs.first (λ file. with_text world p.out.now (canon_outcome file))
+plan (Check p) world inputs = with_input p.input.now inputs.first (λ file. with_findings p (bank_outcome file))
 plan (Copy copy) world inputs =
     undo_apart world copy.paths
     (with_input copy.paths.input.now inputs.first
@@ -119,7 +122,7 @@ plan (Copy copy) world inputs =
 plan (Diff p) world inputs =
     no_bank world p.out.now p.force
     (with_input p.first.now inputs.first
-    (λ a. with_input p.second.now inputs.second (λ b. with_difference world p.out.now a b (two_banks_of a b))))
+    (λ a. with_input p.second.now inputs.second (λ b. with_difference world p.out.now (not p.no_comments) a b (two_banks_of a b))))
 plan (Explain topic) world inputs = Ok (Prints standard_output (Explanation topic))
 plan (Import p) world inputs =
     apart world p.out.now (p.wave.now ∷ [])
@@ -135,13 +138,16 @@ plan (Live p) world inputs =
     (no_bank world p.pcm.now p.force (with_input p.input.now inputs.first (λ file. Ok (Plays p file))))
 plan (Map p) world inputs =
     no_bank world p.out.now p.force
-    (with_input p.input.now inputs.first (λ file. with_text world p.out.now (map_outcome file p.owner)))
+    (with_input p.input.now inputs.first (λ file. with_text world p.out.now (map_outcome file p.drawn)))
 plan (Merge merge) world inputs =
     both_apart world merge.paths merge.from.now
     (with_input merge.paths.input.now inputs.first
     (λ file. with_input merge.from.now inputs.second (λ other. with_edits merge.paths file (merging file other merge.shift))))
 plan (New p) world inputs = no_bank world p.out.now p.force (with_text world p.out.now (new_outcome p.minor))
 plan (Pack p) world inputs = pack_plan p inputs world
+plan (Page p) world inputs =
+    no_bank world p.out.now p.force
+    (with_input p.input.now inputs.first (λ file. with_page world p.out.now (bank_outcome file)))
 plan (Play p) world inputs =
     apart world p.out.now (p.notes.now ∷ [])
     (no_bank world p.out.now (p.force || is_one_file world p.out.now p.input.now)
@@ -156,7 +162,7 @@ plan (Replace p) world inputs =
     (λ wave. with_both p.out.now p.undo.now (replace_outcome p.options p.sample file wave))))))
 plan (Script p) world inputs =
     no_bank world p.out.now p.force
-    (with_input p.input.now inputs.first (λ file. with_text world p.out.now (script_outcome (points_of p.no_points) file)))
+    (with_input p.input.now inputs.first (λ file. with_text world p.out.now (script_outcome (form_of p) file)))
 plan (Show p) world inputs = with_input p.input.now inputs.first (λ file. with_print (listing_outcome p file))
 plan (Take take) world inputs =
     both_apart world take.paths take.from.now

@@ -1,5 +1,5 @@
 -- On files: what `apply` makes of the scripts that `diff` and `script` saved.
-use Rattle.std.specs.Prelude.{◌≡◌, ℕ, List, [], Ok, true, false}
+use Rattle.std.specs.Prelude.{◌≡◌, ℕ, List, [], Ok, true, false, not}
 use Rattle.hydra_records.specs.Records.{AreBytes}
 use Rattle.bank_format.specs.Canon.{canon}
 use Rattle.file_host.specs.World.{World, held_at, file_at, stores_at, with_text}
@@ -18,8 +18,8 @@ use Rattle.sfbank.specs.UndoneFiles.{IsApplied}
 -- `diff` of these paths was done on two files: it planned to save a difference, and saved this text.
 pub record IsCompared (paths : DiffPaths) (old new : World) (a b text : List ℕ) : Type 0 where
   pub planned : plan (Diff paths) old (record { first = Ok a; second = Ok b; others = [] })
-      ≡ Ok (Saves paths.out.now (Difference a b))
-  pub differs : IsContent (Difference a b) text
+      ≡ Ok (Saves paths.out.now (Difference (not paths.no_comments) a b))
+  pub differs : IsContent (Difference (not paths.no_comments) a b) text
   pub files : new ≡ with_text paths.out.now text old
 
 -- `script` of these paths was done on a file, with the points of samples.

@@ -1,15 +1,17 @@
 //! The runs of the program, from bytes to bytes, and the program itself, from arguments to an exit status.
 //!
-//! A run edits a bank by a script, writes a bank's canonical file, listing, script or map, compares two banks, renders
-//! notes as a WAVE file, moves a sample between a bank and a WAVE file, or makes the bank of a folder. The program reads and writes the files that
-//! its arguments name.
+//! A run edits a bank by a script, writes a bank's canonical file, listing, script, map or page, lists what is probably a
+//! mistake, compares two banks, renders notes as a WAVE file, moves a sample between a bank and a WAVE file, or makes the
+//! bank of a folder. The program reads and writes the files that its arguments name.
 #![tactic(auto)]
 
 mod canon;
+mod check;
 mod copied_members;
 mod diff;
 mod edit;
 mod edited_bank;
+mod edits_script;
 mod folders;
 mod kit_fits;
 mod kits;
@@ -31,6 +33,7 @@ mod writing;
 
 pub use base_progress::{NoReports, Progress, Work};
 pub use canon::canon_run;
+pub use check::{check_run, page_run};
 pub use diff::diff_run;
 pub use edit::{edit_run, edit_run_with_progress, neutral_run};
 pub use file_host::Which;
@@ -52,7 +55,7 @@ pub use program::{run, run_with_arguments};
 pub use program_commands::Zones;
 pub use program_reports::{ProgressMeter, Prompted, RunFault, fault_text};
 pub use recorded::{import_run, replace_run};
-pub use script::script_run;
+pub use script::{ScriptForm, script_run};
 pub use script_of_bank::SamplePoints;
 pub use show::{show_details_run, show_run};
 pub use show_listing::Details;

@@ -5,6 +5,7 @@ ghost use Rattle.sfbank.specs.Meanings.{Answers, EndsExplained, IsReported, Mean
 
 mod apply;
 mod canon;
+mod check;
 mod checks;
 mod copy;
 mod diff;
@@ -22,6 +23,7 @@ mod merge;
 mod new;
 mod outputs;
 mod pack;
+mod page;
 mod planned;
 mod play;
 mod recorded;
@@ -38,6 +40,7 @@ mod wave_all;
 use apply::{apply, apply_only};
 use base_progress::Progress;
 use canon::canon;
+use check::check;
 use clap::error::ErrorKind;
 use copy::copy;
 use diff::diff;
@@ -54,6 +57,7 @@ use merge::merge;
 use new::new;
 use outputs::{print, remark_on_output};
 use pack::pack;
+use page::page;
 use play::play;
 use program_commands::{Request, asks_for_explanations, request_of};
 use program_hints::Remarks;
@@ -120,9 +124,9 @@ fn arguments<R: Env + AllocGlobal>(rt: &R) -> Result<Vec<String>, Fault<'static>
 /// | 4 | an edit is refused, a preset, instrument or sample does not exist, or the versions of two banks differ |
 /// | 5 | an input can't be read or is too long, or an output is rejected or can't be written |
 /// | 6 | an allocation failed |
-/// | 7 | a plan failed: a defect of the program |
+/// | 7 | `check --strict` finds something, or a plan failed: a defect of the program |
 ///
-/// `live` reads its lines from `input`. The texts of `show` and `explain`, the answers of `live`, help and the version
+/// `live` reads its lines from `input`. The texts of `show`, `check` and `explain`, the answers of `live`, help and the version
 /// are written to `output`. `apply` and `play` report to `base_progress`.
 ///
 /// If the status is not 0, one line (for arguments that clap rejects, its whole text) is written to `errors`, except
@@ -193,6 +197,7 @@ fn serve<'a, H: Host, I: Read, O: Write + KnowsError, P: Progress>(
         Request::Apply(paths) => apply(host, alloc, paths, remarks, progress),
         Request::ApplyOnly(paths) => apply_only(host, alloc, paths, output, remarks, progress),
         Request::Canon(paths) => canon(host, alloc, paths, output),
+        Request::Check(paths) => check(host, alloc, paths, output),
         Request::Copy(operands) => copy(host, alloc, operands, output),
         Request::Diff(paths) => diff(host, alloc, paths, output),
         Request::Explain(topic) => explain(alloc, topic, output),
@@ -204,6 +209,7 @@ fn serve<'a, H: Host, I: Read, O: Write + KnowsError, P: Progress>(
         Request::Merge(operands) => merge(host, alloc, operands, output),
         Request::New(bank) => new(host, alloc, bank, output),
         Request::Pack(paths) => pack(host, alloc, paths, output, remarks),
+        Request::Page(paths) => page(host, alloc, paths, output),
         Request::Play(paths) => play(host, alloc, paths, output, remarks, progress),
         Request::Replace(paths) => replace(host, alloc, paths),
         Request::Script(paths) => script(host, alloc, paths, output),

@@ -1,4 +1,5 @@
 //! The command `diff`.
+ghost use Rattle.std.specs.Prelude.{not};
 ghost use Rattle.program_commands.specs.declared.words.Request.TheVariants.{Diff};
 ghost use Rattle.sfbank.specs.Differences.{two_banks_of};
 ghost use Rattle.sfbank.specs.PlanParts.{with_difference};
@@ -33,7 +34,7 @@ pub(crate) fn diff<'a, H: Host, O: Write + KnowsError>(
                 put_difference(
                     host,
                     alloc,
-                    paths.out,
+                    paths,
                     first.as_slice(),
                     second.as_slice(),
                     output,
@@ -48,17 +49,17 @@ pub(crate) fn diff<'a, H: Host, O: Write + KnowsError>(
 fn put_difference<'a, H: Host, O: Write + KnowsError>(
     host: &mut H,
     alloc: Global,
-    path: &'a str,
+    paths: DiffPaths<'a>,
     first: &[u8],
     second: &[u8],
     output: &mut O,
 ) -> Result<(), Fault<'a>>
-    ensures { EndsFor (λ w. with_difference w path.entry.now first.now second.now (two_banks_of first.now second.now))
+    ensures { EndsFor (λ w. with_difference w paths.entry.out.now (not paths.entry.no_comments) first.now second.now (two_banks_of first.now second.now))
         (record { files = H.world host.old; printed = O.contents output.old })
         (record { files = H.world host.new; printed = O.contents output.new }) (H.written host.new) result }
 {
-    match difference_of(alloc, first, second) {
-        Ok(difference) => put(host, path, &difference, output),
-        Err(fault) => Err(Fault::Run(fault, path)),
+    match difference_of(alloc, first, second, !paths.no_comments) {
+        Ok(difference) => put(host, paths.out, &difference, output),
+        Err(fault) => Err(Fault::Run(fault, paths.out)),
     }
 }

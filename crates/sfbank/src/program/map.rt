@@ -8,15 +8,14 @@ ghost use Rattle.sfbank.specs.Meanings.{Means};
 use super::checks::reject_bank;
 use super::inputs::read_input;
 use super::outputs::put;
-use crate::map::read_owner;
+use crate::map::{Drawing, read_drawn};
 use file_host::Host;
 use program_commands::MapPaths;
 use program_reports::{Fault, KnowsError};
-use show_zone_map::ZoneMap;
 use std::alloc::Global;
 use std::io::Write;
 
-/// Writes the map of a preset or an instrument. The bank is read whole first, so with `force` the output may be its
+/// Writes a drawing of a preset, an instrument or a sample. The bank is read whole first, so with `force` the output may be its
 /// file.
 pub(crate) fn map<'a, H: Host, O: Write + KnowsError>(
     host: &mut H,
@@ -44,17 +43,17 @@ fn put_map<'a, H: Host, O: Write + KnowsError>(
     file: &[u8],
     output: &mut O,
 ) -> Result<(), Fault<'a>>
-    ensures { EndsFor (λ w. with_text w paths.entry.out.now (map_outcome file.now paths.entry.owner))
+    ensures { EndsFor (λ w. with_text w paths.entry.out.now (map_outcome file.now paths.entry.drawn))
         (record { files = H.world host.old; printed = O.contents output.old })
         (record { files = H.world host.new; printed = O.contents output.new }) (H.written host.new) result }
 {
-    match read_owner(alloc, file, paths.owner) {
+    match read_drawn(alloc, file, paths.drawn) {
         Ok(bank) => {
-            let map = ZoneMap {
+            let drawing = Drawing {
                 bank: &bank,
-                owner: paths.owner,
+                drawn: paths.drawn,
             };
-            put(host, paths.out, &map, output)
+            put(host, paths.out, &drawing, output)
         }
         Err(fault) => Err(Fault::Run(fault, paths.out)),
     }

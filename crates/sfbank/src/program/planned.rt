@@ -1,20 +1,22 @@
 //! Commands whose edits a plan finds.
-ghost use Rattle.std.specs.Prelude.{Ok, List, Option, ℕ};
+ghost use Rattle.std.specs.Prelude.{Ok, List, Option, ℕ, not};
 ghost use Rattle.bank_edits.specs.Runs.{AllAccepted};
 ghost use Rattle.bank_format.specs.ReadChecks.{fault_of};
 ghost use Rattle.sfbank.specs.Outcome.{after_reading, both_texts};
 ghost use Rattle.sfbank.specs.Purposes.{Purpose, Serves, promise_of};
 ghost use Rattle.sfbank.specs.PlanParts.{SavesAll, edits_at, with_edits};
 ghost use Rattle.sfbank.specs.Ends.{EndsFor};
-ghost use Rattle.sfbank.specs.Outputs.{SavesPairAt};
+ghost use Rattle.sfbank.specs.EditTexts.{edits_text};
+ghost use Rattle.sfbank.specs.Prepared.{edits_script_text};
+ghost use Rattle.sfbank.specs.Outputs.{PrintsOrFails, SavesAt, SavesPairAt};
 ghost use Rattle.sfbank.specs.Steps.{IsReadAs};
 
 use super::outputs::{print, save, save_both};
 use crate::edited_bank::{apply_accepted, of_plan};
+use crate::edits_script::EditsScript;
 use crate::reading::read_bank;
 use bank_core::Bank;
 use edit_forms::Edit;
-use edit_script::EditLines;
 use file_host::Host;
 use plan_edits::Plan;
 use program_commands::PlanPaths;
@@ -80,11 +82,29 @@ fn put_found<'a, 'b, H: Host, O: Write + KnowsError>(
         (record { files = H.world host.new; printed = O.contents output.new }) (H.written host.new) result }
 {
     if paths.dry_run {
-        return print(&EditLines(edits.as_slice()), output);
+        return print_edits(alloc, paths, &bank, edits.as_slice(), output);
     }
     match paths.script {
         Some(script) => save_all(host, alloc, paths, script, bank, edits),
         None => save_edited(host, alloc, paths, bank, edits),
+    }
+}
+
+// Prints the script of edits.
+fn print_edits<'a, O: Write + KnowsError>(
+    alloc: Global,
+    paths: PlanPaths<'a>,
+    bank: &Bank<'_>,
+    edits: &[Edit<'_>],
+    output: &mut O,
+) -> Result<(), Fault<'a>>
+    requires { AllAccepted bank.now edits.now }
+    ensures { PrintsOrFails (edits_text (not paths.entry.no_comments) bank.now edits.now)
+        (O.contents output.old) (O.contents output.new) result }
+{
+    match EditsScript::of(alloc, bank, edits, !paths.no_comments) {
+        Ok(script) => print(&script, output),
+        Err(OutOfMemory) => Err(Fault::Run(RunFault::Memory, paths.out)),
     }
 }
 
@@ -100,14 +120,47 @@ fn save_all<'a, 'b, H: Host>(
     requires { AllAccepted bank edits.items }
     ensures { (purpose : Purpose) (file : List ℕ) (printed : Option (List ℕ)) → promise_of purpose bank.entry edits.entry.items
         → IsReadAs file bank.entry
-        → EndsFor (λ w. Ok (SavesAll script.entry.now paths.entry.out.now paths.entry.undo.now purpose file))
+        → EndsFor (λ w. Ok (SavesAll script.entry.now paths.entry.out.now paths.entry.undo.now (not paths.entry.no_comments)
+        purpose file))
         (record { files = H.world host.old; printed = printed }) (record { files = H.world host.new; printed = printed })
         (H.written host.new) result }
 {
-    match save(host, script, &EditLines(edits.as_slice())) {
+    let comments = !paths.no_comments;
+    match save_script(host, alloc, script, &bank, edits.as_slice(), comments) {
         Ok(()) => save_edited(host, alloc, paths, bank, edits),
         Err(fault) => Err(fault),
     }
+}
+
+// Saves the script of edits.
+fn save_script<'a, 'b, H: Host>(
+    host: &mut H,
+    alloc: Global,
+    script: &'a str,
+    bank: &Bank<'b>,
+    edits: &[Edit<'b>],
+    comments: bool,
+) -> Result<(), Fault<'a>>
+    requires { AllAccepted bank.now edits.now }
+    ensures { SavesAt script.entry.now (edits_text comments bank.now edits.now)
+        (H.world host.old) (H.world host.new) (H.written host.new) result }
+{
+    match EditsScript::of(alloc, bank, edits, comments) {
+        Ok(text) => save_lines(host, script, text),
+        Err(OutOfMemory) => Err(Fault::Run(RunFault::Memory, script)),
+    }
+}
+
+// Saves the lines of edits.
+fn save_lines<'a, H: Host>(
+    host: &mut H,
+    script: &'a str,
+    text: EditsScript<'_, '_>,
+) -> Result<(), Fault<'a>>
+    ensures { SavesAt script.entry.now (edits_script_text text.entry)
+        (H.world host.old) (H.world host.new) (H.written host.new) result }
+{
+    save(host, script, &text)
 }
 
 // Saves the edited bank with its undo script.

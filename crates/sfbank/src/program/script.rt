@@ -2,7 +2,7 @@
 ghost use Rattle.program_commands.specs.declared.words.Request.TheVariants.{Script};
 ghost use Rattle.std.specs.Prelude.{◌≡◌};
 ghost use Rattle.sfbank.specs.BankScripts.{script_outcome};
-ghost use Rattle.sfbank.specs.PlanParts.{points_of, with_text};
+ghost use Rattle.sfbank.specs.PlanParts.{form_of, points_of, with_text};
 ghost use Rattle.sfbank.specs.Ends.{EndsFor};
 ghost use Rattle.sfbank.specs.Meanings.{Means};
 
@@ -10,10 +10,12 @@ use super::checks::reject_bank;
 use super::inputs::read_input;
 use super::outputs::put;
 use crate::reading::read_bank;
+use crate::script::{FormedScript, ScriptForm};
 use file_host::Host;
 use program_commands::ScriptPaths;
-use program_reports::{Fault, KnowsError};
-use script_of_bank::{BankScript, SamplePoints};
+use program_reports::{Fault, KnowsError, RunFault};
+use script_of_bank::SamplePoints;
+use sf_base::OutOfMemory;
 use std::alloc::Global;
 use std::io::Write;
 
@@ -44,19 +46,25 @@ fn put_script<'a, H: Host, O: Write + KnowsError>(
     file: &[u8],
     output: &mut O,
 ) -> Result<(), Fault<'a>>
-    ensures { EndsFor (λ w. with_text w paths.entry.out.now (script_outcome (points_of paths.entry.no_points) file.now))
+    ensures { EndsFor (λ w. with_text w paths.entry.out.now (script_outcome (form_of paths.entry) file.now))
         (record { files = H.world host.old; printed = O.contents output.old })
         (record { files = H.world host.new; printed = O.contents output.new }) (H.written host.new) result }
 {
     match read_bank(alloc, file) {
-        Ok((bank, _counts)) => {
-            let script = BankScript {
-                bank: &bank,
-                points: points_of(paths.no_points),
-            };
-            put(host, paths.out, &script, output)
-        }
+        Ok((bank, _counts)) => match FormedScript::of(alloc, &bank, form_of(paths)) {
+            Ok(script) => put(host, paths.out, &script, output),
+            Err(OutOfMemory) => Err(Fault::Run(RunFault::Memory, paths.out)),
+        },
         Err(fault) => Err(Fault::Run(fault, paths.out)),
+    }
+}
+
+fn form_of(paths: ScriptPaths<'_>) -> ScriptForm
+    ensures { result ≡ form_of paths.entry }
+{
+    ScriptForm {
+        points: points_of(paths.no_points),
+        comments: !paths.no_comments,
     }
 }
 

@@ -9,14 +9,16 @@ use super::folder_paths::BANK;
 use super::inputs::read_input;
 use super::saved_folder::save_folder;
 use crate::reading::read_bank;
+use crate::script::{FormedScript, ScriptForm};
 use bank_core::Bank;
 use file_host::Host;
 use program_commands::UnpackPaths;
-use program_reports::Fault;
-use script_of_bank::{BankScript, SamplePoints};
+use program_reports::{Fault, RunFault};
+use script_of_bank::SamplePoints;
+use sf_base::OutOfMemory;
 use std::alloc::Global;
 
-/// Writes a bank as a folder: its script without points, and a WAVE file for each sample. The bank is read whole first.
+/// Writes a bank as a folder: its script without points but with comments, and a WAVE file for each sample. The bank is read whole first.
 pub(crate) fn unpack<'a, H: Host>(
     host: &mut H,
     alloc: Global,
@@ -59,17 +61,20 @@ fn unpack_bank<'a, H: Host>(
         (record { files = H.world host.old; printed = printed })
         (record { files = H.world host.new; printed = printed }) (H.written host.new) result }
 {
-    let script = BankScript {
-        bank,
+    let form = ScriptForm {
         points: SamplePoints::LeftOut,
+        comments: true,
     };
-    save_folder(
-        host,
-        alloc,
-        paths.folder,
-        paths.force,
-        BANK,
-        &script,
-        bank.samples(),
-    )
+    match FormedScript::of(alloc, bank, form) {
+        Ok(script) => save_folder(
+            host,
+            alloc,
+            paths.folder,
+            paths.force,
+            BANK,
+            &script,
+            bank.samples(),
+        ),
+        Err(OutOfMemory) => Err(Fault::Run(RunFault::Memory, paths.folder)),
+    }
 }

@@ -14,7 +14,7 @@ pub returns : goal.returns
 returns c =
     let given : WordParsers = c.word_parsers-parsers.result in
     let words = c.word_parsers-parsers.ensures in
-    let parsers : given ≡ parsers_of words.0 words.1 = words.4 in
+    let parsers : given ≡ parsers_of words.0 = words.2 in
     let first : List Entry = c.commands_to_live.result.now in
     let last : List Entry = c.commands_from_map.result.now in
     let table : map command_in first ++ map command_in last ≡ command_table =
@@ -23,10 +23,10 @@ returns c =
     c.in_ok-begun.ensures
     ∙ ap (λ (a : App). fold with_subcommand a (shapes_of given first)) c.in_ok-command.ensures in
     let all : fold with_subcommand (app_of c.in_ok-begun.begun) (shapes_of given last)
-    ≡ app_with (parsers_of words.0 words.1) =
+    ≡ app_with (parsers_of words.0) =
     ap (λ (a : App). fold with_subcommand a (shapes_of given last)) begun
     ∙ two_tables given program_app first last
     ∙ ap₂ (λ (p : WordParsers) (cs : List (Text × List Argument)). fold with_subcommand program_app
     (map (shape_for p) cs)) parsers table in
-    IfOk-weaker c.with_commands-2.result _ _ (λ command is. (words.0, words.1, words.2, words.3, is ∙ all))
+    IfOk-weaker c.with_commands-2.result _ _ (λ command is. (words.0, words.1, is ∙ all))
     c.with_commands-2.ensures

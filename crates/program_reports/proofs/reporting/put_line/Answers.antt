@@ -42,6 +42,10 @@ pub returns-in-RowRecording : goal.returns-in-RowRecording
 unfolding line_of
 returns-in-RowRecording g c = rw c.in-RowRecording.is c.put_row_recording.ensures
 
+pub returns-in-HasFindings : goal.returns-in-HasFindings
+unfolding line_of
+returns-in-HasFindings g c = rw c.in-HasFindings.is c.put_has_findings.ensures
+
 pub returns-in-FolderThere : goal.returns-in-FolderThere
 unfolding line_of
 returns-in-FolderThere g c = rw c.in-FolderThere.is c.put_folder_there.ensures

@@ -1,5 +1,5 @@
-use Rattle.std.proofs.Common.{refl}
-use Rattle.edit_script.specs.Printing.{texts_of}
+use Rattle.std.proofs.Common.{not, refl}
+use Rattle.sfbank.specs.EditTexts.{edits_text}
 use Rattle.sfbank.specs.Outcome.{both_texts}
 use Rattle.sfbank.proofs.FoundEdits.{all_saved, edits_print, edits_saved, is_planned, is_script}
 use Rattle.sfbank.proofs.program.planned.put_found.Goals as goal
@@ -7,9 +7,10 @@ use Rattle.sfbank.proofs.program.planned.put_found.Goals as goal
 pub returns-then-paths : goal.returns-then-paths
 returns-then-paths g c purpose file promised read =
     let edits = c.args.edits.items in
-    edits_print _ c.args.paths purpose file (texts_of edits) _ _ _ c.print.result c.if-paths.true
-    (is_script purpose file c.args.bank edits read promised c.requires)
-    (rw c.as_slice.ensures.value at c.print.ensures)
+    let comments = not c.args.paths.no_comments in
+    edits_print _ c.args.paths purpose file (edits_text comments c.args.bank edits) _ _ _ c.print_edits.result
+    c.if-paths.true (is_script comments purpose file c.args.bank edits read promised c.requires)
+    (rw c.as_slice.ensures.value at c.print_edits.ensures)
 
 pub returns-in-Some : goal.returns-in-Some
 returns-in-Some g c purpose file promised read =

@@ -1,5 +1,5 @@
 use Rattle.std.proofs.Common.{◌∙◌}
-use Rattle.program_reports.proofs.fault_lines.put_rejected.Goals as goal
+use Rattle.program_reports.proofs.fault_lines.put_path_line.Goals as goal
 
 pub returns : goal.returns
 returns g c =
