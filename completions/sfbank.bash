@@ -4,18 +4,20 @@
 _sfbank_options() {
   case $1 in
     apply) echo --force --neutral --no-undo --explain --help ;;
-    copy) echo --as --dry-run --force --name --script --explain --help ;;
-    diff | map | pack | unpack) echo --force --explain --help ;;
+    check) echo --strict --explain --help ;;
+    copy) echo --as --dry-run --force --name --no-comments --script --explain --help ;;
+    diff) echo --force --no-comments --explain --help ;;
+    map | pack | page | unpack) echo --force --explain --help ;;
     import) echo --channel --dither --force --instrument --key --kit --name --preset --explain --help ;;
-    keep) echo --dry-run --force --notes --preset --script --zones --explain --help ;;
+    keep) echo --dry-run --force --no-comments --notes --preset --script --zones --explain --help ;;
     live | play) echo --force --report --explain --help ;;
-    merge) echo --dry-run --force --script --shift --explain --help ;;
+    merge) echo --dry-run --force --no-comments --script --shift --explain --help ;;
     new) echo --force --minor --explain --help ;;
     replace) echo --channel --dither --force --key --explain --help ;;
-    script) echo --force --no-points --explain --help ;;
+    script) echo --force --no-comments --no-points --explain --help ;;
     show) echo --zones --uses --explain --help ;;
-    take) echo --dry-run --force --preset --script --explain --help ;;
-    tidy) echo --dry-run --force --merge --script --explain --help ;;
+    take) echo --dry-run --force --no-comments --preset --script --explain --help ;;
+    tidy) echo --dry-run --force --merge --no-comments --script --explain --help ;;
     wave) echo --all --force --instrument --pair --explain --help ;;
     canon | explain) echo --explain --help ;;
     '') echo --help --version ;;
@@ -34,10 +36,11 @@ _sfbank_endings() {
     import) echo sf2 wav sf2 txt ;;
     keep | tidy) echo sf2 sf2 txt ;;
     live) echo sf2 pcm ;;
-    map) echo sf2 preset/inst - svg ;;
+    map) echo sf2 preset/inst/sample - svg ;;
     merge | take) echo sf2 sf2 sf2 txt ;;
-    new | show) echo sf2 ;;
+    check | new | show) echo sf2 ;;
     pack) echo folder sf2 ;;
+    page) echo sf2 html ;;
     play) echo sf2 txt wav ;;
     replace) echo sf2 - wav sf2 txt ;;
     script) echo sf2 txt ;;
@@ -94,7 +97,7 @@ _sfbank_files() {
 _sfbank() {
   local word=${COMP_WORDS[COMP_CWORD]} before=${COMP_WORDS[COMP_CWORD - 1]}
   local given endings
-  local commands="apply canon copy diff explain help import keep live map merge new pack play replace script show take tidy unpack wave"
+  local commands="apply canon check copy diff explain help import keep live map merge new pack page play replace script show take tidy unpack wave"
   COMPREPLY=()
   mapfile -t given < <(_sfbank_given)
   read -ra endings < <(_sfbank_endings "${given[0]}")

@@ -51,13 +51,15 @@ function __sfbank_files
         case live
             set endings sf2 pcm
         case map
-            set endings sf2 preset/inst - svg
+            set endings sf2 preset/inst/sample - svg
         case merge take
             set endings sf2 sf2 sf2 txt
-        case new show
+        case check new show
             set endings sf2
         case pack
             set endings folder sf2
+        case page
+            set endings sf2 html
         case play
             set endings sf2 txt wav
         case replace
@@ -88,11 +90,12 @@ function __sfbank_files
     end
 end
 
-set -l commands apply canon copy diff explain import keep live map merge new pack play replace script show take tidy unpack wave
+set -l commands apply canon check copy diff explain import keep live map merge new pack page play replace script show take tidy unpack wave
 
 complete -c sfbank -f
 complete -c sfbank -n __sfbank_is_bare -a apply -d 'Run a script of edits on a bank, and write its undo script'
 complete -c sfbank -n __sfbank_is_bare -a canon -d 'Write a bank in its canonical form'
+complete -c sfbank -n __sfbank_is_bare -a check -d 'List what is probably a mistake in a bank'
 complete -c sfbank -n __sfbank_is_bare -a copy -d 'Copy a preset, an instrument or a sample to the end of its list'
 complete -c sfbank -n __sfbank_is_bare -a diff -d 'Write a script that turns bank A into bank B'
 complete -c sfbank -n __sfbank_is_bare -a explain -d 'Explain a fault or a refusal, or list the generators'
@@ -100,10 +103,11 @@ complete -c sfbank -n __sfbank_is_bare -a help -d 'Print the help of the program
 complete -c sfbank -n __sfbank_is_bare -a import -d 'Add recordings to a bank, and an instrument that plays them'
 complete -c sfbank -n __sfbank_is_bare -a keep -d 'Keep some presets of a bank, and remove what they do not need'
 complete -c sfbank -n __sfbank_is_bare -a live -d 'Edit and play a bank live, by the lines of the standard input'
-complete -c sfbank -n __sfbank_is_bare -a map -d 'Draw the ranges of a preset or an instrument as an SVG picture'
+complete -c sfbank -n __sfbank_is_bare -a map -d 'Draw ranges, or the waveform of a sample, as an SVG picture'
 complete -c sfbank -n __sfbank_is_bare -a merge -d 'Add all that another bank has after what a bank has'
 complete -c sfbank -n __sfbank_is_bare -a new -d 'Write an empty bank'
 complete -c sfbank -n __sfbank_is_bare -a pack -d 'Make the bank of a folder that unpack made'
+complete -c sfbank -n __sfbank_is_bare -a page -d 'Write a bank as an HTML page'
 complete -c sfbank -n __sfbank_is_bare -a play -d 'Play notes on a bank into a WAVE file'
 complete -c sfbank -n __sfbank_is_bare -a script -d 'Write a script that makes the bank from the empty bank'
 complete -c sfbank -n __sfbank_is_bare -a show -d 'List what a bank has, and what was dropped or repaired in reading it'
@@ -141,6 +145,7 @@ complete -c sfbank -n '__sfbank_is map' -l force -d 'Write OUT even if a bank is
 complete -c sfbank -n '__sfbank_is merge' -l force -d 'Write UNDO and FILE even if a bank is there'
 complete -c sfbank -n '__sfbank_is new' -l force -d 'Write OUT even if a bank is there'
 complete -c sfbank -n '__sfbank_is pack' -l force -d 'Write OUT even if a bank is there'
+complete -c sfbank -n '__sfbank_is page' -l force -d 'Write OUT even if a bank is there'
 complete -c sfbank -n '__sfbank_is play' -l force -d 'Write OUT even if a bank is there'
 complete -c sfbank -n '__sfbank_is play' -l report -d 'Report silent notes, the peak and clipping at the end'
 complete -c sfbank -n '__sfbank_is script' -l force -d 'Write OUT even if a bank is there'
@@ -170,6 +175,14 @@ complete -c sfbank -n '__sfbank_is take' -l preset -x -d 'Copy the preset with t
 complete -c sfbank -n '__sfbank_is tidy' -l dry-run -d 'Print the script of edits, and save nothing'
 complete -c sfbank -n '__sfbank_is tidy' -l script -r -k -a '(__fish_complete_suffix .txt)' -d 'Save the edits too'
 complete -c sfbank -n '__sfbank_is tidy' -l merge -d 'Join equal samples and equal instruments too'
+complete -c sfbank -n '__sfbank_is check' -l strict -d 'End with status 7 if there is anything to list'
+complete -c sfbank -n '__sfbank_is copy' -l no-comments -d 'Write no comments into the script'
+complete -c sfbank -n '__sfbank_is diff' -l no-comments -d 'Write no comments into the script'
+complete -c sfbank -n '__sfbank_is keep' -l no-comments -d 'Write no comments into the script'
+complete -c sfbank -n '__sfbank_is merge' -l no-comments -d 'Write no comments into the script'
+complete -c sfbank -n '__sfbank_is script' -l no-comments -d 'Write no comments into the script'
+complete -c sfbank -n '__sfbank_is take' -l no-comments -d 'Write no comments into the script'
+complete -c sfbank -n '__sfbank_is tidy' -l no-comments -d 'Write no comments into the script'
 complete -c sfbank -n '__sfbank_is new' -l minor -x -d 'The minor version, 4 by default'
 complete -c sfbank -n '__sfbank_is script' -l no-points -d 'Leave the points of the samples out'
 complete -c sfbank -n '__sfbank_is show' -l zones -d 'Tell the zones of each preset and instrument too'

@@ -12,6 +12,9 @@ FIRST_LINE = re.compile(r"\A# sfbank new --minor (\d+)")
 USUAL_MINOR, HIGHEST_MINOR = 4, 65_535
 NAME, NUMBERS = r'("[^"]*"|x[0-9a-f]*)', r"(\d+) (\d+) (-?\d+)"
 KIND, LOOP = r"([a-z]+(?: \d+)?)", r"(noloop|loop (\d+) (\d+))"
+# A line of a canonical script and its comment: tokens with a blank between them, and then three blanks and `#`.
+TOKENS = r'(?:"[^"]*"|[^"# ][^ ]*)(?: (?:"[^"]*"|[^"# ][^ ]*))*'
+COMMENTED_LINE = re.compile(rf"({TOKENS})(?:   # [^ ].*)?")
 SAMPLE = re.compile(rf"add-sample (\d+) {NAME} {NUMBERS} {KIND} {LOOP} x([0-9a-f]*)".replace(" ", "[ \t]+"))
 
 
@@ -113,6 +116,12 @@ def without_points(text):
     """Returns bank.txt of the bank that a script makes."""
     first, rest = text.split("\n", 1)
     return f"{first} without points\n" + re.sub(r"^(add-sample .* x)[0-9a-f]*$", r"\1", rest, flags=re.M)
+
+
+def without_comments(text):
+    """Returns a canonical script without the comments at the ends of its lines; its first line is a comment."""
+    first, *lines = text.split("\n")
+    return "\n".join((first, *(line and COMMENTED_LINE.fullmatch(line)[1] for line in lines)))
 
 
 def minor_of(text):

@@ -20,7 +20,7 @@ my $text = <<'LINES';
 add-sample 0 "k" 44100 60 0 mono loop 0 2 x
 add-sample 1 "my s" 22050 62 -5 right 0 noloop x
 add-inst 0 "i" { 0 } { 1 g 43 0..59 }
-add-preset 0 "p" 0 0 0 0 0 { 0 }
+add-preset 0 "p" 0 0 0 0 0 { 0 }   # 0 "i"
 LINES
 # The WAVE files of lines 2 and 3.
 my %lines = ('folder/samples/0000 k.wav' => 2, 'folder/samples/0001 my s.wav' => 3);

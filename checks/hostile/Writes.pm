@@ -20,6 +20,8 @@ my @runs = (
     [['show', '--zones', '--uses', 'wide'], '-'],
     [['explain', '37'], '-'],
     [['map', 'tone', 'inst', '0', 'out'], 'out'],
+    [['map', 'tone', 'sample', '0', 'out'], 'out'],
+    [['page', 'tone', 'out'], 'out'],
     [['wave', 'tone', '0', 'out'], 'out'],
     [['import', 'saw', 'take', 'out', 'undo'], 'out', 'undo'],
 );

@@ -3,6 +3,7 @@ package Plans;
 use strict;
 use warnings;
 use Banks;
+use Comments;
 use Listed;
 use Runs;
 use Exporter 'import';
@@ -24,13 +25,22 @@ sub words_of {
     return [$command, chance(50) ? (@options, @files) : (@files, @options)];
 }
 
-# Writes the edits of a plan as `edits` by a dry run, which must save nothing. Returns what is wrong, or undef.
+# Writes the edits of a plan to a file by a dry run, which must save nothing. Returns what is wrong, or undef.
 sub wrong_of_dry_run {
-    my ($plan, @inputs) = @_;
+    my ($file, $plan, @inputs) = @_;
     write_bytes($_, "before\n") for qw(out undo);
-    my $run = run(words_of([@$plan, '--dry-run'], @inputs, 'out', 'undo'), 'edits');
+    my $run = run(words_of([@$plan, '--dry-run'], @inputs, 'out', 'undo'), $file);
     my $wrong = is_right($run, -s $inputs[0]) // ($run->{status} ? $run->{line} : undef);
     return $wrong // (join('', map { read_bytes($_) } qw(out undo)) eq "before\n" x 2 ? undef : 'a dry run saves a file');
+}
+
+# Writes the edits of a plan as `edits`, and with comments as `commented`. Returns what is wrong, or undef.
+sub wrong_of_edits {
+    my ($plan, @inputs) = @_;
+    my $wrong = wrong_of_dry_run('edits', [@$plan, '--no-comments'], @inputs);
+    $wrong //= wrong_of_dry_run('commented', $plan, @inputs);
+    $wrong //= done(run_command(['script', '--no-comments', '--no-points', $inputs[0], 'text'], 'text'));
+    return $wrong // wrong_of_comments(read_bytes('commented'), members_made(read_bytes('text')), read_bytes('edits'));
 }
 
 # Returns what is wrong with the run that replaces the bank itself and saves its script, or undef.
@@ -40,20 +50,22 @@ sub wrong_of_replacement {
     my $saving = [@$plan, '--script', 'over.edits'];
     my $wrong = done(run_making(words_of($saving, 'over', @others, 'over', 'over.undo'), 'over.undo', 'over.edits'));
     $wrong //= same('over', 'out') && same('over.undo', 'undo') ? undef : 'another bank, or another undo script, where OUT is IN';
-    return $wrong // (same('over.edits', 'edits') ? undef : 'saves another script than its dry run prints');
+    return $wrong // (same('over.edits', 'commented') ? undef : 'saves another script than its dry run prints');
 }
 
 # Returns what is wrong with a plan on a bank, which may have other inputs, or undef. It leaves `out`, `undo` and `edits`;
 # `canonical` is the canonical file of the bank.
 sub wrong_of_plan {
     my ($plan, $bank, @others) = @_;
-    my $wrong = wrong_of_dry_run($plan, $bank, @others);
+    my $wrong = wrong_of_edits($plan, $bank, @others);
     $wrong //= done(run_command(words_of($plan, $bank, @others, 'out', 'undo'), 'out', 'undo'));
     $wrong //= done(apply('out', 'undo', 'back', 'redo'));
     $wrong //= same('back', 'canonical') ? undef : 'is not undone';
     $wrong //= same('redo', 'edits') ? undef : 'has another script than its dry run';
-    $wrong //= done(apply($bank, 'edits', 'again', 'again.undo'));
-    $wrong //= same('again', 'out') && same('again.undo', 'undo') ? undef : 'its script does something else';
+    for my $script (qw(edits commented)) {
+        $wrong //= done(apply($bank, $script, 'again', 'again.undo'));
+        $wrong //= same('again', 'out') && same('again.undo', 'undo') ? undef : "$script does something else";
+    }
     return $wrong // wrong_of_replacement($plan, $bank, @others);
 }
 

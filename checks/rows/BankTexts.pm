@@ -3,6 +3,7 @@ package BankTexts;
 use strict;
 use warnings;
 use Banks;
+use Comments;
 use Rows;
 use Runs;
 use Scripts;
@@ -34,12 +35,16 @@ sub wrong_of_text {
     return $answer =~ /^(makes|writes) (.*)/ ? wrong_of_done($words, $1, $2) : "has the answer '$answer'";
 }
 
-# Returns what is wrong with the difference of a bank and the bank after a script, which must be the script; or undef.
+# Returns what is wrong with the difference of a bank and the bank after a script, which must be the script, and with its
+# comments; or undef.
 sub wrong_of_difference {
     my ($bank, $script) = @_;
     my $wrong = Rows::is_done(apply_text($bank, lines(unescaped($script)), 'other', 'undo'));
-    $wrong //= Rows::is_done(run_command(['diff', $bank, 'other', 'difference'], 'difference'));
-    return $wrong // (read_bytes('difference') eq lines(unescaped($script)) ? undef : 'another difference: ' . read_bytes('difference'));
+    $wrong //= Rows::is_done(run_command(['diff', '--no-comments', $bank, 'other', 'difference'], 'difference'));
+    $wrong //= read_bytes('difference') eq lines(unescaped($script)) ? undef : 'another difference: ' . read_bytes('difference');
+    $wrong //= Rows::is_done(run_command(['script', '--no-comments', $bank, 'first'], 'first'));
+    $wrong //= Rows::is_done(run_command(['diff', $bank, 'other', 'commented'], 'commented'));
+    return $wrong // wrong_of_comments(read_bytes('commented'), members_made(read_bytes('first')), lines(unescaped($script)));
 }
 
 sub try_bank_texts {

@@ -15,7 +15,10 @@ our @EXPORT = qw(try_differences);
 sub leads {
     my ($from, $to, $canonical, $goal) = @_;
     my $wrong = done(diff($from, $to, 'difference')) // done(apply($from, 'difference', 'out', 'undo'));
-    return $wrong // (same('out', $goal) ? undone($canonical) : 'the difference makes another bank: ' . one_line(read_bytes('difference')));
+    $wrong //= same('out', $goal) ? undef : 'the difference makes another bank: ' . one_line(read_bytes('difference'));
+    $wrong //= is_commented_diff($from, $to, 'difference');
+    $wrong //= done(apply($from, 'commented', 'out.again', 'undo.again'));
+    return $wrong // wrong_of_again() // undone($canonical);
 }
 
 # The same in both directions; `difference` has the first.
@@ -56,7 +59,8 @@ sub try_differences {
         my ($from, $edits, $expected) = @$_;
         report_case("diff $from, " . ($edits || 'nothing'), wrong_of_row($from, $edits, $expected));
     }
-    my $over = done(canon('wide', 'over')) // done(run_over('diff', '--force', 'tone', 'over', 'over')) // done(diff('tone', 'wide', 'difference'));
+    my $over = done(canon('wide', 'over')) // done(run_over('diff', '--force', '--no-comments', 'tone', 'over', 'over'));
+    $over //= done(diff('tone', 'wide', 'difference'));
     report_case('a difference over a bank', $over // (same('over', 'difference') ? undef : 'another text'));
 }
 

@@ -14,7 +14,9 @@ my @runs = (
     ['script', 'organ', 'out'],
     ['script', 'long', 'out'],
     ['script', '--no-points', 'wide', 'out'],
+    ['script', '--no-comments', 'wide', 'out'],
     ['diff', 'tone', 'wide', 'out'],
+    ['diff', '--no-comments', 'tone', 'wide', 'out'],
     ['diff', 'tone', 'long', 'out'],
     ['diff', 'renamed', 'tone', 'out'],
 );

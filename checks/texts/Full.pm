@@ -15,7 +15,8 @@ our @EXPORT = qw(try_full);
 # if a number is given; or undef.
 sub differs {
     my ($edit, $most) = @_;
-    my $wrong = done(apply_text('full', $edit, 'edited', 'undo')) // done(diff('full', 'edited', 'difference')) // done(apply('full', 'difference', 'out', 'undo'));
+    my $wrong = done(apply_text('full', $edit, 'edited', 'undo')) // done(diff('full', 'edited', 'difference'));
+    $wrong //= is_commented_diff('full', 'edited', 'difference') // done(apply('full', 'commented', 'out', 'undo'));
     $wrong //= same('out', 'edited') ? undef : 'the difference makes another bank';
     return $wrong if defined $wrong || !defined $most;
     my $lines = lines_of(read_bytes('difference'));

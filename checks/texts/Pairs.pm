@@ -77,7 +77,8 @@ sub wrong_of_pair {
     my ($kind, $from, $to, $canonical, $edits) = @_;
     $count{$kind}++;
     return wrong_of_versions($from, $to) if substr(read_bytes($from), 34, 2) ne substr read_bytes($canonical), 34, 2;
-    my $wrong = done(diff($from, $to, 'difference')) // done(apply($from, 'difference', 'out', 'undo'));
+    my $wrong = done(diff($from, $to, 'difference')) // is_commented_diff($from, $to, 'difference');
+    $wrong //= done(apply($from, 'commented', 'out', 'undo'));
     $wrong //= same('out', $canonical) ? done(apply('out', 'undo', 'back', 'again')) : 'the difference makes another bank';
     $count{short}++ if !defined $wrong && defined $edits && lines_of(read_bytes('difference')) <= $edits;
     return $wrong // (same('back', $from) ? undef : 'the difference is not undone');

@@ -1,5 +1,5 @@
-# Tests banks as scripts: `script` writes the files of `printed`, byte for byte, and `apply` of the script to the empty
-# bank of the same version makes the bank again.
+# Tests banks as scripts: `script` writes the files of `printed`, and those of `commented` with comments, byte for byte,
+# and `apply` of either to the empty bank of the same version makes the bank again.
 package Texts;
 use strict;
 use warnings;
@@ -8,7 +8,7 @@ use Rows;
 use Runs;
 use Cases;
 use Exporter 'import';
-our @EXPORT = qw(try_new make_banks try_texts try_streams try_faults remade run_over);
+our @EXPORT = qw(try_new make_banks try_texts try_streams try_faults remade run_over wrong_of_again);
 
 my $without = ' without points';
 
@@ -47,15 +47,22 @@ sub make_bank {
 }
 
 # Returns what is wrong with the bank made by its script from the bank that the first line names, or undef: the file
-# must be the canonical one, and its script the same.
+# must be the canonical one, and its script the same. Comments change nothing.
 sub remade {
     my ($bank, $canonical) = @_;
-    my $wrong = done(script($bank, 'text'));
+    my $wrong = done(script($bank, 'text')) // is_commented_script($bank, 'text');
     return $wrong if defined $wrong;
     my ($minor) = read_bytes('text') =~ /\A# sfbank new --minor (\d+)\n/ or return 'no first line';
     $wrong = done(new_bank('from', '--minor', $minor)) // done(apply('from', 'text', 'out', 'undo'));
     $wrong //= same('out', $canonical) ? undef : 'its text makes another bank';
-    return $wrong // done(script('out', 'text.again')) // (same('text', 'text.again') ? undef : 'the bank of its text has another text');
+    $wrong //= done(script('out', 'text.again'));
+    $wrong //= same('text', 'text.again') ? undef : 'the bank of its text has another text';
+    return $wrong // done(apply('from', 'commented', 'out.again', 'undo.again')) // wrong_of_again();
+}
+
+# Returns what is wrong with the bank of a text with comments, and with its undo script, or undef.
+sub wrong_of_again {
+    return same('out', 'out.again') && same('undo', 'undo.again') ? undef : 'with comments the text does something else';
 }
 
 # Returns a script without the points of samples.
@@ -65,10 +72,19 @@ sub without_points {
     return $text =~ s/^(add-sample .* x)[0-9a-f]*$/$1/mgr;
 }
 
+# Returns what is wrong with the script of a bank, which must be this text, and with its comments; or undef.
 sub is_printed {
     my ($bank, $text, @flags) = @_;
     my $wrong = done(script($bank, 'text', @flags));
-    return $wrong // (read_bytes('text') eq $text ? undef : 'prints ' . one_line(read_bytes('text')));
+    $wrong //= read_bytes('text') eq $text ? undef : 'prints ' . one_line(read_bytes('text'));
+    return $wrong // is_commented_script($bank, 'text', @flags);
+}
+
+# The same of a text with comments.
+sub is_commented {
+    my ($bank, $text) = @_;
+    my $wrong = done(run_command(['script', $bank, 'commented'], 'commented'));
+    return $wrong // (read_bytes('commented') eq $text ? undef : 'prints ' . one_line(read_bytes('commented')));
 }
 
 sub try_text {
@@ -78,10 +94,13 @@ sub try_text {
         report_case("script $bank", is_printed($bank, $text));
         report_case("script --no-points $bank", is_printed($bank, without_points($text), '--no-points'));
     }
+    my $commented = read_bytes("$here/commented/$bank.txt");
+    report_case("script $bank, with comments", is_commented($bank, $commented)) if defined $commented;
     report_case("canon $bank", done(canon($bank, 'canonical')));
     report_case("$bank is made of its text", remade($bank, 'canonical') // undone('from'));
-    my $over = done(canon($bank, 'over')) // done(run_over('script', '--force', 'over', 'over')) // done(script($bank, 'text'));
-    report_case("script of $bank over it", $over // (same('over', 'text') ? undef : 'another text'));
+    my $over = done(canon($bank, 'over')) // done(run_over('script', '--force', 'over', 'over'));
+    $over //= is_commented_script($bank, 'text');
+    report_case("script of $bank over it", $over // (same('over', 'commented') ? undef : 'another text'));
 }
 
 # Runs a command whose output replaces an input.
@@ -102,12 +121,14 @@ sub try_streams {
     }
 }
 
-# Tests the scripts of all banks, and that each file of `printed` is of a bank.
+# Tests the scripts of all banks, and that each file of `printed` and `commented` is of a bank.
 sub try_texts {
     my ($here, @banks) = @_;
     try_text($here, $_) for @banks;
     my %known = map { $_ => 1 } @banks;
-    for (glob "$here/printed/*") { report_case("$_ is a bank's", m{/(\w+)\.txt$} && $known{$1} ? undef : 'it is not'); }
+    for (glob "$here/printed/* $here/commented/*") {
+        report_case("$_ is a bank's", m{/(\w+)\.txt$} && $known{$1} ? undef : 'it is not');
+    }
 }
 
 # ---- faults
