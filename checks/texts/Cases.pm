@@ -36,11 +36,20 @@ sub is_commented_script {
     return $wrong // wrong_of_comments(read_bytes('commented'), members_made(''), read_bytes($text));
 }
 
-# The same of the difference of two banks.
+# Whether a script replaces a whole bank by another, whose own script without its first line it ends with.
+sub is_replacement {
+    my ($text, $to) = @_;
+    return 0 if done(script($to, 'second'));
+    my $rest = read_bytes('second') =~ s/\A.*\n//r;
+    return $rest ne '' && substr(read_bytes($text), -length $rest) eq $rest;
+}
+
+# The same of the difference of two banks. A replacement has no comments.
 sub is_commented_diff {
     my ($from, $to, $text) = @_;
     my $wrong = done(script($from, 'first', '--no-points'));
     $wrong //= done(run_command(['diff', $from, $to, 'commented'], 'commented'));
+    return if !defined $wrong && same('commented', $text) && is_replacement($text, $to);
     return $wrong // wrong_of_comments(read_bytes('commented'), members_made(read_bytes('first')), read_bytes($text));
 }
 

@@ -5,7 +5,7 @@ use bank_core::Sample;
 use sample_view::Points;
 
 /// How many points at each end of a loop show how far neighbouring points are apart.
-const LOOP_ENDS: usize = 64;
+const LOOP_ENDS: usize = 1024;
 
 /// The highest jump that is no click.
 const QUIET_JUMP: u32 = 1000;

@@ -58,7 +58,7 @@ pub enum Finding {
         points: u32,
     },
     /// The jump from the last point of the loop to its first is above 1,000, and more than twice the largest step
-    /// between neighbouring points among the first 64 and among the last 64 points of the loop.
+    /// between neighbouring points among the first 1,024 and among the last 1,024 points of the loop.
     ClickingLoop {
         sample: u32,
         jump: u32,

@@ -6,6 +6,10 @@ use crate::overridden::entries_of;
 use bank_core::{Bank, Owner, Place};
 use generator_rows::{DefaultAmount, GeneratorRow, row_of};
 use generators::is_range_operator;
+use generators::operators::{
+    ATTACK_MOD_ENV, ATTACK_VOL_ENV, DELAY_MOD_ENV, DELAY_MOD_LFO, DELAY_VIB_LFO, DELAY_VOL_ENV,
+    HOLD_MOD_ENV, HOLD_VOL_ENV,
+};
 use sf_base::OutOfMemory;
 use std::alloc::Global;
 use zone_select::zones_in;
@@ -51,7 +55,10 @@ fn push_outside_at(
 fn outside_range(owner: Owner, place: Place, operator: u16, amount: u16) -> Option<Finding> {
     let (low, high) = amount_range(owner, operator)?;
     let signed = i32::from(amount.cast_signed());
-    if low <= signed && signed <= high || is_default(operator, amount) {
+    if low <= signed && signed <= high
+        || is_default(operator, amount)
+        || is_instant(operator, amount)
+    {
         return None;
     }
     Some(Finding::OutsideRange {
@@ -78,6 +85,22 @@ fn ends_in(owner: Owner, row: GeneratorRow) -> (i32, i32) {
         Owner::Preset(_) => (low - high, high - low),
         Owner::Inst(_) => (low, high),
     }
+}
+
+// Whether the amount leaves out a delay, an attack or a hold, as -32,768 does by convention.
+fn is_instant(operator: u16, amount: u16) -> bool {
+    amount.cast_signed() == i16::MIN
+        && matches!(
+            operator,
+            DELAY_MOD_LFO
+                | DELAY_VIB_LFO
+                | DELAY_MOD_ENV
+                | ATTACK_MOD_ENV
+                | HOLD_MOD_ENV
+                | DELAY_VOL_ENV
+                | ATTACK_VOL_ENV
+                | HOLD_VOL_ENV
+        )
 }
 
 // Whether the amount is the default of the operator.
