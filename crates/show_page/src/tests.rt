@@ -53,9 +53,14 @@ fn shows(alloc: Global, parts: Parts<'_>, findings: &[Finding], data: &[u8]) -> 
     Ok(page.starts_with(start) && page.ends_with(end) && has(page, data))
 }
 
-// Whether these bytes are between two lines of the page.
+// Whether the page has these bytes.
 fn has(page: &[u8], data: &[u8]) -> bool {
-    page.windows(data.len()).any(|bytes| bytes == data)
+    for start in 0..page.len() {
+        if page[start..].starts_with(data) {
+            return true;
+        }
+    }
+    false
 }
 
 fn texts(name: &'static [u8], comment: &'static [u8]) -> Texts<'static> {
