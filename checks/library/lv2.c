@@ -1,8 +1,10 @@
-/* A host of the LV2 plugin, with and without a worker: lv2 PLUGIN BANK. Sets the bank by its property, presses and
- * releases a key, and compares the frames with those of the library; saves the state and restores it. */
+/* A host of the LV2 plugin, with and without a worker: lv2 PLUGIN BANK. Sets the bank by its property, asks for it,
+ * presses and releases a key, and compares the frames with those of the library; saves the state and restores it;
+ * activates it again. */
 #include "files.h"
 #include <dlfcn.h>
 #include <lv2/atom/forge.h>
+#include <lv2/atom/util.h>
 #include <lv2/core/lv2.h>
 #include <lv2/midi/midi.h>
 #include <lv2/patch/patch.h>
@@ -10,7 +12,7 @@
 #include <lv2/urid/urid.h>
 #include <lv2/worker/worker.h>
 
-enum { FRAMES = 256, BLOCKS = 40, PRESS_AT = 100, RELEASE_IN = 20 };
+enum { FRAMES = 256, BLOCKS = 40, PRESS_AT = 100, RELEASE_IN = 20, SELECT_IN = 25, ASK_IN = 30 };
 
 static const LV2_Worker_Interface *worker;
 static const LV2_State_Interface *saved_state;
@@ -50,6 +52,26 @@ static const void *retrieve(LV2_State_Handle handle, uint32_t key, size_t *size,
     return stored;
 }
 
+/* Paths that the plugin maps are absolute here. It frees them by the host's call. */
+static int mapped;
+
+static char *map_path(LV2_State_Map_Path_Handle handle, const char *path) {
+    (void)handle;
+    mapped++;
+    return strdup(path);
+}
+
+static void free_path(LV2_State_Free_Path_Handle handle, char *path) {
+    (void)handle;
+    mapped--;
+    free(path);
+}
+
+static LV2_State_Map_Path mapping_paths = {NULL, map_path, map_path};
+static LV2_State_Free_Path freeing_paths = {NULL, free_path};
+static const LV2_Feature with_paths = {LV2_STATE__mapPath, &mapping_paths};
+static const LV2_Feature with_free = {LV2_STATE__freePath, &freeing_paths};
+static const LV2_Feature *const path_features[] = {&with_paths, &with_free, NULL};
 static LV2_URID_Map map = {NULL, map_uri};
 static LV2_Worker_Schedule scheduler = {NULL, schedule};
 
@@ -70,11 +92,63 @@ static void put_bank(LV2_Atom_Forge *forge, const char *path) {
     lv2_atom_forge_pop(forge, &object);
 }
 
-static void put_midi(LV2_Atom_Forge *forge, int64_t frame, uint8_t status) {
-    const uint8_t message[3] = {status, 60, 100};
+static void put_question(LV2_Atom_Forge *forge) {
+    LV2_Atom_Forge_Frame object;
+    lv2_atom_forge_frame_time(forge, 0);
+    lv2_atom_forge_object(forge, &object, 0, map_uri(NULL, LV2_PATCH__Get));
+    lv2_atom_forge_pop(forge, &object);
+}
+
+/* Returns the path of the bank that the plugin sent in a block, or an empty one if it sent none. */
+static const char *sent(const LV2_Atom_Sequence *messages) {
+    const char *path = "";
+    CHECK(messages->atom.type == map_uri(NULL, LV2_ATOM__Sequence));
+    LV2_ATOM_SEQUENCE_FOREACH(messages, event) {
+        const LV2_Atom_Object *object = (const LV2_Atom_Object *)&event->body;
+        const LV2_Atom *property = NULL, *value = NULL;
+        CHECK(object->body.otype == map_uri(NULL, LV2_PATCH__Set) && !*path);
+        lv2_atom_object_get(object, map_uri(NULL, LV2_PATCH__property), &property, map_uri(NULL, LV2_PATCH__value),
+                            &value, 0);
+        CHECK(property && ((const LV2_Atom_URID *)property)->body == map_uri(NULL, "urn:sfbank:bank"));
+        CHECK(value && value->type == map_uri(NULL, LV2_ATOM__Path));
+        path = (const char *)(value + 1);
+    }
+    return path;
+}
+
+static void put_midi(LV2_Atom_Forge *forge, int64_t frame, uint8_t status, uint8_t first, uint8_t second) {
+    const uint8_t message[3] = {status, first, second};
+    const uint32_t size = status == LV2_MIDI_MSG_PGM_CHANGE ? 2 : 3;
     lv2_atom_forge_frame_time(forge, frame);
-    lv2_atom_forge_atom(forge, sizeof message, map_uri(NULL, LV2_MIDI__MidiEvent));
-    lv2_atom_forge_write(forge, message, sizeof message);
+    lv2_atom_forge_atom(forge, size, map_uri(NULL, LV2_MIDI__MidiEvent));
+    lv2_atom_forge_write(forge, message, size);
+}
+
+/* Selects a preset of a bank that doesn't have it, and presses a key of it: nothing is played. */
+static void put_silent_note(LV2_Atom_Forge *forge) {
+    put_midi(forge, 0, LV2_MIDI_MSG_CONTROLLER, LV2_MIDI_CTL_MSB_BANK, 1);
+    put_midi(forge, 0, LV2_MIDI_MSG_PGM_CHANGE, 0, 0);
+    put_midi(forge, 0, LV2_MIDI_MSG_NOTE_ON, 62, 100);
+}
+
+/* Plays a block with a key of channel 2, and another after the plugin is activated again, which is silent. */
+static void try_activate(const LV2_Descriptor *lv2, uint64_t *buffer, size_t size) {
+    const float silence[FRAMES] = {0};
+    float left[FRAMES], right[FRAMES];
+    lv2->connect_port(plugin, 1, left);
+    lv2->connect_port(plugin, 2, right);
+    lv2->connect_port(plugin, 3, NULL);
+    for (int block = 0; block < 2; block++) {
+        LV2_Atom_Forge forge;
+        LV2_Atom_Forge_Frame frame;
+        begin(&forge, &frame, (uint8_t *)buffer, size);
+        if (block == 0) put_midi(&forge, 0, LV2_MIDI_MSG_NOTE_ON | 1, 60, 100);
+        lv2_atom_forge_pop(&forge, &frame);
+        lv2->activate(plugin);
+        lv2->run(plugin, FRAMES);
+        CHECK((memcmp(left, silence, sizeof silence) != 0) == (block == 0));
+        CHECK((memcmp(right, silence, sizeof silence) != 0) == (block == 0));
+    }
 }
 
 /* Plays the same by the library. */
@@ -95,6 +169,10 @@ static void try_plugin(const LV2_Descriptor *lv2, const char *path, double rate,
     const LV2_Feature mapping = {LV2_URID__map, &map}, working = {LV2_WORKER__schedule, &scheduler};
     const LV2_Feature *const features[] = {&mapping, has_worker ? &working : NULL, NULL};
     static uint64_t buffer[1024];
+    static union {
+        LV2_Atom_Sequence sequence;
+        uint64_t room[1024];
+    } sending;
     plugin = lv2->instantiate(lv2, rate, "", features);
     CHECK(plugin);
     lv2->connect_port(plugin, 0, buffer);
@@ -102,16 +180,24 @@ static void try_plugin(const LV2_Descriptor *lv2, const char *path, double rate,
         LV2_Atom_Forge forge;
         LV2_Atom_Forge_Frame frame;
         begin(&forge, &frame, (uint8_t *)buffer, sizeof buffer);
-        if (block == 0 && !stored[0]) put_bank(&forge, "/no/such/file"), put_bank(&forge, path);
-        if (block == 0 && stored[0]) CHECK(saved_state->restore(plugin, retrieve, NULL, 0, NULL) == LV2_STATE_SUCCESS);
-        if (block == 0) put_midi(&forge, PRESS_AT, 0x90);
-        if (block == RELEASE_IN) put_midi(&forge, 0, 0x80);
+        if (block == 0 && !stored[0]) put_bank(&forge, path), put_bank(&forge, "/no/such/file");
+        if (block == 0 && stored[0]) CHECK(!saved_state->restore(plugin, retrieve, NULL, 0, path_features));
+        if (block == 0) put_midi(&forge, PRESS_AT, LV2_MIDI_MSG_NOTE_ON, 60, 100);
+        if (block == RELEASE_IN) put_midi(&forge, 0, LV2_MIDI_MSG_NOTE_OFF, 60, 100);
+        if (block == SELECT_IN) put_silent_note(&forge);
+        if (block == ASK_IN) put_question(&forge);
         lv2_atom_forge_pop(&forge, &frame);
         lv2->connect_port(plugin, 1, left + block * FRAMES);
         lv2->connect_port(plugin, 2, right + block * FRAMES);
+        sending.sequence.atom.size = sizeof sending - sizeof(LV2_Atom);
+        lv2->connect_port(plugin, 3, has_worker ? &sending : NULL);
         lv2->run(plugin, FRAMES);
+        const char *wanted_path = block == 0 || block == ASK_IN ? path : "";
+        CHECK(!has_worker || !strcmp(sent(&sending.sequence), wanted_path));
     }
-    CHECK(saved_state->save(plugin, store, NULL, 0, NULL) == LV2_STATE_SUCCESS && !strcmp(stored, path));
+    CHECK(!saved_state->save(plugin, store, NULL, 0, has_worker ? path_features : NULL) && !strcmp(stored, path));
+    CHECK(mapped == 0);
+    try_activate(lv2, buffer, sizeof buffer);
     lv2->cleanup(plugin);
 }
 
