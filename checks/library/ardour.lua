@@ -1,7 +1,7 @@
 -- A session of Ardour, in JACK, in which the plugin is the instrument of a MIDI track that monitors its input:
 --   ardour7-lua ardour.lua SESSION PRESET
--- makes it with a preset of the plugin, and without PRESET loads it again. The session is saved when SESSION.end is
--- there.
+-- makes it with a preset of the plugin, and without PRESET loads it again. It makes the file SESSION.ready, and when
+-- that is removed it saves the session and ends.
 local folder, preset = arg[1], arg[2]
 local PLUGIN, RATE, INPUT = "urn:sfbank:player", 44100, 1
 
@@ -27,8 +27,11 @@ end
 
 AudioEngine:set_backend("JACK", "ardour", "")
 local session = preset and make() or load_session(folder, "session")
+local ready = folder .. ".ready"
+io.open(ready, "w"):close()
 repeat
   sleep(1)
-  local file = io.open(folder .. ".end")
-until file
+  local file = io.open(ready)
+  if file then file:close() end
+until not file
 session:save_state("")
