@@ -1,6 +1,6 @@
-/* A host of the LV2 plugin, with and without a worker: lv2 PLUGIN BANK. Sets the bank by its property, asks for it,
- * presses and releases a key, and compares the frames with those of the library; saves the state and restores it;
- * activates it again. */
+/* A host of the LV2 plugin, with and without a worker, with the shim in place of the allocator: lv2 PLUGIN BANK. Sets
+ * the bank by its property, asks for it, presses and releases a key, and compares the frames with those of the library;
+ * saves the state and restores it; activates it again. With a worker only keys allocate in run(). */
 #include "files.h"
 #include <dlfcn.h>
 #include <lv2/atom/forge.h>
@@ -13,6 +13,8 @@
 #include <lv2/worker/worker.h>
 
 enum { FRAMES = 256, BLOCKS = 40, PRESS_AT = 100, RELEASE_IN = 20, SELECT_IN = 25, ASK_IN = 30 };
+
+unsigned long shim_calls(void);
 
 static const LV2_Worker_Interface *worker;
 static const LV2_State_Interface *saved_state;
@@ -29,19 +31,45 @@ static LV2_URID map_uri(LV2_URID_Map_Handle handle, const char *uri) {
     return 0;
 }
 
+/* What the audio thread does, which neither allocates nor frees. */
+#define AUDIO(call) do { \
+    unsigned long seen_calls = shim_calls(); \
+    call; \
+    CHECK(shim_calls() == seen_calls); \
+} while (0)
+
 static LV2_Worker_Status respond(LV2_Worker_Respond_Handle handle, uint32_t size, const void *data) {
     (void)handle;
-    return worker->work_response(plugin, size, data);
+    AUDIO(worker->work_response(plugin, size, data));
+    return LV2_WORKER_SUCCESS;
 }
 
+/* Work that waits for the worker. */
+static struct {
+    uint32_t size;
+    uint64_t bytes[512];
+} waiting[8];
+static size_t begun, scheduled;
+
 static LV2_Worker_Status schedule(LV2_Worker_Schedule_Handle handle, uint32_t size, const void *data) {
-    return worker->work(plugin, respond, handle, size, data);
+    (void)handle;
+    CHECK(scheduled < 8 && size <= sizeof waiting->bytes);
+    waiting[scheduled].size = size;
+    memcpy(waiting[scheduled++].bytes, data, size);
+    return LV2_WORKER_SUCCESS;
+}
+
+static void work(void) {
+    for (; begun < scheduled; begun++)
+        CHECK(!worker->work(plugin, respond, NULL, waiting[begun].size, waiting[begun].bytes));
+    begun = scheduled = 0;
 }
 
 static LV2_State_Status store(LV2_State_Handle handle, uint32_t key, const void *value, size_t size, uint32_t type,
                               uint32_t flags) {
     (void)handle, (void)flags;
     CHECK(key == map_uri(NULL, "urn:sfbank:bank") && type == map_uri(NULL, LV2_ATOM__Path) && size < sizeof stored);
+    CHECK(((const char *)value)[size - 1] == 0);
     memcpy(stored, value, size);
     return LV2_STATE_SUCCESS;
 }
@@ -164,6 +192,18 @@ static void wanted(float *left, float *right, const uint8_t *file, size_t length
     CHECK(!sfbank_player_close(&player) && !sfbank_close(&bank));
 }
 
+/* Sets the bank, twice, and another that can't be opened, before the first frame. */
+static void set_bank(const LV2_Descriptor *lv2, uint64_t *buffer, size_t size, const char *path, int has_worker) {
+    LV2_Atom_Forge forge;
+    LV2_Atom_Forge_Frame frame;
+    begin(&forge, &frame, (uint8_t *)buffer, size);
+    put_bank(&forge, path), put_bank(&forge, path), put_bank(&forge, "/no/such/file");
+    lv2_atom_forge_pop(&forge, &frame);
+    if (!has_worker) lv2->run(plugin, 0);
+    else AUDIO(lv2->run(plugin, 0));
+    work();
+}
+
 static void try_plugin(const LV2_Descriptor *lv2, const char *path, double rate, int has_worker, float *left,
                        float *right) {
     const LV2_Feature mapping = {LV2_URID__map, &map}, working = {LV2_WORKER__schedule, &scheduler};
@@ -176,12 +216,12 @@ static void try_plugin(const LV2_Descriptor *lv2, const char *path, double rate,
     plugin = lv2->instantiate(lv2, rate, "", features);
     CHECK(plugin);
     lv2->connect_port(plugin, 0, buffer);
+    if (stored[0]) CHECK(!saved_state->restore(plugin, retrieve, NULL, 0, path_features));
+    else set_bank(lv2, buffer, sizeof buffer, path, has_worker);
     for (int block = 0; block < BLOCKS; block++) {
         LV2_Atom_Forge forge;
         LV2_Atom_Forge_Frame frame;
         begin(&forge, &frame, (uint8_t *)buffer, sizeof buffer);
-        if (block == 0 && !stored[0]) put_bank(&forge, path), put_bank(&forge, "/no/such/file");
-        if (block == 0 && stored[0]) CHECK(!saved_state->restore(plugin, retrieve, NULL, 0, path_features));
         if (block == 0) put_midi(&forge, PRESS_AT, LV2_MIDI_MSG_NOTE_ON, 60, 100);
         if (block == RELEASE_IN) put_midi(&forge, 0, LV2_MIDI_MSG_NOTE_OFF, 60, 100);
         if (block == SELECT_IN) put_silent_note(&forge);
@@ -191,7 +231,8 @@ static void try_plugin(const LV2_Descriptor *lv2, const char *path, double rate,
         lv2->connect_port(plugin, 2, right + block * FRAMES);
         sending.sequence.atom.size = sizeof sending - sizeof(LV2_Atom);
         lv2->connect_port(plugin, 3, has_worker ? &sending : NULL);
-        lv2->run(plugin, FRAMES);
+        if (block == 0 || block == SELECT_IN) lv2->run(plugin, FRAMES);
+        else AUDIO(lv2->run(plugin, FRAMES));
         const char *wanted_path = block == 0 || block == ASK_IN ? path : "";
         CHECK(!has_worker || !strcmp(sent(&sending.sequence), wanted_path));
     }
@@ -215,6 +256,7 @@ int main(int words, char **word) {
     saved_state = of(0)->extension_data(LV2_STATE__interface);
     wanted(left, right, file, length);
     for (int turn = 0; turn < 3; turn++) {
+        if (turn < 2) stored[0] = 0; /* so that the bank is set, not restored */
         try_plugin(of(0), word[2], 44100, turn != 1, seen, other);
         CHECK(!memcmp(left, seen, sizeof left) && !memcmp(right, other, sizeof right));
     }
