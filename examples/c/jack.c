@@ -29,8 +29,8 @@ static void open_bank(const char *path) {
     fclose(in);
 }
 
-/* Channel 10 has the drums, which are bank 128; on others controller 0 selects the bank of the next program. The id of a
- * note is its channel and key. */
+/* Channel 10 has the drums, which are bank 128; on others controller 0 selects the bank of the next program. The id of
+ * a note is its channel and key. */
 static void handle(const jack_midi_event_t *event) {
     if (event->size < 2 || event->buffer[0] < 128) return;
     unsigned kind = event->buffer[0] >> 4, channel = event->buffer[0] & 15, key = event->buffer[1] & 127;

@@ -45,8 +45,8 @@ static snd_seq_t *open_input(const char *port) {
     return input;
 }
 
-/* Channel 10 has the drums, which are bank 128; on others controller 0 selects the bank of the next program. The id of a
- * note is its channel and key. */
+/* Channel 10 has the drums, which are bank 128; on others controller 0 selects the bank of the next program. The id of
+ * a note is its channel and key. */
 static void handle(const snd_seq_event_t *event) {
     unsigned channel = event->data.note.channel & 15, key = event->data.note.note & 127;
     uint64_t id = 128 * channel + key;

@@ -25,9 +25,10 @@
 #include <stdlib.h>
 #include <string.h>
 
-/* An open bank, its file and the path of that. */
+/* An open bank with a player for it, its file and the path of that. */
 typedef struct {
     sfbank_bank bank;
+    sfbank_player player;
     uint8_t *file;
     char path[];
 } loaded;
@@ -40,7 +41,6 @@ typedef struct {
     LV2_Atom_Forge forge;
     LV2_URID midi, get, set, property, value, bank_key;
     bool is_asked;
-    sfbank_player player;
     loaded *now;
     uint16_t selected[16], banks[16], presets[16];
     double step, phase;
@@ -57,6 +57,7 @@ static void *feature(const LV2_Feature *const *features, const char *uri) {
 
 static void drop(loaded *old) {
     if (!old) return;
+    sfbank_player_close(&old->player);
     sfbank_close(&old->bank);
     free(old->file);
     free(old);
@@ -71,7 +72,7 @@ static loaded *load(const char *path) {
         rewind(in);
         new->file = malloc((size_t)length + 1);
         size_t got = new->file ? fread(new->file, 1, (size_t)length, in) : 0;
-        if (!new->file || sfbank_open(new->file, got, &new->bank)) length = -1;
+        if (!new->file || sfbank_open(new->file, got, &new->bank) || sfbank_player_open(&new->player)) length = -1;
     }
     if (in) fclose(in);
     if (length >= 0) return new;
@@ -79,13 +80,11 @@ static loaded *load(const char *path) {
     return NULL;
 }
 
-/* Replaces the bank, if there is a new one, and returns the bank to drop. The player stops before, so that no voice
- * borrows from that. The host is sent the bank that plays now. */
+/* Replaces the bank, if there is a new one, and returns the bank to drop. The host is sent the bank that plays now. */
 static loaded *exchange(plugin *self, loaded *new) {
     loaded *old = self->now;
     self->is_asked = true;
     if (!new) return NULL;
-    sfbank_stop(&self->player);
     self->now = new;
     return old;
 }
@@ -119,28 +118,30 @@ static LV2_Worker_Status work_response(LV2_Handle handle, uint32_t size, const v
 
 /* ---- notes and frames */
 
-/* Channel 10 has the drums, which are bank 128; on others controller 0 selects the bank of the next program. The id of a
- * note is its channel and key. */
+/* Channel 10 has the drums, which are bank 128; on others controller 0 selects the bank of the next program. The id of
+ * a note is its channel and key. */
 static void play(plugin *self, const uint8_t *message, uint32_t size) {
+    sfbank_bank *bank = self->now ? &self->now->bank : NULL;
+    sfbank_player *player = self->now ? &self->now->player : NULL;
     unsigned channel = message[0] & 15;
     if (size < 2) return;
     uint64_t id = 128 * channel + message[1];
     switch (lv2_midi_message_type(message)) {
     case LV2_MIDI_MSG_NOTE_ON:
-        sfbank_release(&self->player, id);
-        if (size > 2 && message[2] && self->now)
-            sfbank_press(&self->player, &self->now->bank, channel == 9 ? 128 : self->banks[channel],
-                         self->presets[channel], message[1], message[2], id);
+        sfbank_release(player, id);
+        if (size > 2 && message[2])
+            sfbank_press(player, bank, channel == 9 ? 128 : self->banks[channel], self->presets[channel], message[1],
+                         message[2], id);
         break;
-    case LV2_MIDI_MSG_NOTE_OFF: sfbank_release(&self->player, id); break;
+    case LV2_MIDI_MSG_NOTE_OFF: sfbank_release(player, id); break;
     case LV2_MIDI_MSG_PGM_CHANGE:
         self->banks[channel] = self->selected[channel];
         self->presets[channel] = message[1];
         break;
     case LV2_MIDI_MSG_CONTROLLER:
         if (message[1] == LV2_MIDI_CTL_MSB_BANK && size > 2) self->selected[channel] = message[2];
-        if (message[1] == LV2_MIDI_CTL_ALL_SOUNDS_OFF) sfbank_stop(&self->player);
-        if (message[1] == LV2_MIDI_CTL_ALL_NOTES_OFF) sfbank_release_all(&self->player);
+        if (message[1] == LV2_MIDI_CTL_ALL_SOUNDS_OFF) sfbank_stop(player);
+        if (message[1] == LV2_MIDI_CTL_ALL_NOTES_OFF) sfbank_release_all(player);
         break;
     default: break;
     }
@@ -176,15 +177,22 @@ static void put_property(plugin *self) {
     self->is_asked = false;
 }
 
+/* Plays the next frames, or silence without a bank. */
+static void play_frames(plugin *self, float *left, float *right, uint32_t frames) {
+    if (self->now && !sfbank_block_float(&self->now->player, left, right, frames)) return;
+    memset(left, 0, frames * sizeof *left);
+    memset(right, 0, frames * sizeof *right);
+}
+
 static void render(plugin *self, uint32_t from, uint32_t to) {
     if (self->step == 1) {
-        sfbank_block_float(&self->player, self->sides[0] + from, self->sides[1] + from, to - from);
+        play_frames(self, self->sides[0] + from, self->sides[1] + from, to - from);
         return;
     }
     for (; from < to; from++, self->phase += self->step) {
         for (; self->phase >= 1; self->phase--) {
             memcpy(self->last, self->next, sizeof self->last);
-            sfbank_block_float(&self->player, &self->next[0], &self->next[1], 1);
+            play_frames(self, &self->next[0], &self->next[1], 1);
         }
         for (int side = 0; side < 2; side++)
             self->sides[side][from] = self->last[side] + (float)self->phase * (self->next[side] - self->last[side]);
@@ -253,7 +261,7 @@ static LV2_Handle instantiate(const LV2_Descriptor *descriptor, double rate, con
     plugin *self = calloc(1, sizeof *self);
     LV2_URID_Map *map = feature(features, LV2_URID__map);
     (void)descriptor, (void)folder;
-    if (!self || !map || sfbank_abi_version() != SFBANK_ABI || sfbank_player_open(&self->player)) {
+    if (!self || !map || sfbank_abi_version() != SFBANK_ABI) {
         free(self);
         return NULL;
     }
@@ -278,13 +286,12 @@ static void connect_port(LV2_Handle handle, uint32_t port, void *data) {
 
 static void activate(LV2_Handle handle) {
     plugin *self = handle;
-    sfbank_stop(&self->player);
+    if (self->now) sfbank_stop(&self->now->player);
     self->phase = self->last[0] = self->last[1] = self->next[0] = self->next[1] = 0;
 }
 
 static void cleanup(LV2_Handle handle) {
     plugin *self = handle;
-    sfbank_player_close(&self->player);
     drop(self->now);
     free(self);
 }
