@@ -1,5 +1,5 @@
 use Rattle.sample_view.proofs.CopyLaws.{copied_next}
-use Rattle.sample_view.proofs.points.copy_range.Goals as goal
+use Rattle.sample_view.proofs.cuts.copy_range.Goals as goal
 
 pub loop-piece-preserved : goal.loop-piece-preserved
 loop-piece-preserved c = record {

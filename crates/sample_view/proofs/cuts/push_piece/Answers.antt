@@ -1,7 +1,7 @@
 use Rattle.std.proofs.Common.{◌≡◌, length, rules, sym, append-nil}
 use Rattle.sample_view.proofs.WordLaws.{words-empty}
 use Rattle.sample_view.specs.Pieces.{joined}
-use Rattle.sample_view.proofs.points.push_piece.Goals as goal
+use Rattle.sample_view.proofs.cuts.push_piece.Goals as goal
 
 pub returns-then-is_empty-clause-points : goal.returns-then-is_empty-clause-points
 returns-then-is_empty-clause-points c =

@@ -2,7 +2,7 @@ use Rattle.std.proofs.Common.{◌-◌, take}
 use Rattle.std.specs.Prelude.{All}
 use Rattle.sample_view.specs.Pieces.{joined, IsPiece}
 use Rattle.sample_view.proofs.CopyLaws.{CopiedSoFar}
-use Rattle.sample_view.proofs.points.copy_range.Given as goal
+use Rattle.sample_view.proofs.cuts.copy_range.Given as goal
 
 -- The points kept of the earlier slices, how many are still to skip, and how many to keep.
 abbrev pub invariant-loop-piece : goal.invariant-loop-piece
