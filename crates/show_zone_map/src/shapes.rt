@@ -32,7 +32,7 @@ const NUMBER_LENGTH: u32 = 20;
 /// The height of four lines of names.
 const NAME_HEIGHT: u32 = 24;
 
-/// The height from which the numbers of samples have space on four lines, also vertically.
+/// The height from which numbers of three digits, also vertical ones, have space on four lines.
 const FOUR_LINES: u32 = 80;
 
 /// The height from which a rectangle has a vertical name.
