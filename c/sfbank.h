@@ -3,7 +3,8 @@
  * The library is proved to do what its contracts state, provided that the caller keeps these rules:
  *  - A handle begins as SFBANK_CLOSED, or all zero bytes. Only these calls write it, and an open one is never copied.
  *  - A handle is in one call at a time, on any thread.
- *  - A buffer has the stated length, and nothing else reads or writes it during the call.
+ *  - A buffer has the stated length, and nothing else reads or writes it during the call. Buffers, handles and the
+ *    other results of one call don't overlap: left and right are two buffers.
  *  - The bytes of a file and of a pool stay where they are, unchanged, until each bank that borrows from them is
  *    closed, and each player on which a note of such a bank was started. (The contracts state it for all time. After
  *    these calls no handle points to the bytes, so they may be freed.)
@@ -197,8 +198,8 @@ static inline int32_t sfbank_player_open(sfbank_player *player) {
 }
 
 /* Starts a note at the next frame, which lasts until the release of its id, but at most 100,000,000 frames. A bank
- * without the preset, or a preset without the key, starts no voice. Errors: SFBANK_BAD_NOTE, SFBANK_OUT_OF_MEMORY,
- * SFBANK_NOT_OPEN, SFBANK_NULL. */
+ * without the preset, or a preset without the key, starts no voice. Velocity 0 is the softest, not a release as in MIDI.
+ * Errors: SFBANK_BAD_NOTE, SFBANK_OUT_OF_MEMORY, SFBANK_NOT_OPEN, SFBANK_NULL. */
 static inline int32_t sfbank_press(sfbank_player *player, sfbank_bank *bank, uint16_t preset_bank, uint16_t preset,
                                    uint8_t key, uint8_t velocity, uint64_t id) {
     return sfbank_abi_press(player, player != NULL, bank, bank != NULL, preset_bank, preset, key, velocity, id);

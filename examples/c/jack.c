@@ -11,24 +11,26 @@
 
 static sfbank_bank bank = SFBANK_CLOSED;
 static sfbank_player player = SFBANK_CLOSED;
-static uint16_t presets[16];
+static uint16_t selected[16], banks[16], presets[16];
 static jack_port_t *keys, *left, *right;
 
 static void stop(const char *what, int error) {
-    fprintf(stderr, "jack: %s: error %d\n", what, error);
+    if (error) fprintf(stderr, "jack: %s: error %d\n", what, error);
+    else fprintf(stderr, "jack: %s\n", what);
     exit(1);
 }
 
 static void open_bank(const char *path) {
     static uint8_t file[1 << 28];
     FILE *in = fopen(path, "rb");
-    if (!in) stop(path, 0);
+    if (!in) stop("the bank can't be read", 0);
     int32_t error = sfbank_open(file, fread(file, 1, sizeof file, in), &bank);
     if (error || (error = sfbank_player_open(&player))) stop(path, error);
     fclose(in);
 }
 
-/* Channel 10 has the drums, which are bank 128. The id of a note is its channel and key. */
+/* Channel 10 has the drums, which are bank 128; on others controller 0 selects the bank of the next program. The id of a
+ * note is its channel and key. */
 static void handle(const jack_midi_event_t *event) {
     if (event->size < 2 || event->buffer[0] < 128) return;
     unsigned kind = event->buffer[0] >> 4, channel = event->buffer[0] & 15, key = event->buffer[1] & 127;
@@ -36,8 +38,10 @@ static void handle(const jack_midi_event_t *event) {
     uint64_t id = 128 * channel + key;
     if (kind == 8 || kind == 9) sfbank_release(&player, id);
     if (kind == 9 && value)
-        sfbank_press(&player, &bank, channel == 9 ? 128 : 0, presets[channel], (uint8_t)key, (uint8_t)value, id);
-    if (kind == 12) presets[channel] = (uint16_t)key;
+        sfbank_press(&player, &bank, channel == 9 ? 128 : banks[channel], presets[channel], (uint8_t)key,
+                     (uint8_t)value, id);
+    if (kind == 12) banks[channel] = selected[channel], presets[channel] = (uint16_t)key;
+    if (kind == 11 && key == 0) selected[channel] = (uint16_t)value;
     if (kind == 11 && key == 120) sfbank_stop(&player);
     if (kind == 11 && key == 123) sfbank_release_all(&player);
 }
@@ -62,7 +66,7 @@ int main(int words, char **word) {
     open_bank(word[1]);
     jack_client_t *client = jack_client_open("sfbank", JackNoStartServer, NULL);
     if (!client) stop("no JACK server", 0);
-    if (jack_get_sample_rate(client) != 44100) stop("the rate is not 44100", (int)jack_get_sample_rate(client));
+    if (jack_get_sample_rate(client) != 44100) stop("the rate is not 44100", 0);
     keys = jack_port_register(client, "keys", JACK_DEFAULT_MIDI_TYPE, JackPortIsInput, 0);
     left = jack_port_register(client, "left", JACK_DEFAULT_AUDIO_TYPE, JackPortIsOutput, 0);
     right = jack_port_register(client, "right", JACK_DEFAULT_AUDIO_TYPE, JackPortIsOutput, 0);

@@ -10,7 +10,7 @@ enum { FRAMES = 64, LATENCY = 10000 /* microseconds */ };
 
 static sfbank_bank bank = SFBANK_CLOSED;
 static sfbank_player player = SFBANK_CLOSED;
-static uint16_t presets[16];
+static uint16_t selected[16], banks[16], presets[16];
 
 static void stop(const char *what, const char *why) {
     fprintf(stderr, "keys: %s: %s\n", what, why);
@@ -45,7 +45,8 @@ static snd_seq_t *open_input(const char *port) {
     return input;
 }
 
-/* Channel 10 has the drums, which are bank 128. The id of a note is its channel and key. */
+/* Channel 10 has the drums, which are bank 128; on others controller 0 selects the bank of the next program. The id of a
+ * note is its channel and key. */
 static void handle(const snd_seq_event_t *event) {
     unsigned channel = event->data.note.channel & 15, key = event->data.note.note & 127;
     uint64_t id = 128 * channel + key;
@@ -53,16 +54,20 @@ static void handle(const snd_seq_event_t *event) {
     case SND_SEQ_EVENT_NOTEON:
         sfbank_release(&player, id);
         if (event->data.note.velocity)
-            sfbank_press(&player, &bank, channel == 9 ? 128 : 0, presets[channel], (uint8_t)key,
+            sfbank_press(&player, &bank, channel == 9 ? 128 : banks[channel], presets[channel], (uint8_t)key,
                          event->data.note.velocity & 127, id);
         break;
     case SND_SEQ_EVENT_NOTEOFF:
         sfbank_release(&player, id);
         break;
     case SND_SEQ_EVENT_PGMCHANGE:
-        presets[event->data.control.channel & 15] = (uint16_t)event->data.control.value;
+        channel = event->data.control.channel & 15;
+        banks[channel] = selected[channel];
+        presets[channel] = (uint16_t)event->data.control.value;
         break;
     case SND_SEQ_EVENT_CONTROLLER:
+        if (event->data.control.param == 0)
+            selected[event->data.control.channel & 15] = (uint16_t)event->data.control.value;
         if (event->data.control.param == 120) sfbank_stop(&player);
         if (event->data.control.param == 123) sfbank_release_all(&player);
         break;

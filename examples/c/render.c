@@ -5,12 +5,15 @@
 #include <stdlib.h>
 #include <string.h>
 
+enum { LAST_FRAME = 100000000 };
+
 typedef struct {
     unsigned start, length, bank, preset, key, velocity;
 } note;
 
 static void stop(const char *what, int32_t error) {
-    fprintf(stderr, "render: %s: error %d\n", what, (int)error);
+    if (error) fprintf(stderr, "render: %s: error %d\n", what, (int)error);
+    else perror(what);
     exit(1);
 }
 
@@ -25,6 +28,11 @@ static uint8_t *read_file(const char *path, size_t *length) {
     return bytes;
 }
 
+static bool is_note(note n) {
+    bool ends = n.start <= LAST_FRAME && n.length <= LAST_FRAME - n.start;
+    return ends && n.bank < 65536 && n.preset < 65536 && n.key < 128 && n.velocity < 128;
+}
+
 /* Reads the notes, sorted by start; notes that start together stay in order. */
 static size_t read_notes(const char *path, note **notes) {
     FILE *file = fopen(path, "r");
@@ -34,7 +42,9 @@ static size_t read_notes(const char *path, note **notes) {
     while (fgets(line, sizeof line, file)) {
         note n;
         line[strcspn(line, "#")] = 0;
-        if (sscanf(line, "%u%u%u%u%u%u", &n.start, &n.length, &n.bank, &n.preset, &n.key, &n.velocity) != 6) continue;
+        int fields = sscanf(line, "%u%u%u%u%u%u", &n.start, &n.length, &n.bank, &n.preset, &n.key, &n.velocity);
+        if (fields < 0) continue;
+        if (fields != 6 || !is_note(n)) stop(path, SFBANK_BAD_NOTE);
         if (!(*notes = realloc(*notes, (count + 1) * sizeof n))) stop(path, SFBANK_OUT_OF_MEMORY);
         size_t at = count++;
         for (; at && (*notes)[at - 1].start > n.start; at--) (*notes)[at] = (*notes)[at - 1];
