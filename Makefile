@@ -20,8 +20,9 @@ LIB = $(DESTDIR)$(PREFIX)/lib
 INCLUDE = $(DESTDIR)$(PREFIX)/include
 VERSION = $(shell sed -n '1s/.*(\(.*\)).*/\1/p' packaging/debian/changelog)
 # The pages for users, and their pictures.
-PAGES = README.md docs/FAULTS.md docs/FORMAT.md docs/LIBRARY.md docs/LISTING.md docs/LIVE.md docs/NOTES.md docs/RECORDINGS.md docs/SCRIPT.md \
-  docs/SOUND.md docs/TUTORIAL.md docs/ocarina.svg docs/organ.svg docs/plucks.svg
+PAGES = README.md docs/FAULTS.md docs/FINDINGS.md docs/FORMAT.md docs/LIBRARY.md docs/LISTING.md docs/LIVE.md \
+  docs/NOTES.md docs/RECORDINGS.md docs/SCRIPT.md docs/SOUND.md docs/TUTORIAL.md docs/ocarina.svg docs/organ.svg \
+  docs/plucks.svg
 
 build:
 	@scripts/build

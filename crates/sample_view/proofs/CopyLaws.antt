@@ -4,34 +4,30 @@ use Rattle.std.proofs.Common.{take, drop, refl, ap, sym, ◌∙◌, arith, lengt
 use Rattle.std.specs.Prelude.{slice_range}
 use Rattle.std.specs.Borrow.{Bor}
 use Rattle.std.proofs.lemmas.List.{take_min, drop_min, drop-drop, take-append-drop, append_assoc}
-use Rattle.std.proofs.lemmas.Slice.{between_from_start, between_to_end}
 use Rattle.sample_view.specs.Words.{words}
 use Rattle.sample_view.specs.Pieces.{joined}
 use Rattle.sample_view.proofs.WordLaws.{length-words}
 use Rattle.sample_view.proofs.PieceLaws.{joined-more}
 
 -- A list is its first, middle and last parts.
-pub three_ranges : (xs first middle last : List ℕ) (i j n : ℕ) → i ≤ j → n ≡ length xs
-    → first ≡ slice_range xs 0 i → middle ≡ slice_range xs i j → last ≡ slice_range xs j n
-    → xs ≡ first ++ middle ++ last
-three_ranges xs first middle last i j n h e f m l =
-    let front_is : first ≡ take i xs = f ∙ between_from_start xs i in
-    let back_is : last ≡ drop (j - i) (drop i xs) =
-    l ∙ between_to_end xs j n (omega (arith, e)) ∙ ap (λ k. drop k xs) (omega arith) ∙ sym (drop-drop (j - i) i xs) in
-    rw (front_is, m, back_is)
-    (sym (
-    append_assoc (take i xs) (take (j - i) (drop i xs)) (drop (j - i) (drop i xs))
-    ∙ ap (λ t. take i xs ++ t) (take-append-drop (j - i) (drop i xs)) ∙ take-append-drop i xs))
+pub three_parts : (xs : List ℕ) (i j : ℕ) → i ≤ j → xs ≡ take i xs ++ slice_range xs i j ++ drop j xs
+three_parts xs i j h =
+    let rest : drop j xs ≡ drop (j - i) (drop i xs) =
+    ap (λ k. drop k xs) (omega arith) ∙ sym (drop-drop (j - i) i xs) in
+    sym
+    (append_assoc (take i xs) (slice_range xs i j) (drop j xs)
+    ∙ ap (λ t. take i xs ++ t) (ap (λ t. slice_range xs i j ++ t) rest ∙ take-append-drop (j - i) (drop i xs))
+    ∙ take-append-drop i xs)
 
 -- Dropping from a concatenation of two lists.
-drop-append : (n : ℕ) (xs ys : List ℕ) → drop n (xs ++ ys) ≡ drop n xs ++ drop (n - length xs) ys
+pub drop-append : (n : ℕ) (xs ys : List ℕ) → drop n (xs ++ ys) ≡ drop n xs ++ drop (n - length xs) ys
 drop-append zero xs ys = let z : 0 - length xs ≡ 0 = omega arith in rw z refl
 drop-append (suc n) [] ys = let z : suc n - 0 ≡ suc n = omega arith in rw z refl
 drop-append (suc n) (x ∷ xs) ys =
     let z : suc n - suc (length xs) ≡ n - length xs = omega arith in rw z (drop-append n xs ys)
 
 -- A prefix of a concatenation of two lists.
-take-append : (n : ℕ) (xs ys : List ℕ) → take n (xs ++ ys) ≡ take n xs ++ take (n - length xs) ys
+pub take-append : (n : ℕ) (xs ys : List ℕ) → take n (xs ++ ys) ≡ take n xs ++ take (n - length xs) ys
 take-append zero xs ys = let z : 0 - length xs ≡ 0 = omega arith in rw z refl
 take-append (suc n) [] ys = let z : suc n - 0 ≡ suc n = omega arith in rw z refl
 take-append (suc n) (x ∷ xs) ys =

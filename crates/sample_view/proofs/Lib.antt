@@ -3,3 +3,5 @@ pub mod RunLaws
 pub mod PieceLaws
 mod PositionLaws
 mod CopyLaws
+mod CutLaws
+mod SlotLaws

@@ -6,6 +6,8 @@ ghost use Rattle.sample_view.specs.Words.{words, word_bytes, AreWords};
 ghost use Rattle.sample_view.specs.Pieces.{joined, joined_bytes, IsPiece};
 ghost use Rattle.sample_view.specs.Runs.{IsRunAround};
 
+use crate::cuts::{copy_range, cut_at, cut_before_last};
+use crate::slices::Slices;
 use sf_base::OutOfMemory;
 use smallvec::SmallVec;
 use std::alloc::Global;
@@ -23,29 +25,30 @@ pub struct OddLength;
 /// as unsigned 16-bit words.
 #[derive(Debug)]
 pub struct Points<'a> {
-    pieces: SmallVec<&'a [u8], 1>,
-    count: usize,
+    alloc: Global,
+    slices: Slices<'a>,
 }
 
 // Not derived: a derived `drop` is inlined, and proved, wherever a value is dropped; this one is a call.
 impl Drop for Points<'_> {
     fn drop(self) {
         let Points {
-            pieces: _,
-            count: _,
+            alloc: _,
+            slices: _,
         } = self;
     }
 }
 
 impl<'a> Model for Points<'a> {
-    ghost use Rattle.std.specs.Prelude.{◌≡◌, ℕ, List, length, All};
+    ghost use Rattle.std.specs.Prelude.{ℕ, List, All};
     ghost use Rattle.sample_view.specs.Pieces.{joined, IsPiece};
+    ghost use Rattle.sample_view.specs.Slices.{pieces_of, IsCounted};
 
     ghost Value = { List ℕ };
 
-    ghost view = { λ p. joined p.pieces.items };
+    ghost view = { λ p. joined (pieces_of p.slices) };
 
-    ghost invariant = { λ p. All IsPiece p.pieces.items × (p.count ≡ length (joined p.pieces.items)) };
+    ghost invariant = { λ p. All IsPiece (pieces_of p.slices) × IsCounted p.slices };
 }
 
 impl<'a> Points<'a> {
@@ -61,11 +64,9 @@ impl<'a> Points<'a> {
         if bytes.is_empty() {
             return Ok(Points::empty(alloc));
         }
-        let mut pieces = SmallVec::new(alloc);
-        pieces.push_reserved(bytes);
         Ok(Points {
-            pieces,
-            count: bytes.len() / 2,
+            alloc,
+            slices: Slices::One(bytes),
         })
     }
 
@@ -74,8 +75,8 @@ impl<'a> Points<'a> {
         ensures { result ≡ [] }
     {
         Points {
-            pieces: SmallVec::new(alloc),
-            count: 0,
+            alloc,
+            slices: Slices::Empty,
         }
     }
 
@@ -84,7 +85,7 @@ impl<'a> Points<'a> {
         ensures value { result ≡ length self.now }
         ensures fits { AreWords self.now }
     {
-        self.count
+        self.slices.count()
     }
 
     /// Whether there are no points.
@@ -102,16 +103,9 @@ impl<'a> Points<'a> {
         ensures point { slice_index self.now index
             ≡ slice_index result.0.now (2 * result.1) + 256 * slice_index result.0.now (2 * result.1 + 1) }
     {
-        let mut position = index;
-        for piece in self.pieces() {
-            let bytes = *piece;
-            let count = bytes.len() / 2;
-            if position < count {
-                return (bytes, position);
-            }
-            position -= count;
-        }
-        unreachable!()
+        let pieces = self.pieces();
+        let cut = cut_at(pieces, index);
+        (pieces[cut.piece], cut.position)
     }
 
     /// The point at `index`.
@@ -129,7 +123,7 @@ impl<'a> Points<'a> {
         ensures bytes { joined_bytes result.now ≡ flat_map word_bytes self.now }
         ensures whole { All IsPiece result.now }
     {
-        self.pieces.as_slice()
+        self.slices.as_slice()
     }
 
     /// Makes a list of the same points.
@@ -137,10 +131,8 @@ impl<'a> Points<'a> {
         ensures { IfOk result (λ points. points ≡ self.now) }
     {
         let pieces = SmallVec::from_slice(alloc, self.pieces())?;
-        Ok(Points {
-            pieces,
-            count: self.len(),
-        })
+        let slices = Slices::store(alloc, pieces, self.len())?;
+        Ok(Points { alloc, slices })
     }
 
     /// Removes the first `front` and the last `back` points, and returns both. A failed allocation changes nothing.
@@ -157,13 +149,10 @@ impl<'a> Points<'a> {
         ensures whole { IfOk result (λ parts. self.old ≡ parts.0 ++ self.new ++ parts.1) }
         ensures err { OnErr result (self.new ≡ self.old) }
     {
-        let pieces = self.pieces();
-        let len = self.len();
-        let end = len - back;
-        let first = copy_range(alloc, pieces, 0, front)?;
-        let middle = copy_range(alloc, pieces, front, end)?;
-        let last = copy_range(alloc, pieces, end, len)?;
-        *self = middle;
+        let first = self.copy_front(alloc, front)?;
+        let last = self.copy_back(alloc, back)?;
+        let slices = std::mem::replace(&mut self.slices, Slices::Empty);
+        self.slices = slices.without_ends(front, back);
         Ok((first, last))
     }
 
@@ -179,67 +168,65 @@ impl<'a> Points<'a> {
         ensures front_returned { IfErr result (λ parts. parts.0 ≡ front.entry) }
         ensures back_returned { IfErr result (λ parts. parts.1 ≡ back.entry) }
     {
-        let before = front.pieces();
-        let after = back.pieces();
-        if self.pieces.reserve(before.len() + after.len()).is_err() {
-            return Err((front, back));
+        let count = front.len() + self.len() + back.len();
+        let slices = std::mem::replace(&mut self.slices, Slices::Empty);
+        match slices.joined(self.alloc, front.pieces(), back.pieces(), count) {
+            Ok(slices) => {
+                self.slices = slices;
+                Ok(())
+            }
+            Err(slices) => {
+                self.slices = slices;
+                Err((front, back))
+            }
         }
-        self.pieces.extend_from_slice(after).unwrap();
-        self.pieces.insert_from_slice(0, before).unwrap();
-        self.count += front.len() + back.len();
-        Ok(())
     }
-}
 
-// The points of these slices from index `from` up to, but not including, `to`.
-fn copy_range<'a>(
-    alloc: Global,
-    pieces: &[&'a [u8]],
-    from: usize,
-    to: usize,
-) -> Result<Points<'a>, OutOfMemory>
-    requires pieces { All IsPiece pieces.now }
-    requires order { from ≤ to }
-    requires inside { to ≤ length (joined pieces.now) }
-    ensures { IfOk result (λ points. points ≡ slice_range (joined pieces.now) from to) }
-{
-    let mut kept: SmallVec<&'a [u8], 1> = SmallVec::new(alloc);
-    let mut skip = from;
-    let mut remaining = to - from;
-    for piece in pieces {
-        let bytes = *piece;
-        let count = bytes.len() / 2;
-        let start = skip.min(count);
-        let room = remaining.min(count - start);
-        push_piece(&mut kept, part(bytes, start, room))?;
-        skip -= start;
-        remaining -= room;
+    // A list of the first `count` points, which reads no slice after them.
+    fn copy_front(&self, alloc: Global, count: usize) -> Result<Points<'a>, OutOfMemory>
+        requires { count ≤ length self.now }
+        ensures { IfOk result (λ points. points ≡ take count self.now) }
+    {
+        if count == self.len() {
+            return self.copy(alloc);
+        }
+        let pieces = self.pieces();
+        let cut = cut_at(pieces, count);
+        Points::copy_of(alloc, &pieces[..cut.piece + 1], 0, count)
     }
-    Ok(Points {
-        pieces: kept,
-        count: to - from,
-    })
-}
 
-// The `count` points of a slice from position `start` on.
-fn part(bytes: &[u8], start: usize, count: usize) -> &[u8]
-    requires inside { 2 * (start + count) ≤ length bytes.now }
-    ensures length { length result.now ≡ 2 * count }
-    ensures points { words result.now ≡ take count (drop start (words bytes.now)) }
-{
-    &bytes[2 * start..2 * (start + count)]
-}
-
-// Appends a slice of points, unless it is empty.
-fn push_piece<'a>(kept: &mut SmallVec<&'a [u8], 1>, bytes: &'a [u8]) -> Result<(), OutOfMemory>
-    requires whole { All IsPiece kept.old.items }
-    requires even { length bytes.now % 2 ≡ 0 }
-    ensures whole { OnOk result (All IsPiece kept.new.items) }
-    ensures points { OnOk result (joined kept.new.items ≡ joined kept.old.items ++ words bytes.now) }
-{
-    if bytes.is_empty() {
-        return Ok(());
+    // A list of the last `count` points, which reads no slice before them.
+    fn copy_back(&self, alloc: Global, count: usize) -> Result<Points<'a>, OutOfMemory>
+        requires { count ≤ length self.now }
+        ensures { IfOk result (λ points. points ≡ drop (length self.now - count) self.now) }
+    {
+        if count == self.len() {
+            return self.copy(alloc);
+        }
+        let pieces = self.pieces();
+        let cut = cut_before_last(pieces, count);
+        Points::copy_of(
+            alloc,
+            &pieces[cut.piece..],
+            cut.position,
+            cut.position + count,
+        )
     }
-    kept.push(bytes)?;
-    Ok(())
+
+    // A list of the points of these slices from index `from` up to, but not including, `to`.
+    fn copy_of(
+        alloc: Global,
+        pieces: &[&'a [u8]],
+        from: usize,
+        to: usize,
+    ) -> Result<Points<'a>, OutOfMemory>
+        requires pieces { All IsPiece pieces.now }
+        requires order { from ≤ to }
+        requires inside { to ≤ length (joined pieces.now) }
+        ensures { IfOk result (λ points. points ≡ slice_range (joined pieces.now) from to) }
+    {
+        let kept = copy_range(alloc, pieces, from, to)?;
+        let slices = Slices::store(alloc, kept, to - from)?;
+        Ok(Points { alloc, slices })
+    }
 }

@@ -1,137 +1,178 @@
--- The entries of a legend, for lists of rectangles one after another.
-use Rattle.std.proofs.Common.{◌≡◌, ◌≤◌, ◌<◌, inl, inr, ℕ, zero, suc, ◌+◌, ◌-◌, min, ◌&&◌, Bool, true, false, List, [], ◌∷◌}
-use Rattle.std.proofs.Common.{◌++◌, length, take, refl, sym, ap, ◌∙◌, arith, cond, ◌⊎◌}
-use Rattle.std.specs.Prelude.{nat_lt}
-use Rattle.std.specs.List.{flat_map, filter, enumerate_from}
-use Rattle.std.proofs.lemmas.Bool.{cases_lt, ltb-true, ltb-false, false≢true}
-use Rattle.std.proofs.lemmas.List.{append-nil, length-append}
-use Rattle.std.proofs.lemmas.List.Concat.{flat_map-append}
+-- The samples of a legend, list by list, and in a loop over zones.
+use Rattle.std.proofs.Common.{◌≡◌, ◌≤◌, ◌<◌, inl, inr, ℕ, suc, ◌+◌, ◌-◌, not, ◌&&◌, ◌||◌, Bool, true, false, cond, List, [], ◌∷◌}
+use Rattle.std.proofs.Common.{◌++◌, length, map, take, refl, sym, ap, ◌∙◌, append_assoc, arith}
+use Rattle.std.specs.Prelude.{◌==◌}
+use Rattle.std.specs.List.{flat_map, filter, list_any}
+use Rattle.std.proofs.lemmas.Bool.{cases_lt, eqb-true}
+use Rattle.std.proofs.lemmas.List.{append-nil, length-append, length-take, map-append, take_all, take_at}
 use Rattle.std.proofs.lemmas.List.Elements.{filter-append}
-use Rattle.bank_parts.specs.declared.parts.Parts.{Parts}
+use Rattle.std.proofs.lemmas.List.Folds.{list_any-append}
 use Rattle.show_zone_map.specs.declared.rectangle.Rectangle.{Rectangle}
-use Rattle.show_zone_map.specs.Picture.{is_small, entries_from, entry, legend_from, has_entry, entry_after}
+use Rattle.show_zone_map.specs.Picture.{is_small, distinct, small_samples, legend_samples, is_new, with_samples}
 use Rattle.show_zone_map.proofs.Rows.{from}
 
--- ---- numbered members, as long as there are fewer than `most`
+-- ---- filters
 
-module _ {X : Type 0} (most : ℕ) where
-  abbrev numbered : ℕ → List X → List (ℕ × X)
-  numbered i xs = enumerate_from i (take (most - i) xs)
+filter_twice : {X : Type 0} (p q r : X → Bool) → ((x : X) → r x ≡ (q x && p x)) → (xs : List X)
+    → filter p (filter q xs) ≡ filter r xs
+filter_twice p q r same [] = refl
+filter_twice p q r same (x ∷ xs) = by_cases (q x) (p x) refl refl (filter_twice p q r same xs)
+  where
+    by_cases : (a b : Bool) → q x ≡ a → p x ≡ b → filter p (filter q xs) ≡ filter r xs
+        → filter p (filter q (x ∷ xs)) ≡ filter r (x ∷ xs)
+    by_cases true true d e rest = rw (same x, d, e) (ap (λ ys. x ∷ ys) rest)
+    by_cases true false d e rest = rw (same x, d, e) rest
+    by_cases false b d e rest = rw (same x, d) rest
 
-  take_none : (n : ℕ) → take n (let none : List X = [] in none) ≡ []
-  take_none zero = refl
-  take_none (suc n) = refl
+all_new : (xs : List ℕ) → filter (is_new []) xs ≡ xs
+all_new [] = refl
+all_new (x ∷ xs) = ap (λ ys. x ∷ ys) (all_new xs)
 
-  pub none_numbered : (i : ℕ) → numbered i [] ≡ []
-  none_numbered i = ap (enumerate_from i) (take_none (most - i))
+-- ---- one sample
 
-  pub past_most : (i : ℕ) (xs : List X) → most ≤ i → numbered i xs ≡ []
-  past_most i xs h = let e : most - i ≡ 0 = omega (arith, h) in ap (λ (n : ℕ). enumerate_from i (take n xs)) e
+-- s among samples, and one more
+pub known_and_one : (ss : List ℕ) (x s : ℕ) → list_any (λ t. s == t) (ss ++ x ∷ []) ≡ (s == x || list_any (λ t. s == t) ss)
+known_and_one ss x s =
+    list_any-append (λ t. s == t) ss (x ∷ []) ∙ by_cases (list_any (λ t. s == t) ss) (s == x)
+  where
+    by_cases : (a b : Bool) → (a || (b || false)) ≡ (b || a)
+    by_cases true true = refl
+    by_cases true false = refl
+    by_cases false true = refl
+    by_cases false false = refl
 
-  pub one_numbered : (i : ℕ) (x : X) (xs : List X) → i < most → numbered i (x ∷ xs) ≡ (i, x) ∷ numbered (i + 1) xs
-  one_numbered i x xs h =
-      let e : most - i ≡ suc (most - (i + 1)) = omega (arith, h) in
-      ap (λ (n : ℕ). enumerate_from i (take n (x ∷ xs))) e
+module _ (ss : List ℕ) (s : ℕ) where
+  -- beside s, which ss has, the same samples are new
+  known_stays : list_any (λ t. s == t) ss ≡ true → (x : ℕ) → is_new ss x ≡ (not (x == s) && is_new ss x)
+  known_stays known x = by_cases (x == s) refl
+    where
+      by_cases : (b : Bool) → (x == s) ≡ b → is_new ss x ≡ (not b && is_new ss x)
+      by_cases true e = ap (is_new ss) (eqb-true x s e) ∙ ap not known
+      by_cases false e = refl
 
-  -- two lists, one after the other
-  pub numbered-append : (i : ℕ) (xs ys : List X) → i ≤ most
-      → numbered i (xs ++ ys) ≡ numbered i xs ++ numbered (min most (i + length xs)) ys
-  numbered-append i [] ys h =
-      let same : i ≡ min most (i + 0) = omega (arith, h) in
-      ap (λ (k : ℕ). numbered k ys) same
-      ∙ ap (λ (zs : List (ℕ × X)). zs ++ numbered (min most (i + 0)) ys) (sym (none_numbered i))
-  numbered-append i (x ∷ xs) ys h = elim (cases_lt i most) [
-    | inl lt ↦
-        let more : min most (i + 1 + length xs) ≡ min most (i + suc (length xs)) = omega arith in
-        one_numbered i x (xs ++ ys) lt
-        ∙ ap (λ (zs : List (ℕ × X)). (i, x) ∷ zs)
-        (numbered-append (i + 1) xs ys (omega (arith, lt))
-        ∙ ap (λ (k : ℕ). numbered (i + 1) xs ++ numbered k ys) more)
-        ∙ ap (λ (zs : List (ℕ × X)). zs ++ numbered (min most (i + suc (length xs))) ys) (sym (one_numbered i x xs lt))
-    | inr ge ↦
-        let end : most ≤ min most (i + suc (length xs)) = omega (arith, ge) in
-        past_most i (x ∷ (xs ++ ys)) ge ∙ sym (past_most (min most (i + suc (length xs))) ys end)
-        ∙ ap (λ (zs : List (ℕ × X)). zs ++ numbered (min most (i + suc (length xs))) ys) (sym (past_most i (x ∷ xs) ge))
-  ]
+  new_stays : (x : ℕ) → is_new (ss ++ s ∷ []) x ≡ (not (x == s) && is_new ss x)
+  new_stays x =
+      ap not (known_and_one ss s x) ∙ by_cases (x == s) (list_any (λ t. x == t) ss)
+    where
+      by_cases : (a b : Bool) → not (a || b) ≡ (not a && not b)
+      by_cases true b = refl
+      by_cases false b = refl
 
--- ---- entries
+  -- a legend that is full, names the sample, or gets it
+  pub full_stays : (more : List ℕ) → length ss ≡ 1024 → with_samples ss more ≡ ss
+  full_stays more full = take_at ss (filter (is_new ss) (distinct more)) 1024 full
 
-pub after-append : (i : ℕ) (xs ys : List Rectangle) → entry_after (entry_after i xs) ys ≡ entry_after i (xs ++ ys)
-after-append i xs ys =
-    let both = ap length (filter-append is_small xs ys) ∙ length-append (filter is_small xs) (filter is_small ys) in
-    omega (arith, both)
+  -- the new ones of s and others
+  abbrev first : List ℕ → List ℕ
+  first ds = ss ++ filter (is_new ss) (s ∷ filter (λ t. not (t == s)) ds)
 
-pub legend-append : (b : Parts) (i : ℕ) (xs ys : List Rectangle) → i ≤ 1024
-    → legend_from b i (xs ++ ys) ≡ legend_from b i xs ++ legend_from b (entry_after i xs) ys
-legend-append b i xs ys h =
-    ap (λ (rs : List Rectangle). flat_map (entry b) (enumerate_from i (take (1024 - i) rs))) (filter-append is_small xs ys)
-    ∙ ap (flat_map (entry b)) (numbered-append 1024 i (filter is_small xs) (filter is_small ys) h)
-    ∙ flat_map-append (entry b) (entries_from i xs) (entries_from (entry_after i xs) ys)
+  first_known : (ds : List ℕ) → list_any (λ t. s == t) ss ≡ true → first ds ≡ ss ++ filter (is_new ss) ds
+  first_known ds known =
+      let none : is_new ss s ≡ false = ap not known in
+      rw none (ap (λ xs. ss ++ xs) (filter_twice (is_new ss) (λ t. not (t == s)) (is_new ss) (known_stays known) ds))
 
-pub after_none : (i : ℕ) → i ≤ 1024 → entry_after i [] ≡ i
-after_none i h = omega (arith, h)
+  first_new : (ds : List ℕ) → list_any (λ t. s == t) ss ≡ false
+      → first ds ≡ (ss ++ s ∷ []) ++ filter (is_new (ss ++ s ∷ [])) ds
+  first_new ds new =
+      let one : is_new ss s ≡ true = ap not new in
+      rw one
+      (ap (λ xs. ss ++ s ∷ xs) (filter_twice (is_new ss) (λ t. not (t == s)) (is_new (ss ++ s ∷ [])) new_stays ds)
+      ∙ sym (append_assoc ss (s ∷ []) (filter (is_new (ss ++ s ∷ [])) ds)))
 
-pub legend_none : (b : Parts) (i : ℕ) → legend_from b i [] ≡ []
-legend_none b i = ap (flat_map (entry b)) (none_numbered 1024 i)
+  pub known_is_no_more : list_any (λ t. s == t) ss ≡ true → length ss ≤ 1024 → with_samples ss (s ∷ []) ≡ ss
+  unfolding distinct
+  known_is_no_more known within =
+      ap (take 1024) (first_known [] known ∙ append-nil ss) ∙ take_all 1024 ss within
 
--- ---- one rectangle
+  pub new_is_last : list_any (λ t. s == t) ss ≡ false → length ss < 1024 → with_samples ss (s ∷ []) ≡ ss ++ s ∷ []
+  unfolding distinct
+  new_is_last new room =
+      let long = length-append ss (s ∷ []) in
+      let within : length (ss ++ s ∷ []) ≤ 1024 = omega (arith, long, room) in
+      ap (take 1024) (first_new [] new ∙ append-nil (ss ++ s ∷ [])) ∙ take_all 1024 (ss ++ s ∷ []) within
 
-both_true : (s : Bool) (i n : ℕ) → (s && nat_lt i n) ≡ true → (s ≡ true) × (i < n)
-both_true true i n h = (refl, ltb-true i n h)
-both_true false i n h = absurd (false≢true h)
+-- ---- samples one after another
 
-one_false : (s : Bool) (i n : ℕ) → (s && nat_lt i n) ≡ false → (s ≡ false) ⊎ (n ≤ i)
-one_false true i n h = inr (ltb-false i n h)
-one_false false i n h = inl refl
+pub with_none : (ss : List ℕ) → length ss ≤ 1024 → with_samples ss [] ≡ ss
+unfolding distinct
+with_none ss within = ap (take 1024) (append-nil ss) ∙ take_all 1024 ss within
 
-module _ (b : Parts) (i : ℕ) (r : Rectangle) where
-  -- by whether it is small
-  kept : (small : Bool) → is_small r ≡ small → filter is_small (r ∷ []) ≡ cond small (r ∷ []) []
-  kept small e = ap (λ (t : Bool). cond t (r ∷ []) []) e
+pub with_within : (ss more : List ℕ) → length (with_samples ss more) ≤ 1024
+with_within ss more =
+    let long = length-take 1024 (ss ++ filter (is_new ss) (distinct more)) in
+    omega (arith, long)
 
-  -- it has the entry
-  pub after_entry : has_entry i r ≡ true → entry_after i (r ∷ []) ≡ i + 1
-  after_entry h =
-      let both = both_true (is_small r) i 1024 h in
-      ap (λ (rs : List Rectangle). min 1024 (i + length rs)) (kept true both.0) ∙ omega (arith, both.1)
+with_first : (ss : List ℕ) (s : ℕ) (more : List ℕ) → length ss ≤ 1024
+    → with_samples ss (s ∷ more) ≡ with_samples (with_samples ss (s ∷ [])) more
+unfolding distinct
+with_first ss s more within = by_cases (list_any (λ t. s == t) ss) refl
+  where
+    by_cases : (known : Bool) → list_any (λ t. s == t) ss ≡ known
+        → with_samples ss (s ∷ more) ≡ with_samples (with_samples ss (s ∷ [])) more
+    by_cases true known =
+        ap (take 1024) (first_known ss s (distinct more) known)
+        ∙ ap (λ xs. with_samples xs more) (sym (known_is_no_more ss s known within))
+    by_cases false new = elim (cases_lt (length ss) 1024) [
+      | inl room ↦
+          ap (take 1024) (first_new ss s (distinct more) new)
+          ∙ ap (λ xs. with_samples xs more) (sym (new_is_last ss s new room))
+      | inr ge ↦
+          let full : length ss ≡ 1024 = omega (arith, ge, within) in
+          full_stays ss s (s ∷ more) full ∙ sym (full_stays ss s more full)
+          ∙ ap (λ xs. with_samples xs more) (sym (full_stays ss s (s ∷ []) full))
+    ]
 
-  pub legend_entry : has_entry i r ≡ true → legend_from b i (r ∷ []) ≡ entry b (i, r)
-  legend_entry h =
-      let both = both_true (is_small r) i 1024 h in
-      ap (λ (rs : List Rectangle). flat_map (entry b) (enumerate_from i (take (1024 - i) rs))) (kept true both.0)
-      ∙ ap (flat_map (entry b))
-      (one_numbered 1024 i r [] both.1 ∙ ap (λ (es : List (ℕ × Rectangle)). (i, r) ∷ es) (none_numbered 1024 (i + 1)))
-      ∙ append-nil (entry b (i, r))
+with-append : (ss xs ys : List ℕ) → length ss ≤ 1024
+    → with_samples ss (xs ++ ys) ≡ with_samples (with_samples ss xs) ys
+with-append ss [] ys within = ap (λ zs. with_samples zs ys) (sym (with_none ss within))
+with-append ss (x ∷ xs) ys within =
+    with_first ss x (xs ++ ys) within
+    ∙ with-append (with_samples ss (x ∷ [])) xs ys (with_within ss (x ∷ []))
+    ∙ ap (λ zs. with_samples zs ys) (sym (with_first ss x xs within))
 
-  -- it has none
-  pub after_no_entry : i ≤ 1024 → has_entry i r ≡ false → entry_after i (r ∷ []) ≡ i
-  after_no_entry within h = elim (one_false (is_small r) i 1024 h) [
-    | inl e ↦ ap (λ (rs : List Rectangle). min 1024 (i + length rs)) (kept false e) ∙ omega (arith, within)
-    | inr full ↦ omega (arith, within, full)
-  ]
+-- the legend of all
+pub from_none : (rs : List Rectangle) → with_samples [] (small_samples rs) ≡ legend_samples rs
+from_none rs = ap (take 1024) (all_new (distinct (small_samples rs)))
 
-  pub legend_no_entry : has_entry i r ≡ false → legend_from b i (r ∷ []) ≡ []
-  legend_no_entry h = elim (one_false (is_small r) i 1024 h) [
-    | inl e ↦
-        ap (λ (rs : List Rectangle). flat_map (entry b) (enumerate_from i (take (1024 - i) rs))) (kept false e)
-        ∙ legend_none b i
-    | inr full ↦ ap (flat_map (entry b)) (past_most 1024 i (filter is_small (r ∷ [])) full)
-  ]
+-- ---- rectangles one after another, and in a loop over zones, of which each has the rectangles of a list
 
--- ---- in a loop over zones, of which each has the rectangles of a list
+small-append : (xs ys : List Rectangle) → small_samples (xs ++ ys) ≡ small_samples xs ++ small_samples ys
+small-append xs ys =
+    ap (map (λ (r : Rectangle). r.sample)) (filter-append is_small xs ys)
+    ∙ map-append (λ (r : Rectangle). r.sample) (filter is_small xs) (filter is_small ys)
 
-module _ (b : Parts) (g : ℕ → List Rectangle) (k n : ℕ) where
+-- a rectangle with or without space for a name
+one_small : (r : Rectangle) (b : Bool) → is_small r ≡ b → small_samples (r ∷ []) ≡ cond b (r.sample ∷ []) []
+one_small r true e = rw e refl
+one_small r false e = rw e refl
+
+pub legend_same : (ss : List ℕ) (r : Rectangle) → is_small r ≡ false → length ss ≤ 1024
+    → ss ≡ with_samples ss (small_samples (r ∷ []))
+legend_same ss r e within = sym (ap (with_samples ss) (one_small r false e) ∙ with_none ss within)
+
+pub legend_with : (ss : List ℕ) (r : Rectangle) → is_small r ≡ true
+    → with_samples ss (r.sample ∷ []) ≡ with_samples ss (small_samples (r ∷ []))
+legend_with ss r e = ap (with_samples ss) (sym (one_small r true e))
+
+module _ (g : ℕ → List Rectangle) (k n : ℕ) where
   zones_on : k < n → flat_map g (from k n) ≡ g k ++ flat_map g (from (k + 1) n)
   zones_on h = let e : n - k ≡ suc (n - (k + 1)) = omega (arith, h) in rw e refl
 
-  pub zones_past : n ≤ k → flat_map g (from k n) ≡ []
+  zones_past : n ≤ k → flat_map g (from k n) ≡ []
   zones_past h = let e : n - k ≡ 0 = omega (arith, h) in rw e refl
 
-  pub after_next : (i : ℕ) → k < n
-      → entry_after (entry_after i (g k)) (flat_map g (from (k + 1) n)) ≡ entry_after i (flat_map g (from k n))
-  after_next i h = after-append i (g k) (flat_map g (from (k + 1) n)) ∙ ap (entry_after i) (sym (zones_on h))
+  -- after the rectangles of zone k
+  pub legend_next : (ss next : List ℕ) → length ss ≤ 1024 → k < n → next ≡ with_samples ss (small_samples (g k))
+      → with_samples next (small_samples (flat_map g (from (k + 1) n)))
+      ≡ with_samples ss (small_samples (flat_map g (from k n)))
+  legend_next ss next within lt e =
+      let rest = flat_map g (from (k + 1) n) in
+      ap (λ zs. with_samples zs (small_samples rest)) e
+      ∙ sym (with-append ss (small_samples (g k)) (small_samples rest) within)
+      ∙ ap (with_samples ss) (sym (small-append (g k) rest))
+      ∙ ap (λ rs. with_samples ss (small_samples rs)) (sym (zones_on lt))
 
-  pub legend_next : (i : ℕ) → i ≤ 1024 → k < n
-      → legend_from b i (flat_map g (from k n))
-      ≡ legend_from b i (g k) ++ legend_from b (entry_after i (g k)) (flat_map g (from (k + 1) n))
-  legend_next i h lt = ap (legend_from b i) (zones_on lt) ∙ legend-append b i (g k) (flat_map g (from (k + 1) n)) h
+  -- after the last zone
+  pub legend_end : (ss : List ℕ) → length ss ≤ 1024 → n ≤ k
+      → with_samples ss (small_samples (flat_map g (from k n))) ≡ ss
+  legend_end ss within le = ap (λ rs. with_samples ss (small_samples rs)) (zones_past le) ∙ with_none ss within

@@ -1,10 +1,12 @@
 -- A picture of rectangles, as SVG. Keys run from left to right, 10 units each, and velocities from bottom to top, 4
 -- units each; key 0 and velocity 127 begin 60 units from the left and from the top.
-use Rattle.std.specs.Prelude.{ℕ, ◌+◌, ◌-◌, ◌*◌, ◌/◌, ◌%◌, min, Bool, ◌&&◌, ◌||◌, not, nat_le, nat_lt, List, [], ◌∷◌, ◌++◌, length, take}
+use Rattle.std.specs.Prelude.{◌≡◌, ◌<◌, ℕ, ◌+◌, ◌-◌, ◌*◌, ◌/◌, ◌%◌, Bool, true, ◌&&◌, ◌||◌, ◌==◌, not, nat_le, nat_lt, List, [], ◌∷◌, ◌++◌, length, map, take}
 use Rattle.std.specs.Prelude.{Option, Some, None, codes, unwrap_or, slice_get, if◌then◌else◌}
-use Rattle.std.specs.List.{concat, flat_map, filter, enumerate_from}
+use Rattle.std.specs.List.{concat, flat_map, filter, list_any, enumerate_from}
 use Rattle.std.specs.Option.{option_map_or}
 use Rattle.bank_parts.specs.declared.parts.Head.{Head}
+use Rattle.bank_parts.specs.declared.parts.Kind.{Kind}
+use Rattle.bank_parts.specs.declared.parts.Kind.TheVariants.{Mono, Right, Left, Linked}
 use Rattle.bank_parts.specs.declared.parts.Sample.{Sample}
 use Rattle.bank_parts.specs.declared.parts.Parts.{Parts}
 use Rattle.bank_changes.specs.declared.members.Owner.{Owner}
@@ -15,7 +17,7 @@ use Rattle.show_zone_map.specs.declared.marks.Mark.{Mark}
 use Rattle.show_zone_map.specs.declared.marks.Mark.TheVariants.{Text, Number, Name}
 use Rattle.show_zone_map.specs.declared.rectangle.Rectangle.{Rectangle}
 use Rattle.show_zone_map.specs.Marks.{marks_text}
-use Rattle.show_zone_map.specs.Rectangles.{rectangles}
+use Rattle.show_zone_map.specs.Rectangles.{has_notes, rectangles}
 
 -- ---- the parts of all pictures
 
@@ -100,18 +102,21 @@ width r = 10 * count r.area.keys
 abbrev pub height : Rectangle → ℕ
 height r = 4 * count r.area.velocities
 
--- the index of one of seven colours, from its sample
-abbrev pub colour : Rectangle → ℕ
-colour r = r.sample % 7
+-- the index of one of seven colours, by the number of a sample
+abbrev pub colour : ℕ → ℕ
+colour s = s % 7
 
--- the name of its sample
-abbrev pub name_of : Parts → Rectangle → List ℕ
-name_of b r = option_map_or (λ (s : Sample). s.name) (slice_get b.samples r.sample) []
+-- the name and the kind of a sample
+abbrev pub name_of : Parts → ℕ → List ℕ
+name_of b s = option_map_or (λ (x : Sample). x.name) (slice_get b.samples s) []
+
+abbrev pub kind_of : Parts → ℕ → Kind
+kind_of b s = option_map_or (λ (x : Sample). x.kind) (slice_get b.samples s) Mono
 
 -- the start of a rectangle: its colour, and its tooltip with the sample's name and number
 unfoldable pub title_marks : List ℕ → Rectangle → List Mark
 title_marks name r =
-    Text (codes "<g class='c") ∷ Number (colour r) ∷ Text (codes "'><title>") ∷ Name name
+    Text (codes "<g class='c") ∷ Number (colour r.sample) ∷ Text (codes "'><title>") ∷ Name name
     ∷ Text (codes "\nsample ") ∷ Number r.sample
     ∷ []
 
@@ -135,19 +140,39 @@ box_marks r =
     ∷ Text (codes "'><rect width='100%' height='100%'/>")
     ∷ []
 
--- the vertical position of the name, on one of four lines, so that the names of overlapping zones, such as those of a
--- left and a right sample, can be read
-abbrev pub name_line : Rectangle → ℕ
-name_line r = height r * (1 + (2 * (r.zone % 2) + (unwrap_or r.preset_zone 0 % 2 + (r.zone / 2) % 2) % 2)) / 5
+-- the vertical position of a label in the upper half (0) or the lower half (1): on one of two lines in all
+abbrev pub line_of_two : ℕ → Rectangle → ℕ
+line_of_two half r = height r * (1 + 2 * half) / 4
 
--- a label in a rectangle
-abbrev pub horizontal_marks : Mark → Rectangle → List Mark
-horizontal_marks label r =
-    Text (codes "<text x='50%' y='") ∷ Number (name_line r) ∷ Text (codes "'>") ∷ label ∷ Text (codes "</text>") ∷ []
+-- on one of four lines in all; the zones choose one of the two lines of the half
+abbrev pub line_of_four : ℕ → Rectangle → ℕ
+line_of_four half r = height r * (1 + (2 * half + (unwrap_or r.preset_zone 0 % 2 + (r.zone / 2) % 2) % 2)) / 5
 
-abbrev pub vertical_marks : Mark → Rectangle → List Mark
-vertical_marks label r =
-    Text (codes "<text transform='translate(") ∷ Number (width r / 2) ∷ Text (codes " ") ∷ Number (name_line r)
+-- on one of two lines if four have no space
+abbrev pub side_line : ℕ → Rectangle → ℕ
+side_line half r = if nat_lt (height r) 80 then line_of_two half r else line_of_four half r
+
+-- the vertical position of a label, by the kind of its sample: a left sample's is in the upper half, and a right
+-- sample's in the lower half, since their rectangles overlap; the zone's number chooses the half for others
+abbrev pub label_line : Kind → Rectangle → ℕ
+label_line Mono r = line_of_four (r.zone % 2) r
+label_line (Right link) r = side_line 1 r
+label_line (Left link) r = side_line 0 r
+label_line (Linked link) r = line_of_four (r.zone % 2) r
+
+-- in rectangles of the same area, the label of a left sample is above that of a right sample
+abbrev pub LeftIsAbove : Type 0
+LeftIsAbove = (x y : Rectangle) (s t : ℕ) → has_notes x.area ≡ true → x.area ≡ y.area
+    → label_line (Left s) x < label_line (Right t) y
+
+-- a label on a line of a rectangle
+abbrev pub horizontal_marks : Mark → ℕ → List Mark
+horizontal_marks label line =
+    Text (codes "<text x='50%' y='") ∷ Number line ∷ Text (codes "'>") ∷ label ∷ Text (codes "</text>") ∷ []
+
+abbrev pub vertical_marks : Mark → ℕ → Rectangle → List Mark
+vertical_marks label line r =
+    Text (codes "<text transform='translate(") ∷ Number (width r / 2) ∷ Text (codes " ") ∷ Number line
     ∷ Text (codes ") rotate(-90)'>")
     ∷ label ∷ Text (codes "</text>")
     ∷ []
@@ -163,73 +188,88 @@ is_high r = nat_le 160 (height r)
 abbrev pub is_small : Rectangle → Bool
 is_small r = not (is_wide r || is_high r)
 
--- the number of its sample, along the longer side
-abbrev pub number_marks : Rectangle → List Mark
-number_marks r =
-    if nat_le (height r) (width r) then horizontal_marks (Number r.sample) r else vertical_marks (Number r.sample) r
+-- a number is horizontal if it has space, or if the rectangle isn't higher than wide
+abbrev pub has_horizontal_number : Rectangle → Bool
+has_horizontal_number r = nat_le 20 (width r) || nat_le (height r) (width r)
+
+-- the number of its sample
+abbrev pub number_marks : ℕ → Rectangle → List Mark
+number_marks line r =
+    if has_horizontal_number r then horizontal_marks (Number r.sample) line
+    else vertical_marks (Number r.sample) line r
 
 -- the name of its sample if it has space, else the sample's number, which the legend explains
-unfoldable pub label_marks : List ℕ → Rectangle → List Mark
-label_marks name r =
-    if is_wide r then horizontal_marks (Name name) r
-    else if is_high r then vertical_marks (Name name) r
-    else number_marks r
+unfoldable pub label_marks : List ℕ → ℕ → Rectangle → List Mark
+label_marks name line r =
+    if is_wide r then horizontal_marks (Name name) line
+    else if is_high r then vertical_marks (Name name) line r
+    else number_marks line r
 
 -- a dot on the root key, in the rectangle's colour
 unfoldable pub root_marks : Rectangle → List Mark
 root_marks r =
-    Text (codes "</svg><circle cx='") ∷ Number (65 + 10 * r.root) ∷ Text (codes "' cy='") ∷ Number (577 + 5 * colour r)
+    Text (codes "</svg><circle cx='") ∷ Number (65 + 10 * r.root) ∷ Text (codes "' cy='") ∷ Number (577 + 5 * colour r.sample)
     ∷ Text (codes "' r='3'/></g>\n")
     ∷ []
 
 unfoldable pub drawn : Parts → Rectangle → List ℕ
 drawn b r =
-    marks_text (title_marks (name_of b r) r)
+    marks_text (title_marks (name_of b r.sample) r)
     ++ (marks_text (preset_zone_marks r.preset_zone)
     ++ (marks_text (range_marks r)
     ++ (marks_text (box_marks r)
-    ++ (marks_text (label_marks (name_of b r) r)
+    ++ (marks_text (label_marks (name_of b r.sample) (label_line (kind_of b r.sample) r) r)
     ++ marks_text (root_marks r)))))
 
 -- ---- the legend
 
--- the rectangles that have an entry, each after the number of its entry, from i on: those without space for a name, as
--- long as there are fewer than 1,024 entries
-abbrev pub entries_from : ℕ → List Rectangle → List (ℕ × Rectangle)
-entries_from i rs = enumerate_from i (take (1024 - i) (filter is_small rs))
+-- numbers without repetitions: the first, and then the others
+unfoldable pub distinct : List ℕ → List ℕ
+distinct [] = []
+distinct (s ∷ ss) = s ∷ filter (λ t. not (t == s)) (distinct ss)
 
--- a dot in the rectangle's colour, and the number and the name of its sample; eight entries are on a line
-abbrev pub entry_marks : List ℕ → ℕ → Rectangle → List Mark
-entry_marks name i r =
-    Text (codes "<g class='c") ∷ Number (colour r) ∷ Text (codes "'><circle cx='") ∷ Number (64 + 160 * (i % 8))
+-- the samples of the rectangles without space for a name
+abbrev pub small_samples : List Rectangle → List ℕ
+small_samples rs = map (λ (r : Rectangle). r.sample) (filter is_small rs)
+
+-- the samples that the legend of rectangles names, each once, in order of first appearance: the first 1,024
+abbrev pub legend_samples : List Rectangle → List ℕ
+legend_samples rs = take 1024 (distinct (small_samples rs))
+
+-- a dot in the sample's colour, its number and its name; eight entries are on a line
+abbrev pub entry_marks : List ℕ → ℕ → ℕ → List Mark
+entry_marks name i s =
+    Text (codes "<g class='c") ∷ Number (colour s) ∷ Text (codes "'><circle cx='") ∷ Number (64 + 160 * (i % 8))
     ∷ Text (codes "' cy='") ∷ Number (648 + 16 * (i / 8)) ∷ Text (codes "' r='3'/></g><text x='")
     ∷ Number (72 + 160 * (i % 8)) ∷ Text (codes "' y='") ∷ Number (652 + 16 * (i / 8)) ∷ Text (codes "'>")
-    ∷ Number r.sample ∷ Text (codes " ") ∷ Name name ∷ Text (codes "</text>\n")
+    ∷ Number s ∷ Text (codes " ") ∷ Name name ∷ Text (codes "</text>\n")
     ∷ []
 
-abbrev pub entry : Parts → ℕ × Rectangle → List ℕ
+-- the entry of a sample, after its number
+abbrev pub entry : Parts → ℕ × ℕ → List ℕ
 entry b e = marks_text (entry_marks (name_of b e.1) e.0 e.1)
 
--- the entries of rectangles, from i on
-abbrev pub legend_from : Parts → ℕ → List Rectangle → List ℕ
-legend_from b i rs = flat_map (entry b) (entries_from i rs)
+abbrev pub legend_text : Parts → List ℕ → List ℕ
+legend_text b ss = flat_map (entry b) (enumerate_from 0 ss)
 
--- a rectangle has entry i
-abbrev pub has_entry : ℕ → Rectangle → Bool
-has_entry i r = is_small r && nat_lt i 1024
+-- ---- a legend while rectangles are added
 
--- the number of the entry after those of rectangles, from i on
-abbrev pub entry_after : ℕ → List Rectangle → ℕ
-entry_after i rs = min 1024 (i + length (filter is_small rs))
+-- a sample is not one of ss
+abbrev pub is_new : List ℕ → ℕ → Bool
+is_new ss s = not (list_any (λ t. s == t) ss)
+
+-- the samples of a legend that names ss, after more samples: those that are new follow
+abbrev pub with_samples : List ℕ → List ℕ → List ℕ
+with_samples ss more = take 1024 (ss ++ filter (is_new ss) (distinct more))
 
 -- ---- the picture
 
 unfoldable pub picture : Parts → Owner → List ℕ
 picture b o =
-    marks_text (size_marks (entry_after 0 (rectangles b o)))
+    marks_text (size_marks (length (legend_samples (rectangles b o))))
     ++ (head
     ++ (marks_text (owner_marks b o)
     ++ (frame
     ++ (flat_map (drawn b) (rectangles b o)
-    ++ (legend_from b 0 (rectangles b o)
+    ++ (legend_text b (legend_samples (rectangles b o))
     ++ codes "</svg>\n")))))

@@ -1,24 +1,26 @@
 //! The legend of a picture: the numbers and names of samples whose rectangles have no space for a name.
-ghost use Rattle.std.specs.Prelude.{◌≡◌, ◌<◌, ◌≤◌, []};
-ghost use Rattle.std.specs.List.{flat_map, cons_option};
+ghost use Rattle.std.specs.Prelude.{◌≡◌, ◌<◌, ◌≤◌, [], ◌∷◌, length};
+ghost use Rattle.std.specs.List.{cons_option};
 ghost use Rattle.base_outputs.specs.Output.{Puts};
 ghost use Rattle.bank_changes.specs.declared.members.Owner.TheVariants as owner;
 ghost use Rattle.zone_select.specs.Remaining.{zones_in};
 ghost use Rattle.show_zone_map.specs.Marks.{marks_text};
 ghost use Rattle.show_zone_map.specs.Rectangles.{rectangles, rectangle_at, rectangles_in, rectangles_of_zone};
-ghost use Rattle.show_zone_map.specs.Picture.{picture_height, entry_marks, entry, legend_from, has_entry, entry_after};
-ghost use Rattle.show_zone_map.specs.declared.legend.TheConstants.{MOST};
+ghost use Rattle.show_zone_map.specs.Picture.{picture_height, small_samples, legend_samples, with_samples, entry_marks, legend_text};
 
 use crate::marks::{name, number, put_marks, text};
 use crate::rectangle::{Area, Rectangle, area_of, rectangle_at};
-use crate::shapes::name_of;
+use crate::sample_set::SampleSet;
+use crate::shapes::{colour, name_of};
+use arrayvec::ArrayVec;
 use bank_core::{Bank, Owner};
 use base_outputs::Output;
 use std::io::Write;
+use std::marker::Model;
 use zone_select::zones_in;
 
 /// The most entries of a legend.
-const MOST: u32 = 1024;
+const MOST: usize = 1024;
 
 /// The entries on a line.
 const COLUMNS: u32 = 8;
@@ -40,196 +42,145 @@ pub(crate) fn picture_height(entries: u32) -> u32
     TOP + HEIGHT * ((entries + 7) / COLUMNS)
 }
 
-// ---- counted
+// ---- found
 
-// The number of entries of an owner's legend.
-#[tactic(auto, unfolding(crate::specs::Rectangles::rectangles))]
-pub(crate) fn count_entries(bank: &Bank<'_>, owner: Owner) -> u32
-    ensures value { result ≡ entry_after 0 (rectangles bank.now owner) }
-    ensures within { result ≤ MOST }
-{
-    match owner {
-        Owner::Preset(preset) => count_in_preset(bank, preset),
-        Owner::Inst(instrument) => {
-            count_in_instrument(bank, None, Area::everything(), instrument, 0)
+// The samples that a legend names, in order.
+#[derive(Drop)]
+pub(crate) struct Legend {
+    samples: ArrayVec<u16, MOST>,
+    // The same samples.
+    named: SampleSet,
+}
+
+impl Model for Legend {
+    ghost use Rattle.std.specs.Prelude.{◌≡◌, ℕ, ◌^◌, ◌<◌, ◌==◌, List};
+    ghost use Rattle.std.specs.List.{list_any};
+    ghost use Rattle.show_zone_map.specs.Samples.{has_sample};
+
+    ghost Value = { List ℕ };
+
+    ghost view = { λ legend. legend.samples.items };
+
+    ghost invariant = { λ legend. (s : ℕ) → s < 2 ^ 16
+        → has_sample legend.named.words s ≡ list_any (λ t. s == t) legend.samples.items };
+}
+
+impl Legend {
+    fn new() -> Legend
+        ensures { result ≡ [] }
+    {
+        Legend {
+            samples: ArrayVec::new(),
+            named: SampleSet::new(),
         }
     }
-}
 
-fn count_in_preset(bank: &Bank<'_>, preset: u32) -> u32
-    ensures value { result ≡ entry_after 0 (rectangles bank.now (owner.Preset preset)) }
-    ensures within { result ≤ MOST }
-{
-    let owner = Owner::Preset(preset);
-    let mut entries = 0;
-    for zone in 0..zones_in(bank, owner) {
-        entries = count_in_preset_zone(bank, preset, zone, entries);
+    // Adds a sample, unless the legend names it or is full.
+    fn add(&mut self, sample: u16)
+        requires { length self.old ≤ MOST }
+        ensures { self.new ≡ with_samples self.old (sample ∷ []) }
+    {
+        if self.named.contains(sample) || self.samples.is_full() {
+            return;
+        }
+        self.named.insert(sample);
+        self.samples.push(sample);
     }
-    entries
+
+    pub(crate) fn samples(&self) -> &[u16]
+        ensures { result.now ≡ self.now }
+    {
+        &self.samples
+    }
 }
 
-// The number of the entry after those of a preset's zone.
-fn count_in_preset_zone(bank: &Bank<'_>, preset: u32, zone: u32, entries: u32) -> u32
-    requires zone { zone < zones_in bank.now (owner.Preset preset) }
-    requires within { entries ≤ MOST }
-    ensures value { result ≡ entry_after entries (rectangles_of_zone bank.now preset zone) }
-    ensures within { result ≤ MOST }
+// The legend of an owner's picture.
+#[tactic(auto, unfolding(crate::specs::Rectangles::rectangles))]
+pub(crate) fn legend_of(bank: &Bank<'_>, owner: Owner) -> Legend
+    ensures { result ≡ legend_samples (rectangles bank.now owner) }
+{
+    let mut legend = Legend::new();
+    match owner {
+        Owner::Preset(preset) => add_preset(bank, preset, &mut legend),
+        Owner::Inst(instrument) => {
+            add_instrument(bank, None, Area::everything(), instrument, &mut legend);
+        }
+    }
+    legend
+}
+
+fn add_preset(bank: &Bank<'_>, preset: u32, legend: &mut Legend)
+    requires { length legend.old ≤ MOST }
+    ensures { legend.new ≡ with_samples legend.old (small_samples (rectangles bank.now (owner.Preset preset))) }
 {
     let owner = Owner::Preset(preset);
-    let Some(instrument) = bank.target(owner, zone) else {
-        return entries;
-    };
-    let area = area_of(bank, owner, zone);
-    count_in_instrument(bank, Some(zone), area, u32::from(instrument), entries)
+    for zone in 0..zones_in(bank, owner) {
+        add_preset_zone(bank, preset, zone, legend);
+    }
 }
 
-fn count_in_instrument(
+fn add_preset_zone(bank: &Bank<'_>, preset: u32, zone: u32, legend: &mut Legend)
+    requires zone { zone < zones_in bank.now (owner.Preset preset) }
+    requires within { length legend.old ≤ MOST }
+    ensures { legend.new ≡ with_samples legend.old (small_samples (rectangles_of_zone bank.now preset zone)) }
+{
+    let owner = Owner::Preset(preset);
+    if let Some(instrument) = bank.target(owner, zone) {
+        let area = area_of(bank, owner, zone);
+        add_instrument(bank, Some(zone), area, u32::from(instrument), legend);
+    }
+}
+
+// Adds the samples of an instrument's zones within an area.
+fn add_instrument(
     bank: &Bank<'_>,
     preset_zone: Option<u32>,
     area: Area,
     instrument: u32,
-    before: u32,
-) -> u32
-    requires { before ≤ MOST }
-    ensures value { result ≡ entry_after before (rectangles_in bank.now preset_zone area instrument) }
-    ensures within { result ≤ MOST }
+    legend: &mut Legend,
+)
+    requires { length legend.old ≤ MOST }
+    ensures { legend.new ≡ with_samples legend.old (small_samples (rectangles_in bank.now preset_zone area instrument)) }
 {
-    let mut entries = before;
     for zone in 0..zones_in(bank, Owner::Inst(instrument)) {
         let rectangle = rectangle_at(bank, preset_zone, area, instrument, zone);
-        entries = next_entry(rectangle, entries);
+        add_rectangle(rectangle, legend);
     }
-    entries
 }
 
-// The number of the entry after that of a rectangle, if there is one and it has an entry.
-fn next_entry(rectangle: Option<Rectangle>, entries: u32) -> u32
-    requires { entries ≤ MOST }
-    ensures value { result ≡ entry_after entries (cons_option rectangle []) }
-    ensures within { result ≤ MOST }
+// Adds the sample of a rectangle, if there is one and it has no space for a name.
+fn add_rectangle(rectangle: Option<Rectangle>, legend: &mut Legend)
+    requires { length legend.old ≤ MOST }
+    ensures { legend.new ≡ with_samples legend.old (small_samples (cons_option rectangle [])) }
 {
-    match rectangle {
-        Some(rectangle) => {
-            if has_entry(&rectangle, entries) {
-                entries + 1
-            } else {
-                entries
-            }
+    if let Some(rectangle) = rectangle {
+        if rectangle.is_small() {
+            legend.add(rectangle.sample);
         }
-        None => entries,
     }
-}
-
-// Whether a rectangle has the entry with this number.
-fn has_entry(rectangle: &Rectangle, entry: u32) -> bool
-    ensures { result ≡ has_entry entry rectangle.now }
-{
-    rectangle.is_small() && entry < MOST
 }
 
 // ---- written
 
-// Writes the legend of an owner's picture.
-#[tactic(auto, unfolding(crate::specs::Rectangles::rectangles))]
-pub(crate) fn put_legend<W: Write>(bank: &Bank<'_>, owner: Owner, output: &mut Output<'_, W>)
-    ensures { Puts W.contents output.old output.new (legend_from bank.now 0 (rectangles bank.now owner)) }
+// Writes the legend of these samples.
+pub(crate) fn put_legend<W: Write>(bank: &Bank<'_>, samples: &[u16], output: &mut Output<'_, W>)
+    requires { length samples.now ≤ MOST }
+    ensures { Puts W.contents output.old output.new (legend_text bank.now samples.now) }
 {
-    match owner {
-        Owner::Preset(preset) => put_preset_entries(bank, preset, output),
-        Owner::Inst(instrument) => {
-            put_entries(bank, None, Area::everything(), instrument, 0, output);
-        }
+    for (entry, sample) in samples.iter().enumerate() {
+        put_entry(name_of(bank, *sample), entry as u32, *sample, output);
     }
 }
 
-fn put_preset_entries<W: Write>(bank: &Bank<'_>, preset: u32, output: &mut Output<'_, W>)
-    ensures { Puts W.contents output.old output.new (legend_from bank.now 0 (rectangles bank.now (owner.Preset preset))) }
-{
-    let owner = Owner::Preset(preset);
-    let mut entries = 0;
-    for zone in 0..zones_in(bank, owner) {
-        entries = put_zone_entries(bank, preset, zone, entries, output);
-    }
-}
-
-// Writes the entries of a preset's zone, and returns the number of the next entry.
-fn put_zone_entries<W: Write>(
-    bank: &Bank<'_>,
-    preset: u32,
-    zone: u32,
-    entries: u32,
-    output: &mut Output<'_, W>,
-) -> u32
-    requires zone { zone < zones_in bank.now (owner.Preset preset) }
-    requires within { entries ≤ MOST }
-    ensures text { Puts W.contents output.old output.new (legend_from bank.now entries (rectangles_of_zone bank.now preset zone)) }
-    ensures value { result ≡ entry_after entries (rectangles_of_zone bank.now preset zone) }
-    ensures within { result ≤ MOST }
-{
-    let owner = Owner::Preset(preset);
-    let Some(instrument) = bank.target(owner, zone) else {
-        return entries;
-    };
-    let area = area_of(bank, owner, zone);
-    put_entries(
-        bank,
-        Some(zone),
-        area,
-        u32::from(instrument),
-        entries,
-        output,
-    )
-}
-
-// Writes the entries of an instrument's zones within an area, and returns the number of the next entry.
-fn put_entries<W: Write>(
-    bank: &Bank<'_>,
-    preset_zone: Option<u32>,
-    area: Area,
-    instrument: u32,
-    before: u32,
-    output: &mut Output<'_, W>,
-) -> u32
-    requires { before ≤ MOST }
-    ensures text { Puts W.contents output.old output.new (legend_from bank.now before (rectangles_in bank.now preset_zone area instrument)) }
-    ensures value { result ≡ entry_after before (rectangles_in bank.now preset_zone area instrument) }
-    ensures within { result ≤ MOST }
-{
-    let mut entries = before;
-    for zone in 0..zones_in(bank, Owner::Inst(instrument)) {
-        let rectangle = rectangle_at(bank, preset_zone, area, instrument, zone);
-        put_entry_of(bank, rectangle, entries, output);
-        entries = next_entry(rectangle, entries);
-    }
-    entries
-}
-
-// Writes the entry of a rectangle, if there is one and it has an entry.
-fn put_entry_of<W: Write>(
-    bank: &Bank<'_>,
-    rectangle: Option<Rectangle>,
-    entries: u32,
-    output: &mut Output<'_, W>,
-)
-    requires { entries ≤ MOST }
-    ensures { Puts W.contents output.old output.new (legend_from bank.now entries (cons_option rectangle [])) }
-{
-    if let Some(rectangle) = rectangle {
-        if has_entry(&rectangle, entries) {
-            put_entry(name_of(bank, &rectangle), entries, &rectangle, output);
-        }
-    }
-}
-
-fn put_entry<W: Write>(sample: &[u8], entry: u32, rectangle: &Rectangle, output: &mut Output<'_, W>)
+fn put_entry<W: Write>(sample_name: &[u8], entry: u32, sample: u16, output: &mut Output<'_, W>)
     requires { entry < MOST }
-    ensures { Puts W.contents output.old output.new (marks_text (entry_marks sample.now entry rectangle.now)) }
+    ensures { Puts W.contents output.old output.new (marks_text (entry_marks sample_name.now entry sample)) }
 {
     let left = WIDTH * (entry % COLUMNS);
     let top = HEIGHT * (entry / COLUMNS);
     let marks = [
         text(b"<g class='c"),
-        number(rectangle.colour()),
+        number(colour(sample)),
         text(b"'><circle cx='"),
         number(64 + left),
         text(b"' cy='"),
@@ -239,9 +190,9 @@ fn put_entry<W: Write>(sample: &[u8], entry: u32, rectangle: &Rectangle, output:
         text(b"' y='"),
         number(652 + top),
         text(b"'>"),
-        number(u32::from(rectangle.sample)),
+        number(u32::from(sample)),
         text(b" "),
-        name(sample),
+        name(sample_name),
         text(b"</text>\n"),
     ];
     put_marks(&marks, output);

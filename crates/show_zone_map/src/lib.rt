@@ -6,8 +6,9 @@ mod legend;
 mod map;
 pub mod marks;
 mod rectangle;
+mod sample_set;
 mod shapes;
 
-pub use laws::rectangles_select;
+pub use laws::{labels_are_apart, rectangles_select};
 pub use map::ZoneMap;
 pub use rectangle::{Area, Rectangle, zone_rectangle};

@@ -8,7 +8,7 @@ ghost use Rattle.show_zone_map.specs.Marks.{marks_text};
 ghost use Rattle.show_zone_map.specs.Rectangles.{rectangles, rectangle_at, rectangles_in, rectangles_of_zone};
 ghost use Rattle.show_zone_map.specs.Picture.{size_marks, head, frame, owner_line, owner_marks, drawn, picture};
 
-use crate::legend::{count_entries, picture_height, put_legend};
+use crate::legend::{legend_of, picture_height, put_legend};
 use crate::marks::{name, number, put_marks, text};
 use crate::rectangle::{Area, area_of, rectangle_at};
 use crate::shapes::put_rectangle;
@@ -59,9 +59,10 @@ const FRAME: &[u8] =
 /// Keys run from left to right, over a keyboard on which key 60 is C4, and velocities from bottom to top. An instrument
 /// has a rectangle for each zone: its own ranges, else its global zone's, else 0 to 127. A preset has one for each of
 /// its zones with each zone of its instrument: the intersection of their ranges. A rectangle's colour depends on the
-/// number of its sample; a dot in that colour marks the root key; the tooltip has all numbers. A rectangle without space
-/// for its sample's name has the sample's number, and a legend below the keyboard has the number and the name, for up to
-/// 1,024 such rectangles.
+/// number of its sample; a dot in that colour marks the root key; the tooltip has all numbers. A left sample's label is in
+/// the upper half of its rectangle, and a right sample's in the lower half. A rectangle without space for its sample's
+/// name has the sample's number. A legend below the keyboard has the numbers and names of the samples of such rectangles,
+/// each once, in the order of their first ones; at most 1,024.
 ///
 /// If the owner doesn't exist, the picture is empty.
 #[derive(Clone, Copy)]
@@ -74,12 +75,14 @@ impl Text for ZoneMap<'_, '_> {
     ghost bytes = { λ map. picture map.bank.now map.owner };
 
     fn put<W: Write>(&self, output: &mut Output<'_, W>) {
-        put_size(count_entries(self.bank, self.owner), output);
+        let legend = legend_of(self.bank, self.owner);
+        let samples = legend.samples();
+        put_size(samples.len() as u32, output);
         put_head(output);
         put_owner(self.bank, self.owner, output);
         put_frame(output);
         put_rectangles(self.bank, self.owner, output);
-        put_legend(self.bank, self.owner, output);
+        put_legend(self.bank, samples, output);
         output.put(b"</svg>\n");
     }
 }

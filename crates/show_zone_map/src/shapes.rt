@@ -4,11 +4,12 @@ ghost use Rattle.std.specs.Prelude.{◌≡◌, ◌≤◌, length, slice_get};
 ghost use Rattle.base_outputs.specs.Output.{Puts};
 ghost use Rattle.generators.specs.declared.range.Range.{Range};
 ghost use Rattle.show_zone_map.specs.Marks.{marks_text};
-ghost use Rattle.show_zone_map.specs.Picture.{count, left, top, width, height, colour, name_of, title_marks, preset_zone_marks, range_marks, box_marks, name_line, horizontal_marks, vertical_marks, is_wide, is_high, is_small, number_marks, label_marks, root_marks, drawn};
+ghost use Rattle.show_zone_map.specs.Picture.{count, left, top, width, height, colour, name_of, kind_of, title_marks, preset_zone_marks, range_marks, box_marks, line_of_two, line_of_four, side_line, label_line, horizontal_marks, vertical_marks, is_wide, is_high, is_small, has_horizontal_number, number_marks, label_marks, root_marks, drawn};
 
 use crate::marks::{Mark, name, number, put_marks, text};
 use crate::rectangle::Rectangle;
 use bank_core::Bank;
+use bank_parts::Kind;
 use base_outputs::Output;
 use generators::Range;
 use std::io::Write;
@@ -25,11 +26,22 @@ const MARGIN: u32 = 60;
 /// The width from which a rectangle has a horizontal name.
 const NAME_LENGTH: u32 = 120;
 
+/// The width from which it has a horizontal number: that of four digits.
+const NUMBER_LENGTH: u32 = 20;
+
 /// The height of four lines of names.
 const NAME_HEIGHT: u32 = 24;
 
+/// The height from which numbers of three digits, also vertical ones, have space on four lines.
+const FOUR_LINES: u32 = 80;
+
 /// The height from which a rectangle has a vertical name.
 const TURNED_LENGTH: u32 = 160;
+
+/// The halves of a rectangle.
+const UPPER: u32 = 0;
+
+const LOWER: u32 = 1;
 
 // The number of values in a range.
 fn count(range: Range) -> u32
@@ -65,20 +77,36 @@ impl Rectangle {
         VELOCITY * count(self.area.velocities)
     }
 
-    // The index of one of seven colours.
-    pub(crate) fn colour(&self) -> u32
-        ensures value { result ≡ colour self.now }
-        ensures within { result ≤ 6 }
+    // The vertical position of the label, by the kind of its sample.
+    fn label_line(&self, kind: Kind) -> u32
+        ensures { result ≡ label_line kind self.now }
     {
-        u32::from(self.sample) % 7
+        match kind {
+            Kind::Left(_) => self.side_line(UPPER),
+            Kind::Right(_) => self.side_line(LOWER),
+            Kind::Mono | Kind::Linked(_) => self.line_of_four(self.zone % 2),
+        }
     }
 
-    // The vertical position of the name, on one of four lines.
-    fn name_line(&self) -> u32
-        ensures { result ≡ name_line self.now }
+    // The vertical position of a label in one half.
+    fn side_line(&self, half: u32) -> u32
+        requires { half ≤ LOWER }
+        ensures { result ≡ side_line half self.now }
+    {
+        if self.height() < FOUR_LINES {
+            self.height() * (1 + 2 * half) / 4
+        } else {
+            self.line_of_four(half)
+        }
+    }
+
+    // The same, on one of two lines in each half.
+    fn line_of_four(&self, half: u32) -> u32
+        requires { half ≤ LOWER }
+        ensures { result ≡ line_of_four half self.now }
     {
         let layer = self.preset_zone.unwrap_or(0) % 2;
-        let line = 2 * (self.zone % 2) + (layer + self.zone / 2 % 2) % 2;
+        let line = 2 * half + (layer + self.zone / 2 % 2) % 2;
         self.height() * (1 + line) / 5
     }
 
@@ -96,6 +124,13 @@ impl Rectangle {
         self.height() >= TURNED_LENGTH
     }
 
+    // Whether a number is horizontal.
+    fn has_horizontal_number(&self) -> bool
+        ensures { result ≡ has_horizontal_number self.now }
+    {
+        self.width() >= NUMBER_LENGTH || self.height() <= self.width()
+    }
+
     // Whether no name has space.
     pub(crate) fn is_small(&self) -> bool
         ensures { result ≡ is_small self.now }
@@ -104,13 +139,31 @@ impl Rectangle {
     }
 }
 
-// The name of the rectangle's sample.
-pub(crate) fn name_of<'b>(bank: &'b Bank<'_>, rectangle: &Rectangle) -> &'b [u8]
-    ensures { result.now ≡ name_of bank.now rectangle.now }
+// The index of one of seven colours.
+pub(crate) fn colour(sample: u16) -> u32
+    ensures value { result ≡ colour sample }
+    ensures within { result ≤ 6 }
 {
-    match bank.sample(u32::from(rectangle.sample)) {
+    u32::from(sample) % 7
+}
+
+// The name of a sample; empty if there is no such sample.
+pub(crate) fn name_of<'b>(bank: &'b Bank<'_>, sample: u16) -> &'b [u8]
+    ensures { result.now ≡ name_of bank.now sample }
+{
+    match bank.sample(u32::from(sample)) {
         Some(sample) => sample.name.bytes(),
         None => b"",
+    }
+}
+
+// The kind of a sample; mono if there is no such sample.
+fn kind_of(bank: &Bank<'_>, sample: u16) -> Kind
+    ensures { result ≡ kind_of bank.now sample }
+{
+    match bank.sample(u32::from(sample)) {
+        Some(sample) => sample.kind,
+        None => Kind::Mono,
     }
 }
 
@@ -122,12 +175,13 @@ pub(crate) fn put_rectangle<W: Write>(
 )
     ensures { Puts W.contents output.old output.new (drawn bank.now rectangle.now) }
 {
-    let name = name_of(bank, rectangle);
+    let name = name_of(bank, rectangle.sample);
+    let line = rectangle.label_line(kind_of(bank, rectangle.sample));
     put_title(name, rectangle, output);
     put_preset_zone(rectangle.preset_zone, output);
     put_ranges(rectangle, output);
     put_box(rectangle, output);
-    put_label(name, rectangle, output);
+    put_label(name, line, rectangle, output);
     put_root(rectangle, output);
 }
 
@@ -137,7 +191,7 @@ fn put_title<W: Write>(sample: &[u8], rectangle: &Rectangle, output: &mut Output
 {
     let marks = [
         text(b"<g class='c"),
-        number(rectangle.colour()),
+        number(colour(rectangle.sample)),
         text(b"'><title>"),
         name(sample),
         text(b"\nsample "),
@@ -197,36 +251,36 @@ fn put_box<W: Write>(rectangle: &Rectangle, output: &mut Output<'_, W>)
 
 // Writes the name of the sample if it has space, else the sample's number.
 #[tactic(auto, unfolding(crate::specs::Picture::label_marks))]
-fn put_label<W: Write>(sample: &[u8], rectangle: &Rectangle, output: &mut Output<'_, W>)
-    ensures { Puts W.contents output.old output.new (marks_text (label_marks sample.now rectangle.now)) }
+fn put_label<W: Write>(sample: &[u8], line: u32, rectangle: &Rectangle, output: &mut Output<'_, W>)
+    ensures { Puts W.contents output.old output.new (marks_text (label_marks sample.now line rectangle.now)) }
 {
     if rectangle.is_wide() {
-        put_horizontal(name(sample), rectangle, output);
+        put_horizontal(name(sample), line, output);
     } else if rectangle.is_high() {
-        put_vertical(name(sample), rectangle, output);
+        put_vertical(name(sample), line, rectangle, output);
     } else {
-        put_number(rectangle, output);
+        put_number(line, rectangle, output);
     }
 }
 
-// Writes the sample's number along the longer side.
-fn put_number<W: Write>(rectangle: &Rectangle, output: &mut Output<'_, W>)
-    ensures { Puts W.contents output.old output.new (marks_text (number_marks rectangle.now)) }
+// Writes the sample's number, horizontally if it has space or the rectangle isn't higher than wide.
+fn put_number<W: Write>(line: u32, rectangle: &Rectangle, output: &mut Output<'_, W>)
+    ensures { Puts W.contents output.old output.new (marks_text (number_marks line rectangle.now)) }
 {
     let sample = number(u32::from(rectangle.sample));
-    if rectangle.height() <= rectangle.width() {
-        put_horizontal(sample, rectangle, output);
+    if rectangle.has_horizontal_number() {
+        put_horizontal(sample, line, output);
     } else {
-        put_vertical(sample, rectangle, output);
+        put_vertical(sample, line, rectangle, output);
     }
 }
 
-fn put_horizontal<W: Write>(label: Mark<'_>, rectangle: &Rectangle, output: &mut Output<'_, W>)
-    ensures { Puts W.contents output.old output.new (marks_text (horizontal_marks label.entry rectangle.now)) }
+fn put_horizontal<W: Write>(label: Mark<'_>, line: u32, output: &mut Output<'_, W>)
+    ensures { Puts W.contents output.old output.new (marks_text (horizontal_marks label.entry line)) }
 {
     let marks = [
         text(b"<text x='50%' y='"),
-        number(rectangle.name_line()),
+        number(line),
         text(b"'>"),
         label,
         text(b"</text>"),
@@ -234,14 +288,19 @@ fn put_horizontal<W: Write>(label: Mark<'_>, rectangle: &Rectangle, output: &mut
     put_marks(&marks, output);
 }
 
-fn put_vertical<W: Write>(label: Mark<'_>, rectangle: &Rectangle, output: &mut Output<'_, W>)
-    ensures { Puts W.contents output.old output.new (marks_text (vertical_marks label.entry rectangle.now)) }
+fn put_vertical<W: Write>(
+    label: Mark<'_>,
+    line: u32,
+    rectangle: &Rectangle,
+    output: &mut Output<'_, W>,
+)
+    ensures { Puts W.contents output.old output.new (marks_text (vertical_marks label.entry line rectangle.now)) }
 {
     let marks = [
         text(b"<text transform='translate("),
         number(rectangle.width() / 2),
         text(b" "),
-        number(rectangle.name_line()),
+        number(line),
         text(b") rotate(-90)'>"),
         label,
         text(b"</text>"),
@@ -258,7 +317,7 @@ fn put_root<W: Write>(rectangle: &Rectangle, output: &mut Output<'_, W>)
         text(b"</svg><circle cx='"),
         number(65 + KEY * u32::from(rectangle.root)),
         text(b"' cy='"),
-        number(577 + 5 * rectangle.colour()),
+        number(577 + 5 * colour(rectangle.sample)),
         text(b"' r='3'/></g>\n"),
     ];
     put_marks(&marks, output);

@@ -8,7 +8,6 @@ returns g c =
       c.width.ensures,
       c.text-2.ensures,
       c.number-2.ensures,
-      c.name_line.ensures,
       c.text-3.ensures,
       c.text-4.ensures,
     )
