@@ -12,6 +12,10 @@ from k n = range_with_len k (n - k)
 pub all_from : (n : ℕ) → numbers n ≡ from 0 n
 all_from n = let e : n - 0 ≡ n = omega arith in rw e refl
 
+-- the first of these numbers, and the others
+pub from_on : (k n : ℕ) → k < n → from k n ≡ k ∷ from (k + 1) n
+from_on k n h = let e : n - k ≡ suc (n - (k + 1)) = omega (arith, h) in rw e refl
+
 module _ {X : Type 0} where
   -- what is still to be added to the list, after another part of it
   pub gathered_more : (old whole now more rest next : List X) → old ++ whole ≡ now ++ (more ++ rest)

@@ -8,17 +8,17 @@ use sf_base::OutOfMemory;
 use std::alloc::Global;
 use zone_select::zones_in;
 
-/// Appends the generators of global zones that each zone of the owner sets too.
-pub(crate) fn push_overridden_generators(
+/// The generators of global zones that each zone of the owner sets too.
+pub(crate) fn overridden_generators(
     alloc: Global,
     bank: &Bank<'_>,
-    found: &mut Vec<Finding>,
-) -> Result<(), OutOfMemory> {
+) -> Result<Vec<Finding>, OutOfMemory> {
+    let mut found = Vec::new(alloc);
     let owners = owners_of(alloc, bank)?;
     for owner in owners.as_slice() {
-        push_overridden_of(bank, *owner, found)?;
+        push_overridden_of(bank, *owner, &mut found)?;
     }
-    Ok(())
+    Ok(found)
 }
 
 fn push_overridden_of(
