@@ -1,5 +1,6 @@
 -- Clipped points, counted point by point and in runs.
-use Rattle.std.proofs.Common.{◌≡◌, ◌<◌, ◌≤◌, ◌+◌, ℕ, zero, suc, List, [], ◌∷◌, ◌++◌, length, replicate, refl, ap, ◌∙◌, sym, arith}
+use Rattle.std.proofs.Common.{◌≡◌, ◌<◌, ◌≤◌, ◌+◌, ℕ, zero, suc, List, [], ◌∷◌, ◌++◌, length, replicate, refl, ap, ◌∙◌}
+use Rattle.std.proofs.Common.{sym, arith}
 use Rattle.std.proofs.Common.{Bool, true, false, cond, ◌&&◌, not, subst}
 use Rattle.std.specs.Prelude.{◌==◌, ◌^◌, nat_lt, nat_le}
 use Rattle.std.specs.List.{fold, sum_by}

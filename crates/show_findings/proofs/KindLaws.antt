@@ -1,5 +1,6 @@
 -- The findings of a kind among all.
-use Rattle.std.proofs.Common.{◌≡◌, ◌<◌, ◌+◌, ℕ, zero, suc, get_or, List, [], ◌∷◌, ◌++◌, refl, sym, ap, ◌∙◌, arith, Bool, true, false, cond, ◌||◌, ◌&&◌, length, take}
+use Rattle.std.proofs.Common.{◌≡◌, ◌<◌, ◌+◌, ℕ, zero, suc, get_or, List, [], ◌∷◌, ◌++◌, refl, sym, ap, ◌∙◌, arith}
+use Rattle.std.proofs.Common.{Bool, true, false, cond, ◌||◌, ◌&&◌, length, take}
 use Rattle.std.proofs.Common.{Option, Some, None, append_assoc}
 use Rattle.std.specs.Prelude.{◌==◌, ◌-◌, nat_lt, slice_get, IfSome}
 use Rattle.std.specs.List.{filter, filter_map, flat_map, cons_option}
@@ -10,12 +11,15 @@ use Rattle.std.proofs.lemmas.List.Elements.{filter-append}
 use Rattle.bank_parts.specs.declared.parts.Head.{Head}
 use Rattle.bank_parts.specs.declared.parts.Sample.{Sample}
 use Rattle.bank_parts.specs.declared.parts.Parts.{Parts}
+use Rattle.bank_changes.specs.declared.members.Place.TheVariants as place
 use Rattle.bank_changes.specs.Members.{head_of}
+use Rattle.zone_select.specs.Remaining.{zones_in}
 use Rattle.show_zone_map.specs.Rectangles.{zone_numbers}
 use Rattle.show_findings.specs.declared.finding.Finding.{Finding}
 use Rattle.show_findings.specs.declared.finding.Finding.TheVariants.{HiddenPreset, UnselectableZone, UnusedInstrument}
 use Rattle.show_findings.specs.declared.finding.Finding.TheVariants.{UnusedSample, OneSidedLink, ShortLoop, UnusualRate}
-use Rattle.show_findings.specs.declared.finding.Finding.TheVariants.{ClickingLoop, ClippedSample, SilentSample, OffsetSample}
+use Rattle.show_findings.specs.declared.finding.Finding.TheVariants.{ClickingLoop, ClippedSample, SilentSample}
+use Rattle.show_findings.specs.declared.finding.Finding.TheVariants.{OffsetSample, OverriddenGenerator}
 use Rattle.show_findings.specs.Numbers.{numbers, preset_owners, instrument_owners, owners}
 use Rattle.show_findings.specs.Presets.{has_numbers_of, first_preset, hidden_preset, hidden_presets}
 use Rattle.show_findings.specs.Zones.{is_selectable, unselectable_zone, unselectable_zones}
@@ -24,8 +28,10 @@ use Rattle.show_findings.specs.Uses.{unused_samples}
 use Rattle.show_findings.specs.Samples.{in_samples, side_link, links_to, one_sided_link, one_sided_links, short_loop}
 use Rattle.show_findings.specs.Samples.{short_loops, is_usual_rate, unusual_rate, unusual_rates}
 use Rattle.show_findings.specs.Clicks.{is_within, clicks, loop_jump, loop_step, clicking_loop}
-use Rattle.show_findings.specs.Points.{is_silent, silent_sample, clipped_points, clipped_sample, mean_of, has_offset, offset_sample}
+use Rattle.show_findings.specs.Points.{is_silent, silent_sample, clipped_points, clipped_sample, mean_of, has_offset}
+use Rattle.show_findings.specs.Points.{offset_sample}
 use Rattle.show_findings.specs.Samples.{clicking_loops, clipped_samples, silent_samples, offset_samples}
+use Rattle.show_findings.specs.Overridden.{entries_of, is_set_by_all, overridden_generator, overridden_generators}
 use Rattle.show_findings.specs.Kinds.{kind_of, OfKind, AddsKind}
 
 abbrev of : ℕ → List Finding → List Finding
@@ -238,3 +244,12 @@ unfolding offset_samples kind_of
 offset_kinds b =
     in_samples_kind 13 offset_sample b
     (λ k s. passed 13 (has_offset s.points) (OffsetSample k (mean_of s.points)) refl)
+
+pub overridden_kinds : (b : Parts) → OfKind 5 (overridden_generators b)
+unfolding overridden_generators kind_of
+overridden_kinds b =
+    lists_kind 5 (λ o. filter_map (overridden_generator b o) (entries_of b o place.Global))
+    (λ o. options_kind 5 (overridden_generator b o)
+    (λ e. passed 5 (nat_lt 0 (zones_in b o) && is_set_by_all b o e.0) (OverriddenGenerator o e.0) refl)
+    (entries_of b o place.Global))
+    (owners b)

@@ -9,11 +9,14 @@ use Rattle.show_findings.specs.Kinds.{kind_of, AddsKind}
 use Rattle.show_findings.specs.Presets.{hidden_presets}
 use Rattle.show_findings.specs.Zones.{unselectable_zones}
 use Rattle.show_findings.specs.Uses.{unused_instruments, unused_samples}
+use Rattle.show_findings.specs.Overridden.{overridden_generators}
 use Rattle.show_findings.specs.Samples.{one_sided_links, short_loops, clicking_loops, unusual_rates}
 use Rattle.show_findings.specs.Samples.{clipped_samples, silent_samples, offset_samples}
 use Rattle.show_findings.specs.Findings.{AreFindings, unused_findings, AddsZoneFindings, sample_findings}
-use Rattle.show_findings.proofs.KindLaws.{all_of, ByKind, listed, hidden_kinds, zone_kinds, instrument_kinds, sample_kinds}
-use Rattle.show_findings.proofs.KindLaws.{link_kinds, loop_kinds, click_kinds, rate_kinds, clipped_kinds, silent_kinds}
+use Rattle.show_findings.proofs.KindLaws.{all_of, ByKind, listed, hidden_kinds, zone_kinds, instrument_kinds}
+use Rattle.show_findings.proofs.KindLaws.{sample_kinds}
+use Rattle.show_findings.proofs.KindLaws.{overridden_kinds, link_kinds, loop_kinds, click_kinds, rate_kinds}
+use Rattle.show_findings.proofs.KindLaws.{clipped_kinds, silent_kinds}
 use Rattle.show_findings.proofs.KindLaws.{offset_kinds}
 
 module _ (b : Parts) (none unused zones samples all : List Finding) (empty : none ≡ [])
@@ -21,7 +24,8 @@ module _ (b : Parts) (none unused zones samples all : List Finding) (empty : non
     (more : samples ≡ zones ++ sample_findings b) (p : AddsKind 14 samples all) where
   abbrev lists : List (List Finding)
   lists =
-      hidden_presets b ∷ unselectable_zones b ∷ unused_instruments b ∷ unused_samples b ∷ z.keys ∷ z.overridden
+      hidden_presets b ∷ unselectable_zones b ∷ unused_instruments b ∷ unused_samples b ∷ z.keys
+      ∷ overridden_generators b
       ∷ z.outside ∷ one_sided_links b ∷ short_loops b ∷ clicking_loops b ∷ unusual_rates b ∷ clipped_samples b
       ∷ silent_samples b ∷ offset_samples b ∷ p.more
       ∷ []
@@ -38,7 +42,7 @@ module _ (b : Parts) (none unused zones samples all : List Finding) (empty : non
           (
             z.are_keys,
             (
-              z.are_overridden,
+              overridden_kinds b,
               (
                 z.are_outside,
                 (
@@ -69,7 +73,7 @@ module _ (b : Parts) (none unused zones samples all : List Finding) (empty : non
       (more
       ∙ ap (λ (fs : List Finding). fs ++ sample_findings b)
       (z.is
-      ∙ ap (λ (fs : List Finding). fs ++ (z.keys ++ (z.overridden ++ z.outside)))
+      ∙ ap (λ (fs : List Finding). fs ++ (z.keys ++ (overridden_generators b ++ z.outside)))
       (adds ∙ ap (λ (fs : List Finding). fs ++ unused_findings b) empty)))
       ∙ simp (append_assoc, append-nil)
 
@@ -85,6 +89,7 @@ module _ (b : Parts) (none unused zones samples all : List Finding) (empty : non
     unselectable_zones = kind 1;
     unused_instruments = kind 2;
     unused_samples = kind 3;
+    overridden_generators = kind 5;
     one_sided_links = kind 7;
     short_loops = kind 8;
     clicking_loops = kind 9;

@@ -1,6 +1,8 @@
 -- One pass over points, and what it finds.
-use Rattle.std.proofs.Common.{◌≡◌, ◌<◌, ◌≤◌, suc, ◌+◌, ◌*◌, ◌/◌, ℕ, List, [], ◌∷◌, length, take, map, get_or, refl, subst, ap, ◌∙◌, sym, arith, to_z, of_z}
-use Rattle.std.specs.Prelude.{cond, ◌&&◌, nat_le, nat_lt, unsigned_abs, int_div, Some, None, ℤ, pos, negsuc, ◌+ℤ◌, ◌^◌, FitsSigned}
+use Rattle.std.proofs.Common.{◌≡◌, ◌<◌, ◌≤◌, suc, ◌+◌, ◌*◌, ◌/◌, ℕ, List, [], ◌∷◌, length, take, map, get_or, refl}
+use Rattle.std.proofs.Common.{subst, ap, ◌∙◌, sym, arith, to_z, of_z}
+use Rattle.std.specs.Prelude.{cond, ◌&&◌, nat_le, nat_lt, unsigned_abs, int_div, Some, None, ℤ, pos, negsuc, ◌+ℤ◌, ◌^◌}
+use Rattle.std.specs.Prelude.{FitsSigned}
 use Rattle.std.specs.Int.{w16, w32, w64, cast_signed, int_wrap}
 use Rattle.std.specs.Borrow.{Bor}
 use Rattle.std.specs.List.{fold}

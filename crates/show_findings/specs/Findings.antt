@@ -4,11 +4,13 @@ use Rattle.std.specs.List.{filter}
 use Rattle.bank_parts.specs.declared.parts.Parts.{Parts}
 use Rattle.show_findings.specs.declared.finding.Finding.{Finding}
 use Rattle.show_findings.specs.Kinds.{is_hidden_preset, is_unselectable_zone, is_unused_instrument, is_unused_sample}
-use Rattle.show_findings.specs.Kinds.{is_one_sided_link, is_short_loop, is_clicking_loop, is_unusual_rate}
+use Rattle.show_findings.specs.Kinds.{is_overridden_generator, is_one_sided_link, is_short_loop, is_clicking_loop}
+use Rattle.show_findings.specs.Kinds.{is_unusual_rate}
 use Rattle.show_findings.specs.Kinds.{is_clipped_sample, is_silent_sample, is_offset_sample, OfKind}
 use Rattle.show_findings.specs.Presets.{hidden_presets}
 use Rattle.show_findings.specs.Zones.{unselectable_zones}
 use Rattle.show_findings.specs.Uses.{unused_instruments, unused_samples}
+use Rattle.show_findings.specs.Overridden.{overridden_generators}
 use Rattle.show_findings.specs.Samples.{one_sided_links, short_loops, clicking_loops, unusual_rates}
 use Rattle.show_findings.specs.Samples.{clipped_samples, silent_samples, offset_samples}
 
@@ -18,6 +20,7 @@ pub record AreFindings (b : Parts) (findings : List Finding) : Type 0 where
   pub unselectable_zones : filter is_unselectable_zone findings ≡ unselectable_zones b
   pub unused_instruments : filter is_unused_instrument findings ≡ unused_instruments b
   pub unused_samples : filter is_unused_sample findings ≡ unused_samples b
+  pub overridden_generators : filter is_overridden_generator findings ≡ overridden_generators b
   pub one_sided_links : filter is_one_sided_link findings ≡ one_sided_links b
   pub short_loops : filter is_short_loop findings ≡ short_loops b
   pub clicking_loops : filter is_clicking_loop findings ≡ clicking_loops b
@@ -35,12 +38,10 @@ unused_findings b = hidden_presets b ++ (unselectable_zones b ++ (unused_instrum
 -- findings about what zones set are added
 pub record AddsZoneFindings (b : Parts) (old new : List Finding) : Type 0 where
   pub keys : List Finding
-  pub overridden : List Finding
   pub outside : List Finding
   pub are_keys : OfKind 4 keys
-  pub are_overridden : OfKind 5 overridden
   pub are_outside : OfKind 6 outside
-  pub is : new ≡ old ++ (keys ++ (overridden ++ outside))
+  pub is : new ≡ old ++ (keys ++ (overridden_generators b ++ outside))
 
 -- those of single samples
 abbrev pub sample_findings : Parts → List Finding

@@ -8,6 +8,7 @@ pub mod Points
 pub mod Scans
 pub mod Clicks
 pub mod Samples
+pub mod Overridden
 pub mod Findings
 pub mod Texts
 pub mod Messages

@@ -1,5 +1,6 @@
 -- Samples that are clipped, silent, or away from zero.
-use Rattle.std.specs.Prelude.{ℕ, ℤ, pos, Bool, cond, ◌==◌, ◌&&◌, ◌||◌, ◌+◌, ◌+ℤ◌, not, nat_lt, nat_le, unsigned_abs, int_div}
+use Rattle.std.specs.Prelude.{ℕ, ℤ, pos, Bool, cond, ◌==◌, ◌&&◌, ◌||◌, ◌+◌, ◌+ℤ◌, not, nat_lt, nat_le, unsigned_abs}
+use Rattle.std.specs.Prelude.{int_div}
 use Rattle.std.specs.Prelude.{List, [], ◌∷◌, length, map, Option, Some, None}
 use Rattle.std.specs.Int.{w16, cast_signed}
 use Rattle.std.specs.List.{fold, list_all, sum_by}

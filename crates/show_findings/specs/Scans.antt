@@ -1,5 +1,6 @@
 -- What one pass over points finds.
-use Rattle.std.specs.Prelude.{ℕ, pos, cond, ◌==◌, ◌+◌, ◌*◌, ◌%◌, ◌^◌, ◌-◌, ◌+ℤ◌, ◌&&◌, not, min, nat_lt, nat_le, bit_xor}
+use Rattle.std.specs.Prelude.{ℕ, pos, cond, ◌==◌, ◌+◌, ◌*◌, ◌%◌, ◌^◌, ◌-◌, ◌+ℤ◌, ◌&&◌, not, min, nat_lt, nat_le}
+use Rattle.std.specs.Prelude.{bit_xor}
 use Rattle.std.specs.Prelude.{List, length, map, ℤ, neg_ℤ, ◌≤ℤ◌, int_div, unsigned_abs, Option, Some, None}
 use Rattle.std.specs.Int.{w16, w64, cast_signed, int_wrap}
 use Rattle.std.specs.List.{fold}

@@ -8,7 +8,7 @@ use crate::finding::Finding;
 use crate::hidden::push_hidden_presets;
 use crate::keys::silent_keys;
 use crate::outside::outside_ranges;
-use crate::overridden::overridden_generators;
+use crate::overridden::push_overridden_generators;
 use crate::points::{PointFacts, facts_of};
 use crate::samples::push_sample_findings;
 use crate::uses::{push_unused_instruments, push_unused_samples};
@@ -53,8 +53,7 @@ fn push_zone_findings(
 {
     let keys = silent_keys(alloc, bank)?;
     push_of_kind(4, keys.as_slice(), found)?;
-    let overridden = overridden_generators(alloc, bank)?;
-    push_of_kind(5, overridden.as_slice(), found)?;
+    push_overridden_generators(alloc, bank, found)?;
     let outside = outside_ranges(alloc, bank)?;
     push_of_kind(6, outside.as_slice(), found)
 }
