@@ -1,7 +1,7 @@
 -- Lists that grow in loops.
 use Rattle.std.proofs.Common.{◌≡◌, ◌≤◌, ◌<◌, ℕ, suc, ◌+◌, ◌-◌, List, [], ◌∷◌, ◌++◌, length, drop, get_or, Option, Some}
-use Rattle.std.proofs.Common.{None, Bool, false, ◌||◌, map, refl, sym, ap, ◌∙◌, arith, append_assoc}
-use Rattle.std.specs.List.{flat_map, filter_map, cons_option, range_with_len, list_any}
+use Rattle.std.proofs.Common.{None, Bool, true, false, ◌&&◌, ◌||◌, map, refl, sym, ap, ◌∙◌, arith, append_assoc}
+use Rattle.std.specs.List.{flat_map, filter_map, cons_option, range_with_len, list_any, list_all}
 use Rattle.std.proofs.lemmas.List.{append-nil, drop_all, at_drop_more}
 use Rattle.show_findings.specs.Numbers.{numbers}
 
@@ -11,6 +11,10 @@ from k n = range_with_len k (n - k)
 
 pub all_from : (n : ℕ) → numbers n ≡ from 0 n
 all_from n = let e : n - 0 ≡ n = omega arith in rw e refl
+
+-- the first of these numbers, and the others
+pub from_on : (k n : ℕ) → k < n → from k n ≡ k ∷ from (k + 1) n
+from_on k n h = let e : n - k ≡ suc (n - (k + 1)) = omega (arith, h) in rw e refl
 
 module _ {X : Type 0} where
   -- what is still to be added to the list, after another part of it
@@ -55,6 +59,26 @@ module _ {X : Type 0} where
   options_all g n old now k le h =
       gathered_all old (filter_map g (numbers n)) now (filter_map g (from k n)) h (options_over g k n le)
 
+  -- ---- options of members
+
+  -- the options of the first k members are in the list
+  abbrev pub Found : {Y : Type 0} → (Y → Option X) → List Y → List X → List X → ℕ → Type 0
+  Found g ys old now k = old ++ filter_map g ys ≡ now ++ filter_map g (drop k ys)
+
+  pub found_more : {Y : Type 0} (g : Y → Option X) (ys : List Y) (old now next : List X) (k : ℕ) (y : Y)
+      → k < length ys → next ≡ now ++ cons_option (g (get_or ys k y)) [] → Found g ys old now k
+      → Found g ys old next (k + 1)
+  found_more g ys old now next k y lt e h =
+      let rest = filter_map g (drop (k + 1) ys) in
+      gathered_more old (filter_map g ys) now (cons_option (g (get_or ys k y)) []) rest next
+      (h
+      ∙ ap (λ (t : List X). now ++ t) (at_drop_more (filter_map g) ys k y lt ∙ with_rest (g (get_or ys k y)) rest)) e
+
+  pub found_all : {Y : Type 0} (g : Y → Option X) (ys : List Y) (old now : List X) (k : ℕ) → length ys ≤ k
+      → Found g ys old now k → now ≡ old ++ filter_map g ys
+  found_all g ys old now k le h =
+      gathered_all old (filter_map g ys) now (filter_map g (drop k ys)) h (ap (filter_map g) (drop_all k ys le))
+
   -- options that all have a value
   pub all_some : {Y : Type 0} (f : Y → X) (ys : List Y) → filter_map (λ y. Some (f y)) ys ≡ map f ys
   all_some f [] = refl
@@ -75,6 +99,12 @@ module _ {X : Type 0} where
       → Lists g ys old now k → now ≡ old ++ flat_map g ys
   lists_all g ys old now k le h =
       gathered_all old (flat_map g ys) now (flat_map g (drop k ys)) h (ap (flat_map g) (drop_all k ys le))
+
+pub all_on : (t : ℕ → Bool) (k n : ℕ) → k < n → list_all t (from k n) ≡ (t k && list_all t (from (k + 1) n))
+all_on t k n h = rw (from_on k n h) refl
+
+pub all_over : (t : ℕ → Bool) (k n : ℕ) → n ≤ k → list_all t (from k n) ≡ true
+all_over t k n h = let e : n - k ≡ 0 = omega (arith, h) in rw e refl
 
 -- a test of numbers, from one on
 pub any_on : (t : ℕ → Bool) (k n : ℕ) → k < n → list_any t (from k n) ≡ (t k || list_any t (from (k + 1) n))

@@ -1,30 +1,38 @@
 -- The findings of a kind among all.
-use Rattle.std.proofs.Common.{◌≡◌, ◌<◌, ℕ, List, [], ◌∷◌, ◌++◌, refl, sym, ap, ◌∙◌, arith, Bool, true, false, cond, ◌||◌, length, take}
+use Rattle.std.proofs.Common.{◌≡◌, ◌<◌, ◌+◌, ℕ, zero, suc, get_or, List, [], ◌∷◌, ◌++◌, refl, sym, ap, ◌∙◌, arith}
+use Rattle.std.proofs.Common.{Bool, true, false, cond, ◌||◌, ◌&&◌, length, take}
 use Rattle.std.proofs.Common.{Option, Some, None, append_assoc}
-use Rattle.std.specs.Prelude.{◌==◌, IfSome}
-use Rattle.std.specs.List.{filter, filter_map, flat_map, cons_option, AllByRecursion}
+use Rattle.std.specs.Prelude.{◌==◌, ◌-◌, nat_lt, slice_get, IfSome}
+use Rattle.std.specs.List.{filter, filter_map, flat_map, cons_option}
 use Rattle.std.specs.Option.{option_map, option_and_then}
-use Rattle.std.proofs.lemmas.Bool.{eq-eqb}
-use Rattle.std.proofs.lemmas.Bool.Decides.{nat_tests}
+use Rattle.std.proofs.lemmas.Bool.{eq-eqb, ne_eqb}
 use Rattle.std.proofs.lemmas.List.{append-nil}
 use Rattle.std.proofs.lemmas.List.Elements.{filter-append}
 use Rattle.bank_parts.specs.declared.parts.Head.{Head}
+use Rattle.bank_parts.specs.declared.parts.Sample.{Sample}
 use Rattle.bank_parts.specs.declared.parts.Parts.{Parts}
+use Rattle.bank_changes.specs.declared.members.Place.TheVariants as place
 use Rattle.bank_changes.specs.Members.{head_of}
+use Rattle.zone_select.specs.Remaining.{zones_in}
 use Rattle.show_zone_map.specs.Rectangles.{zone_numbers}
 use Rattle.show_findings.specs.declared.finding.Finding.{Finding}
 use Rattle.show_findings.specs.declared.finding.Finding.TheVariants.{HiddenPreset, UnselectableZone, UnusedInstrument}
-use Rattle.show_findings.specs.declared.finding.Finding.TheVariants.{UnusedSample}
+use Rattle.show_findings.specs.declared.finding.Finding.TheVariants.{UnusedSample, OneSidedLink, ShortLoop, UnusualRate}
+use Rattle.show_findings.specs.declared.finding.Finding.TheVariants.{ClickingLoop, ClippedSample, SilentSample}
+use Rattle.show_findings.specs.declared.finding.Finding.TheVariants.{OffsetSample, OverriddenGenerator}
 use Rattle.show_findings.specs.Numbers.{numbers, preset_owners, instrument_owners, owners}
 use Rattle.show_findings.specs.Presets.{has_numbers_of, first_preset, hidden_preset, hidden_presets}
 use Rattle.show_findings.specs.Zones.{is_selectable, unselectable_zone, unselectable_zones}
 use Rattle.show_findings.specs.Uses.{targets_of, links_in, has, unused_instrument, unused_instruments, unused_sample}
 use Rattle.show_findings.specs.Uses.{unused_samples}
-use Rattle.show_findings.specs.Kinds.{kind_of, is_other, AddsOthers}
-
--- all findings are of kind n
-abbrev pub OfKind : ℕ → List Finding → Type 0
-OfKind n fs = AllByRecursion (λ f. kind_of f ≡ n) fs
+use Rattle.show_findings.specs.Samples.{in_samples, side_link, links_to, one_sided_link, one_sided_links, short_loop}
+use Rattle.show_findings.specs.Samples.{short_loops, is_usual_rate, unusual_rate, unusual_rates}
+use Rattle.show_findings.specs.Clicks.{is_within, clicks, loop_jump, loop_step, clicking_loop}
+use Rattle.show_findings.specs.Points.{is_silent, silent_sample, clipped_points, clipped_sample, mean_of, has_offset}
+use Rattle.show_findings.specs.Points.{offset_sample}
+use Rattle.show_findings.specs.Samples.{clicking_loops, clipped_samples, silent_samples, offset_samples}
+use Rattle.show_findings.specs.Overridden.{entries_of, is_set_by_all, overridden_generator, overridden_generators}
+use Rattle.show_findings.specs.Kinds.{kind_of, OfKind, AddsKind}
 
 abbrev of : ℕ → List Finding → List Finding
 of n fs = filter (λ f. kind_of f == n) fs
@@ -58,66 +66,53 @@ apart n m [] h e = refl
 apart n m (f ∷ fs) h e =
     ap (λ c. cond c (f ∷ of m fs) (of m fs)) (ap (λ k. k == m) h.0 ∙ e) ∙ apart n m fs h.1 e
 
-none_other : (m : ℕ) (fs : List Finding) → m < 4 → AllByRecursion (λ f. is_other f ≡ true) fs → of m fs ≡ []
-none_other m [] lt h = refl
-none_other m (f ∷ fs) lt h =
-    let ne : (kind_of f == m) ≡ false = (let k = h.0 in grind (arith, nat_tests)) in
-    ap (λ c. cond c (f ∷ of m fs) (of m fs)) ne ∙ none_other m fs lt h.1
+-- ---- adding findings of one kind
 
--- ---- adding findings of other kinds
+pub kind_start : (n : ℕ) (fs : List Finding) → AddsKind n fs fs
+kind_start n fs = record { more = []; is = sym (append-nil fs); kind = tt }
 
-pub others_start : (fs : List Finding) → AddsOthers fs fs
-others_start fs = record { more = []; is = sym (append-nil fs); others = tt }
-
-both_others : (fs : List Finding) (f : Finding) → AllByRecursion (λ g. is_other g ≡ true) fs → is_other f ≡ true
-    → AllByRecursion (λ g. is_other g ≡ true) (fs ++ f ∷ [])
-both_others [] f h e = (e, tt)
-both_others (g ∷ fs) f h e = (h.0, both_others fs f h.1 e)
-
-pub others_more : (old now next : List Finding) (f : Finding) → is_other f ≡ true → next ≡ now ++ f ∷ []
-    → AddsOthers old now → AddsOthers old next
-others_more old now next f e n h = record {
+pub kind_more : (n : ℕ) (old now next : List Finding) (f : Finding) → kind_of f ≡ n → next ≡ now ++ f ∷ []
+    → AddsKind n old now → AddsKind n old next
+kind_more n old now next f e is h = record {
   more = h.more ++ f ∷ [];
-  is = n ∙ ap (λ (fs : List Finding). fs ++ f ∷ []) h.is ∙ append_assoc old h.more (f ∷ []);
-  others = both_others h.more f h.others e;
+  is = is ∙ ap (λ (fs : List Finding). fs ++ f ∷ []) h.is ∙ append_assoc old h.more (f ∷ []);
+  kind = appended n h.more (f ∷ []) h.kind (e, tt);
 }
 
--- ---- four kinds, and others
+-- ---- lists of findings, each of one kind
 
-module _ (a b c d old all : List Finding) (is : old ≡ ((a ++ b) ++ c) ++ d) (adds : AddsOthers old all)
-    (ka : OfKind 0 a) (kb : OfKind 1 b) (kc : OfKind 2 c) (kd : OfKind 3 d) where
-  parts : (m : ℕ) → m < 4 → of m all ≡ ((of m a ++ of m b) ++ of m c) ++ of m d
-  parts m lt =
-      let t : Finding → Bool = λ f. kind_of f == m in
-      ap (of m) adds.is ∙ filter-append t old adds.more
-      ∙ ap (λ fs. of m old ++ fs) (none_other m adds.more lt adds.others) ∙ append-nil (of m old)
-      ∙ ap (of m) is ∙ filter-append t ((a ++ b) ++ c) d
-      ∙ ap (λ fs. fs ++ of m d)
-      (filter-append t (a ++ b) c ∙ ap (λ fs. fs ++ of m c) (filter-append t a b))
+-- the lists one after the other
+abbrev pub all_of : List (List Finding) → List Finding
+all_of lists = flat_map (λ fs. fs) lists
 
-  joined : (m : ℕ) (w x y z : List Finding) → m < 4 → of m a ≡ w → of m b ≡ x → of m c ≡ y → of m d ≡ z
-      → of m all ≡ ((w ++ x) ++ y) ++ z
-  joined m w x y z lt e f g h =
-      parts m lt ∙ (λ i. ((e i ++ f i) ++ g i) ++ h i)
+-- the first list is of kind n, the next of kind n + 1, and so on
+abbrev pub ByKind : ℕ → List (List Finding) → Type 0
+ByKind n [] = Unit {0}
+ByKind n (fs ∷ lists) = OfKind n fs × ByKind (n + 1) lists
 
-  pub first : of 0 all ≡ a
-  first =
-      joined 0 a [] [] [] (omega arith) (same 0 a ka) (apart 1 0 b kb refl) (apart 2 0 c kc refl) (apart 3 0 d kd refl)
-      ∙ append-nil ((a ++ []) ++ []) ∙ append-nil (a ++ []) ∙ append-nil a
+later : (m n : ℕ) (lists : List (List Finding)) → m < n → ByKind n lists → of m (all_of lists) ≡ []
+later m n [] lt h = refl
+later m n (fs ∷ lists) lt h =
+    filter-append (λ f. kind_of f == m) fs (all_of lists)
+    ∙ ap (λ gs. gs ++ of m (all_of lists)) (apart n m fs h.0 (ne_eqb n m (λ e. omega (arith, e, lt))))
+    ∙ later m (n + 1) lists (omega (arith, lt)) h.1
 
-  pub second : of 1 all ≡ b
-  second =
-      joined 1 [] b [] [] (omega arith) (apart 0 1 a ka refl) (same 1 b kb) (apart 2 1 c kc refl) (apart 3 1 d kd refl)
-      ∙ append-nil (b ++ []) ∙ append-nil b
-
-  pub third : of 2 all ≡ c
-  third =
-      joined 2 [] [] c [] (omega arith) (apart 0 2 a ka refl) (apart 1 2 b kb refl) (same 2 c kc) (apart 3 2 d kd refl)
-      ∙ append-nil c
-
-  pub fourth : of 3 all ≡ d
-  fourth =
-      joined 3 [] [] [] d (omega arith) (apart 0 3 a ka refl) (apart 1 3 b kb refl) (apart 2 3 c kc refl) (same 3 d kd)
+-- those of a kind are the list with its number
+pub listed : (m n : ℕ) (lists : List (List Finding)) → ByKind n lists → of (n + m) (all_of lists) ≡ get_or lists m []
+listed m n [] h = refl
+listed zero n (fs ∷ lists) h =
+    let z : n + 0 ≡ n = omega arith in
+    rw z
+    (filter-append (λ f. kind_of f == n) fs (all_of lists)
+    ∙ ap (λ gs. gs ++ of n (all_of lists)) (same n fs h.0)
+    ∙ ap (λ gs. fs ++ gs) (later n (n + 1) lists (omega arith) h.1) ∙ append-nil fs)
+listed (suc m) n (fs ∷ lists) h =
+    let s : n + suc m ≡ n + 1 + m = omega arith in
+    rw s
+    (filter-append (λ f. kind_of f == n + 1 + m) fs (all_of lists)
+    ∙ ap (λ gs. gs ++ of (n + 1 + m) (all_of lists))
+    (apart n (n + 1 + m) fs h.0 (ne_eqb n (n + 1 + m) (λ e. omega (arith, e))))
+    ∙ listed m (n + 1) lists h.1)
 
 -- ---- the kinds of each list
 
@@ -165,3 +160,96 @@ sample_kinds b =
     options_kind 3 (unused_sample b)
     (λ s. tested 3 (has (targets_of b (instrument_owners b)) s || has (links_in b) s) (UnusedSample s) refl)
     (numbers (length b.samples))
+
+-- ---- the kinds of what single samples show
+
+module _ (n : ℕ) (test : ℕ → Sample → Option Finding) (b : Parts)
+    (h : (k : ℕ) (s : Sample) → IfSome (test k s) (λ f. kind_of f ≡ n)) where
+  at_sample : (k : ℕ) (o : Option Sample) → IfSome (option_and_then (test k) o) (λ f. kind_of f ≡ n)
+  at_sample k None = tt
+  at_sample k (Some s) = h k s
+
+  pub in_samples_kind : OfKind n (in_samples test b)
+  in_samples_kind =
+      options_kind n (λ k. option_and_then (test k) (slice_get b.samples k)) (λ k. at_sample k (slice_get b.samples k))
+      (numbers (length b.samples))
+
+passed : (n : ℕ) (t : Bool) (f : Finding) → kind_of f ≡ n → IfSome (cond t (Some f) None) (λ g. kind_of g ≡ n)
+passed n true f e = e
+passed n false f e = tt
+
+pub link_kinds : (b : Parts) → OfKind 7 (one_sided_links b)
+unfolding one_sided_links kind_of
+link_kinds b =
+    in_samples_kind 7 (one_sided_link b) b
+    (λ k s. elim (side_link s.kind) as
+    (λ (o : Option ℕ).
+    IfSome (option_and_then (λ (t : ℕ). cond (t == k || links_to b t k) None (Some (OneSidedLink k t))) o)
+    (λ f. kind_of f ≡ 7)) [
+      | None ↦ tt
+      | Some t ↦ tested 7 (t == k || links_to b t k) (OneSidedLink k t) refl
+    ])
+
+pub loop_kinds : (b : Parts) → OfKind 8 (short_loops b)
+unfolding short_loops kind_of
+loop_kinds b =
+    in_samples_kind 8 short_loop b
+    (λ k s. elim s.looped as
+    (λ (o : Option (ℕ × ℕ)).
+    IfSome
+    (option_and_then
+    (λ (looped : ℕ × ℕ).
+    cond (nat_lt (looped.1 - looped.0) 32) (Some (ShortLoop k (looped.1 - looped.0))) None) o)
+    (λ f. kind_of f ≡ 8)) [
+      | None ↦ tt
+      | Some looped ↦ passed 8 (nat_lt (looped.1 - looped.0) 32) (ShortLoop k (looped.1 - looped.0)) refl
+    ])
+
+pub click_kinds : (b : Parts) → OfKind 9 (clicking_loops b)
+unfolding clicking_loops kind_of
+click_kinds b =
+    in_samples_kind 9 clicking_loop b
+    (λ k s. elim s.looped as
+    (λ (o : Option (ℕ × ℕ)).
+    IfSome
+    (option_and_then
+    (λ (looped : ℕ × ℕ).
+    cond (is_within s.points looped && clicks s.points looped)
+    (Some (ClickingLoop k (loop_jump s.points looped) (loop_step s.points looped))) None)
+    o)
+    (λ f. kind_of f ≡ 9)) [
+      | None ↦ tt
+      | Some looped ↦
+          passed 9 (is_within s.points looped && clicks s.points looped)
+          (ClickingLoop k (loop_jump s.points looped) (loop_step s.points looped)) refl
+    ])
+
+pub rate_kinds : (b : Parts) → OfKind 10 (unusual_rates b)
+unfolding unusual_rates kind_of
+rate_kinds b =
+    in_samples_kind 10 unusual_rate b (λ k s. tested 10 (is_usual_rate s.rate) (UnusualRate k s.rate) refl)
+
+pub silent_kinds : (b : Parts) → OfKind 12 (silent_samples b)
+unfolding silent_samples kind_of
+silent_kinds b = in_samples_kind 12 silent_sample b (λ k s. passed 12 (is_silent s.points) (SilentSample k) refl)
+
+pub clipped_kinds : (b : Parts) → OfKind 11 (clipped_samples b)
+unfolding clipped_samples kind_of
+clipped_kinds b =
+    in_samples_kind 11 clipped_sample b
+    (λ k s. passed 11 (nat_lt 0 (clipped_points s.points)) (ClippedSample k (clipped_points s.points)) refl)
+
+pub offset_kinds : (b : Parts) → OfKind 13 (offset_samples b)
+unfolding offset_samples kind_of
+offset_kinds b =
+    in_samples_kind 13 offset_sample b
+    (λ k s. passed 13 (has_offset s.points) (OffsetSample k (mean_of s.points)) refl)
+
+pub overridden_kinds : (b : Parts) → OfKind 5 (overridden_generators b)
+unfolding overridden_generators kind_of
+overridden_kinds b =
+    lists_kind 5 (λ o. filter_map (overridden_generator b o) (entries_of b o place.Global))
+    (λ o. options_kind 5 (overridden_generator b o)
+    (λ e. passed 5 (nat_lt 0 (zones_in b o) && is_set_by_all b o e.0) (OverriddenGenerator o e.0) refl)
+    (entries_of b o place.Global))
+    (owners b)

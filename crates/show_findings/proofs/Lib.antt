@@ -5,3 +5,8 @@ pub mod FirstKeyLaws
 pub mod GroupLaws
 pub mod ReachLaws
 pub mod KindLaws
+pub mod PointLaws
+pub mod ListedLaws
+pub mod ScanLaws
+pub mod ClipLaws
+pub mod SampleLaws

@@ -1,5 +1,5 @@
 -- The kinds of findings, and the members that they are about.
-use Rattle.std.specs.Prelude.{◌≡◌, ℕ, Bool, true, ◌==◌, nat_lt, List, ◌++◌}
+use Rattle.std.specs.Prelude.{◌≡◌, ℕ, Bool, ◌==◌, List, ◌++◌}
 use Rattle.std.specs.List.{AllByRecursion}
 use Rattle.bank_changes.specs.declared.members.Owner.{Owner}
 use Rattle.bank_changes.specs.declared.members.Owner.TheVariants as owner
@@ -42,15 +42,48 @@ is_unused_instrument f = kind_of f == 2
 abbrev pub is_unused_sample : Finding → Bool
 is_unused_sample f = kind_of f == 3
 
--- a finding of another kind than these four
-abbrev pub is_other : Finding → Bool
-is_other f = nat_lt 3 (kind_of f)
+abbrev pub is_silent_keys : Finding → Bool
+is_silent_keys f = kind_of f == 4
 
--- only findings of other kinds are added after those that were there
-pub record AddsOthers (old new : List Finding) : Type 0 where
+abbrev pub is_overridden_generator : Finding → Bool
+is_overridden_generator f = kind_of f == 5
+
+abbrev pub is_outside_range : Finding → Bool
+is_outside_range f = kind_of f == 6
+
+abbrev pub is_one_sided_link : Finding → Bool
+is_one_sided_link f = kind_of f == 7
+
+abbrev pub is_short_loop : Finding → Bool
+is_short_loop f = kind_of f == 8
+
+abbrev pub is_clicking_loop : Finding → Bool
+is_clicking_loop f = kind_of f == 9
+
+abbrev pub is_unusual_rate : Finding → Bool
+is_unusual_rate f = kind_of f == 10
+
+abbrev pub is_clipped_sample : Finding → Bool
+is_clipped_sample f = kind_of f == 11
+
+abbrev pub is_silent_sample : Finding → Bool
+is_silent_sample f = kind_of f == 12
+
+abbrev pub is_offset_sample : Finding → Bool
+is_offset_sample f = kind_of f == 13
+
+abbrev pub is_equal_sample : Finding → Bool
+is_equal_sample f = kind_of f == 14
+
+-- all findings are of kind n
+abbrev pub OfKind : ℕ → List Finding → Type 0
+OfKind n fs = AllByRecursion (λ f. kind_of f ≡ n) fs
+
+-- only findings of kind n are added after those that were there
+pub record AddsKind (n : ℕ) (old new : List Finding) : Type 0 where
   pub more : List Finding
   pub is : new ≡ old ++ more
-  pub others : AllByRecursion (λ f. is_other f ≡ true) more
+  pub kind : OfKind n more
 
 abbrev pub member_of_owner : Owner → Member
 member_of_owner (owner.Preset p) = member.Preset p

@@ -4,6 +4,12 @@ pub mod Presets
 pub mod Zones
 pub mod PresetZones
 pub mod Uses
+pub mod Points
+pub mod Scans
+pub mod Clicks
+pub mod Samples
+pub mod Overridden
+pub mod Findings
 pub mod Texts
 pub mod Messages
 pub mod Repairs

@@ -1,16 +1,17 @@
 //! Samples that are equal to earlier ones.
 
-use crate::points::PointFacts;
+use crate::finding::Finding;
+use crate::points::{PointFacts, mixed};
 use bank_core::{Bank, Kind, Sample};
 use bank_equality::same_points;
 use sf_base::OutOfMemory;
 use std::alloc::Global;
 
-/// A sample, and an earlier one that it is equal to.
+// A sample, and an earlier one that it is equal to.
 #[derive(Clone, Copy, PartialEq, Eq, PartialOrd, Ord)]
-pub(crate) struct EqualPair {
-    pub sample: u32,
-    pub to: u32,
+struct EqualPair {
+    sample: u32,
+    to: u32,
 }
 
 // A hash of what equal samples have in common, and the number of a sample.
@@ -20,9 +21,24 @@ struct Hashed {
     sample: u32,
 }
 
-/// The samples that are equal to an earlier one but for their names and links, in ascending order, each with the first
-/// such one. Only samples with the same hash are compared.
-pub(crate) fn equal_pairs(
+/// The samples that are equal to earlier ones.
+pub(crate) fn equal_samples(
+    alloc: Global,
+    bank: &Bank<'_>,
+    facts: &[PointFacts],
+) -> Result<Vec<Finding>, OutOfMemory> {
+    let mut found = Vec::new(alloc);
+    let pairs = equal_pairs(alloc, bank, facts)?;
+    for pair in pairs.as_slice() {
+        let (sample, to) = (pair.sample, pair.to);
+        found.push(Finding::EqualSample { sample, to })?;
+    }
+    Ok(found)
+}
+
+// The samples that are equal to an earlier one but for their names and links, in ascending order, each with the first
+// such one. Only samples with the same hash are compared.
+fn equal_pairs(
     alloc: Global,
     bank: &Bank<'_>,
     facts: &[PointFacts],
@@ -120,9 +136,4 @@ fn hash_of(sample: &Sample<'_>, points: u64) -> u64 {
     let hash = mixed(hash, u64::from(start));
     let hash = mixed(hash, u64::from(end));
     mixed(hash, u64::from(side(sample.kind)))
-}
-
-/// The hash FNV-1a of one more number.
-pub(crate) fn mixed(hash: u64, number: u64) -> u64 {
-    (hash ^ number).wrapping_mul(0x100_0000_01b3)
 }

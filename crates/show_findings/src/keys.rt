@@ -7,21 +7,20 @@ use crate::gathering::{count_in, push_option};
 use crate::zones::{area_of, overlaps};
 use bank_core::{Bank, List, Owner};
 use sf_base::OutOfMemory;
+use std::alloc::Global;
 use zone_select::zones_in;
 
 /// The number of keys.
 const KEYS: usize = 128;
 
-/// Appends the longest runs of keys without any rectangle, between keys with one.
-pub(crate) fn push_silent_keys(
-    bank: &Bank<'_>,
-    found: &mut Vec<Finding>,
-) -> Result<(), OutOfMemory> {
+/// The longest runs of keys without any rectangle, between keys with one.
+pub(crate) fn silent_keys(alloc: Global, bank: &Bank<'_>) -> Result<Vec<Finding>, OutOfMemory> {
+    let mut found = Vec::new(alloc);
     for preset in 0..count_in(bank, List::Presets) {
         let played = played_keys(bank, preset);
-        push_gaps(&played, preset, found)?;
+        push_gaps(&played, preset, &mut found)?;
     }
-    Ok(())
+    Ok(found)
 }
 
 // Appends the gaps between neighbouring played keys.

@@ -12,7 +12,6 @@ mod lines;
 mod messages;
 mod outside;
 mod overridden;
-mod point_findings;
 mod points;
 mod repairs;
 mod samples;

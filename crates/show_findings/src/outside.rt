@@ -14,17 +14,14 @@ use sf_base::OutOfMemory;
 use std::alloc::Global;
 use zone_select::zones_in;
 
-/// Appends the generators with amounts outside their ranges.
-pub(crate) fn push_outside_ranges(
-    alloc: Global,
-    bank: &Bank<'_>,
-    found: &mut Vec<Finding>,
-) -> Result<(), OutOfMemory> {
+/// The generators with amounts outside their ranges.
+pub(crate) fn outside_ranges(alloc: Global, bank: &Bank<'_>) -> Result<Vec<Finding>, OutOfMemory> {
+    let mut found = Vec::new(alloc);
     let owners = owners_of(alloc, bank)?;
     for owner in owners.as_slice() {
-        push_outside_of(bank, *owner, found)?;
+        push_outside_of(bank, *owner, &mut found)?;
     }
-    Ok(())
+    Ok(found)
 }
 
 fn push_outside_of(

@@ -135,7 +135,7 @@ fn other_link(bank: &Bank<'_>, sample: u32) -> Option<u16>
     Some(link)
 }
 
-fn link_of(kind: Kind) -> Option<u16>
+pub(crate) fn link_of(kind: Kind) -> Option<u16>
     ensures { result ≡ link_of kind }
 {
     match kind {
