@@ -62,7 +62,7 @@ add-preset 0 \"Concert\" 0 0 0 0 0 { 0 g 43 0..65 } { 1 }   # 0 \"Grand\", 1 \"\
 add-preset 1 \"Empty\" 5 128 1 2 3
 ";
 
-fn empty_bank(alloc: Global) -> Result<Bank<'static>, Fail> {
+fn empty_bank<'a>(alloc: Global) -> Result<Bank<'a>, Fail> {
     let parts = Parts {
         minor: 4,
         texts: Texts {

@@ -22,7 +22,7 @@ add-inst 1 \"\"
 add-preset 0 \"Concert\" 0 0 0 0 0 { 0 }
 ";
 
-fn empty_bank(alloc: Global) -> Result<Bank<'static>, Fail> {
+fn empty_bank<'a>(alloc: Global) -> Result<Bank<'a>, Fail> {
     let parts = Parts {
         minor: 4,
         texts: Texts {
