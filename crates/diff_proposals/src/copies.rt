@@ -1,10 +1,9 @@
 //! Copies of zones and owners, with the numbers of targets that the edited bank has.
 use crate::numbers::target_number;
-use crate::views::{OwnerView, Settings, ZoneView};
+use crate::views::{OwnerView, Settings, Target, ZoneView};
 use bank_parts::{GlobalZone, OwnerHead, Zone, ZoneOwner};
 use base_numbered_lists::NumberedList;
 use generators::GenMap;
-use generators::operators::{KEY_RANGE, VEL_RANGE};
 use sf_base::OutOfMemory;
 use std::alloc::Global;
 
@@ -14,19 +13,14 @@ pub(crate) fn zone_of(
     zone: &ZoneView<'_>,
     targets: &[usize],
 ) -> Result<Zone, OutOfMemory> {
-    let target = targets.get(zone.target).copied().unwrap_or(zone.target);
+    let (Target::Wanted(number) | Target::Superfluous(number)) = zone.target;
+    let target = targets.get(number).copied().unwrap_or(number);
     let settings = global_of(alloc, &zone.settings)?;
     Ok(settings.into_zone(target_number(target)))
 }
 
 fn global_of(alloc: Global, settings: &Settings<'_>) -> Result<GlobalZone, OutOfMemory> {
     let mut gens = GenMap::new(alloc);
-    if let Some(amount) = settings.ranges.key {
-        gens.set(KEY_RANGE, amount)?;
-    }
-    if let Some(amount) = settings.ranges.vel {
-        gens.set(VEL_RANGE, amount)?;
-    }
     for &(operator, amount) in settings.gens {
         gens.set(operator, amount)?;
     }

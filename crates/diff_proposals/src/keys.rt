@@ -1,11 +1,11 @@
 //! Hash keys of zones and their contents.
-use crate::views::{OwnerView, Ranges, Settings, ZoneView};
-use diff_orders::{EMPTY_KEY, with_number};
+use crate::views::{OwnerView, Ranges, Settings, Target, ZoneView};
+use diff_orders::{with_number, with_numbers};
 use modulators::Modulator;
 
 /// The key of generators and modulators, appended to another key.
 pub(crate) fn with_settings(key: u64, settings: &Settings<'_>) -> u64 {
-    with_inner(with_ranges(key, settings.ranges), settings)
+    with_inner(with_ranges(key, settings.ranges()), settings)
 }
 
 /// The key of ranges, appended to another key.
@@ -14,31 +14,31 @@ pub(crate) fn with_ranges(key: u64, ranges: Ranges) -> u64 {
 }
 
 fn with_range(key: u64, range: Option<u16>) -> u64 {
-    match range {
-        Some(amount) => with_number(key, amount.into()),
-        None => with_number(key, u64::MAX),
-    }
+    with_number(key, range.map_or(u64::MAX, u64::from))
 }
 
 /// The key of modulators and of all generators but ranges, appended to another key.
 pub(crate) fn with_inner(key: u64, settings: &Settings<'_>) -> u64 {
-    let key = with_number(key, settings.gens.len() as u64);
-    let key = settings.gens.iter().fold(key, with_entry);
+    let gens = settings.split_ranges().1;
+    let key = with_number(key, gens.len() as u64);
+    let key = gens.iter().fold(key, with_entry);
     let key = with_number(key, settings.mods.len() as u64);
     settings.mods.iter().fold(key, with_mod)
 }
 
 fn with_entry(key: u64, entry: &(u16, u16)) -> u64 {
-    with_number(with_number(key, entry.0.into()), entry.1.into())
+    with_numbers(key, &[entry.0.into(), entry.1.into()])
 }
 
 fn with_mod(key: u64, modulator: &Modulator) -> u64 {
-    let amount = modulator.amount.cast_unsigned();
-    let key = with_number(key, modulator.source.into());
-    let key = with_number(key, modulator.dest.into());
-    let key = with_number(key, amount.into());
-    let key = with_number(key, modulator.amount_source.into());
-    with_number(key, modulator.transform.into())
+    let numbers = [
+        modulator.source.into(),
+        modulator.dest.into(),
+        modulator.amount.cast_unsigned().into(),
+        modulator.amount_source.into(),
+        modulator.transform.into(),
+    ];
+    with_numbers(key, &numbers)
 }
 
 /// The key of a zone, appended to another key.
@@ -48,7 +48,10 @@ pub(crate) fn with_zone(key: u64, zone: &ZoneView<'_>) -> u64 {
 
 /// The key of a target, appended to another key.
 pub(crate) fn with_target(key: u64, zone: &ZoneView<'_>) -> u64 {
-    with_number(key, zone.target as u64)
+    match zone.target {
+        Target::Wanted(number) => with_number(key, number as u64),
+        Target::Superfluous(number) => with_number(with_number(key, u64::MAX), number as u64),
+    }
 }
 
 /// The key of all zones of an owner, appended to another key.

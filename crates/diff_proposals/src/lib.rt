@@ -6,7 +6,6 @@
 mod all_changes;
 mod chains;
 mod copies;
-mod full_lists;
 mod groups;
 mod heads;
 mod keys;
@@ -14,6 +13,7 @@ mod list_plan;
 mod numbers;
 mod owner_pairs;
 mod owner_steps;
+mod pairing;
 mod point_diff;
 mod points;
 mod pushing;

@@ -36,12 +36,15 @@ pub(crate) fn push_zone_step<'a>(
     push_step(steps, Step::Zone(owner, step))
 }
 
-/// Appends a step that edits the generators or modulators of a place.
-pub(crate) fn push_setting_step<'a>(
+/// Appends steps that edit the generators or modulators of a place.
+pub(crate) fn push_setting_steps<'a>(
     steps: &mut Vec<Step<'a>>,
     owner: Owner,
     place: Place,
-    step: SettingStep,
+    settings: Vec<SettingStep>,
 ) -> Result<(), OutOfMemory> {
-    push_step(steps, Step::Setting(owner, place, step))
+    for &step in &settings {
+        push_step(steps, Step::Setting(owner, place, step))?;
+    }
+    Ok(())
 }

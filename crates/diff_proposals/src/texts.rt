@@ -17,7 +17,7 @@ const IDS: [InfoId; 8] = [
 ];
 
 /// Steps that give the bank `now` the texts of the bank `to`.
-pub fn text_steps<'a>(
+pub(crate) fn text_steps<'a>(
     alloc: Global,
     now: &Bank<'a>,
     to: &Bank<'a>,
