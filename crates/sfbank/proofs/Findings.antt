@@ -7,12 +7,13 @@ use Rattle.bank_parts.specs.declared.parts.Parts.{Parts}
 use Rattle.file_host.specs.World.{World}
 use Rattle.file_host.specs.declared.faults.Which.TheVariants.{Out}
 use Rattle.show_findings.specs.declared.finding.Finding.{Finding}
+use Rattle.show_findings.specs.Findings.{AreFindings}
 use Rattle.program_commands.specs.declared.words.CheckPaths.{CheckPaths}
 use Rattle.program_reports.specs.declared.fault.Fault.{Fault}
 use Rattle.program_reports.specs.declared.fault.Fault.TheVariants.{HasFindings}
 use Rattle.program_reports.specs.declared.run_fault.RunFault.{RunFault}
 use Rattle.sfbank.specs.Ends.{EndsAs, EndsFor, FindsSome, Outside}
-use Rattle.sfbank.specs.Findings.{AreFindings, RunsSome, finding_lines}
+use Rattle.sfbank.specs.Findings.{RunsSome, finding_lines}
 use Rattle.sfbank.specs.FolderPlans.{bank_outcome}
 use Rattle.sfbank.specs.Outputs.{PrintsAt}
 use Rattle.sfbank.specs.PlanParts.{Action, Checks, Findings, Page, Prints, Why, put_at, standard_output, with_findings}

@@ -6,6 +6,7 @@ use Rattle.std.specs.Io.KnownBytes.{Appends, Keeps}
 use Rattle.bank_parts.specs.declared.parts.Parts.{Parts}
 use Rattle.base_outputs.specs.declared.output_fault.OutputFault.TheVariants.{HoldsBank}
 use Rattle.show_findings.specs.declared.finding.Finding.{Finding}
+use Rattle.show_findings.specs.Findings.{AreFindings}
 use Rattle.file_host.specs.World.{World, held_at, is_nothing, with_pair}
 use Rattle.file_host.specs.World as world
 use Rattle.file_host.specs.Saving.{Spoils, SpoilsPair}
@@ -21,7 +22,7 @@ use Rattle.program_reports.specs.declared.run_fault.RunFault.TheVariants as run
 use Rattle.sfbank.specs.Outcome.{Done, bank_in}
 use Rattle.sfbank.specs.Differences.{IsDifference}
 use Rattle.sfbank.specs.EditTexts.{edits_text}
-use Rattle.sfbank.specs.Findings.{AreFindings, IsPage, ListsFindings, finding_lines}
+use Rattle.sfbank.specs.Findings.{IsPage, ListsFindings, finding_lines}
 use Rattle.sfbank.specs.Purposes.{Purpose, promise_of}
 use Rattle.sfbank.specs.Topics.{IsTopicText, IsUnexplained}
 use Rattle.sfbank.specs.PlannedEdits.{IsPlanned, IsScript}

@@ -1,26 +1,16 @@
 -- What is probably a mistake in the bank of a file, as a text and in a page.
 use Rattle.std.specs.Prelude.{◌≡◌, ◌⊎◌, ℕ, List, Option, Result, Ok, Err}
-use Rattle.std.specs.List.{filter, flat_map}
+use Rattle.std.specs.List.{flat_map}
 use Rattle.std.specs.Io.KnownBytes.{Keeps}
 use Rattle.bank_parts.specs.declared.parts.Parts.{Parts}
 use Rattle.show_findings.specs.declared.finding.Finding.{Finding}
-use Rattle.show_findings.specs.Kinds.{is_hidden_preset, is_unselectable_zone, is_unused_instrument, is_unused_sample}
-use Rattle.show_findings.specs.Presets.{hidden_presets}
-use Rattle.show_findings.specs.Zones.{unselectable_zones}
-use Rattle.show_findings.specs.Uses.{unused_instruments, unused_samples}
+use Rattle.show_findings.specs.Findings.{AreFindings}
 use Rattle.show_findings.specs.Lines.{finding_line}
 use Rattle.show_page.specs.Page.{page}
 use Rattle.file_host.specs.declared.faults.Which.TheVariants.{Out}
 use Rattle.program_reports.specs.declared.run_fault.RunFault.{RunFault}
 use Rattle.sfbank.specs.FolderPlans.{bank_outcome}
 use Rattle.sfbank.specs.Written.{FailsBefore, IsWritten}
-
--- Findings of the bank: of the four kinds that are defined, exactly those that it has, in order.
-pub record AreFindings (b : Parts) (findings : List Finding) : Type 0 where
-  pub hidden : filter is_hidden_preset findings ≡ hidden_presets b
-  pub unselectable : filter is_unselectable_zone findings ≡ unselectable_zones b
-  pub instruments : filter is_unused_instrument findings ≡ unused_instruments b
-  pub samples : filter is_unused_sample findings ≡ unused_samples b
 
 -- a line for each of some findings of the bank
 abbrev pub finding_lines : Parts → List Finding → List ℕ

@@ -6,15 +6,7 @@ use Rattle.sfbank.proofs.check.read_checked.Goals as goal
 
 pub returns-in-Ok-findings_of : goal.returns-in-Ok-findings_of
 returns-in-Ok-findings_of c =
-    let found = c.in-Ok-findings_of.ensures in (
-      bank_is c.args.file.now c.in-Ok.bank c.in-Ok._counts c.in-Ok.ensures,
-      record {
-        hidden = found.hidden_presets;
-        unselectable = found.unselectable_zones;
-        instruments = found.unused_instruments;
-        samples = found.unused_samples;
-      },
-    )
+    (bank_is c.args.file.now c.in-Ok.bank c.in-Ok._counts c.in-Ok.ensures, c.in-Ok-findings_of.ensures)
 
 pub returns : goal.returns
 returns c =
