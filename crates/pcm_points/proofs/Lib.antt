@@ -4,3 +4,4 @@ pub mod ChannelLaws
 pub mod OffsetLaws
 pub mod DitherLaws
 pub mod BlockLaws
+pub mod PieceLaws

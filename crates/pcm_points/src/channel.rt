@@ -45,7 +45,7 @@ pub fn channel_points(
 }
 
 // The points without dither.
-fn nearest_points(
+pub(crate) fn nearest_points(
     alloc: Global,
     bytes: &[u8],
     encoding: SampleEncoding,

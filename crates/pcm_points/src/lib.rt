@@ -9,10 +9,12 @@ mod blocks;
 mod channel;
 mod dither;
 mod encoding;
+mod in_place;
 mod laws;
 mod rounding;
 
 pub use channel::channel_points;
 pub use encoding::SampleEncoding;
+pub use in_place::points_in_place;
 pub use laws::{dither_is_near, narrow_samples_stay, points_are_nearest, sixteen_bits_stay};
 pub use rounding::point;

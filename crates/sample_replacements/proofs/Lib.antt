@@ -3,3 +3,4 @@ mod ContentLaws
 pub mod ReplacingLaws
 pub mod RestLaws
 pub mod FitLaws
+pub mod InPlaceLaws

@@ -31,11 +31,14 @@ use Rattle.wave_file.specs.declared.options.ReadOptions.{ReadOptions}
 use Rattle.wave_file.specs.Recordings.{FitsKey}
 use Rattle.wave_file.specs.ReadChecks.{recording_in}
 use Rattle.wave_file.specs.Imports.{import_edits}
+use Rattle.wave_file.specs.InPlace.{with_points}
+use Rattle.wave_file.proofs.FrameLaws.{import_points}
 use Rattle.wave_file.proofs.FitLaws.{FitsRecording, recording_fits, imports_fit}
 use Rattle.bank_edits.specs.Runs.{after_all}
 use Rattle.sample_replacements.specs.declared.fault.ReplaceFault.{ReplaceFault}
 use Rattle.sample_replacements.specs.Replacements.{replacement_edits, replaced}
 use Rattle.sample_replacements.proofs.FitLaws.{replacements_fit}
+use Rattle.sample_replacements.proofs.InPlaceLaws.{replacement_points}
 use Rattle.sample_replacements.proofs.ReplacingLaws.{replacing_kept}
 use Rattle.sfbank.specs.declared.recorded.Destination.{Destination}
 use Rattle.sfbank.specs.declared.recorded.Destination.TheVariants.{End, Place}
@@ -130,6 +133,29 @@ pub recording_edited : (change : Change) (options : ReadOptions) (file wave : Li
     → recording_outcome change options file wave ≡ after_edits b (change b r)
 recording_edited change options file wave b counts r reads h =
     recording_on change options file wave b counts reads ∙ ap (after_recording b change) h
+
+-- no edit depends on whether samples are converted
+same_change : (d : Destination) (b : Parts) (r : Recording) → change_of d b r ≡ change_of d b (with_points r)
+same_change (End name) b r = ap (λ (edits : List Edit). Ok edits) (import_points (length b.samples) name.now r)
+same_change (Place number) b r =
+    ap (result_map_both (λ (edits : List Edit). edits) fault_of_replacement) (replacement_points b number r)
+
+points_edited : (d : Destination) (b : Parts) (due : Result Recording WaveFault) (r : Recording)
+    → result_map_both with_points (λ fault. fault) due ≡ Ok (with_points r)
+    → after_recording b (change_of d) due ≡ after_edits b (change_of d b r)
+points_edited d b (Ok s) r h =
+    let same : with_points s ≡ with_points r = cc in
+    ap (after_edits b) (same_change d b s ∙ ap (change_of d b) same ∙ sym (same_change d b r))
+points_edited d b (Err fault) r h = absurd cc
+
+-- the edits of what was read in place
+pub recording_edited_in_place : (d : Destination) (options : ReadOptions) (file wave : List ℕ) (b : Parts)
+    (counts : Counts) (r : Recording)
+    → ReadsAs file b counts
+    → result_map_both with_points (λ fault. fault) (recording_in options wave) ≡ Ok (with_points r)
+    → recording_outcome (change_of d) options file wave ≡ after_edits b (change_of d b r)
+recording_edited_in_place d options file wave b counts r reads h =
+    recording_on (change_of d) options file wave b counts reads ∙ points_edited d b (recording_in options wave) r h
 
 -- ---- the script of the edits
 

@@ -1,6 +1,7 @@
 -- The steps of a request before it does anything: checks of its outputs, and reads of its inputs.
 use Rattle.std.specs.Prelude.{◌≡◌, ◌≤◌, ◌||◌, ℕ, List, [], ◌∷◌, length, Option, Some, None, Result, Ok, Err, ⊤}
 use Rattle.std.specs.Borrow.{Bor}
+use Rattle.std.specs.Result.{result_map_both}
 use Rattle.base_outputs.specs.declared.output_fault.OutputFault.{OutputFault}
 use Rattle.sf_base.specs.declared.memory.Failure.{Failure}
 use Rattle.sf_base.specs.declared.memory.Failure.TheVariants as failures
@@ -22,6 +23,7 @@ use Rattle.wave_file.specs.declared.options.ReadOptions.{ReadOptions}
 use Rattle.wave_file.specs.declared.sides.Sides.{Sides}
 use Rattle.wave_file.specs.ReadChecks.{recording_in}
 use Rattle.wave_file.specs.Imports.{sides_of}
+use Rattle.wave_file.specs.InPlace.{with_points}
 use Rattle.program_commands.specs.declared.words.Forms.{Forms}
 use Rattle.sfbank.specs.EditRuns.{outcome_of}
 use Rattle.sfbank.specs.Outcome.{after_reading}
@@ -125,6 +127,16 @@ abbrev pub ReadsRecording : {X : Type 0} → (X → Parts × Recording × Sides)
 ReadsRecording view options file wave (Ok x) =
     IsReadAs file (view x).0 × (recording_in options wave ≡ Ok (view x).1) × ((view x).2 ≡ sides_of (view x).1.channels)
 ReadsRecording view options file wave (Err fault) =
+    (change : Change) → FailsBefore fault (recording_outcome change options file wave)
+
+-- The same, with the points of the recording, without regard to whether they are converted: no edit depends on that.
+abbrev pub ReadsInPlace : {X : Type 0} → (X → Parts × Recording × Sides) → ReadOptions → List ℕ → List ℕ
+    → Result X RunFault → Type 0
+ReadsInPlace view options file wave (Ok x) =
+    IsReadAs file (view x).0
+    × (result_map_both with_points (λ fault. fault) (recording_in options wave) ≡ Ok (with_points (view x).1))
+    × ((view x).2 ≡ sides_of (view x).1.channels)
+ReadsInPlace view options file wave (Err fault) =
     (change : Change) → FailsBefore fault (recording_outcome change options file wave)
 
 -- the edits of a change, or its fault

@@ -28,7 +28,7 @@ pub fn new_run<W: Write>(alloc: Global, minor: u16, out: &mut W) -> Result<(), R
 }
 
 /// An empty bank.
-pub(crate) fn empty_bank(alloc: Global, minor: u16) -> Result<Bank<'static>, OutOfMemory>
+pub(crate) fn empty_bank<'a>(alloc: Global, minor: u16) -> Result<Bank<'a>, OutOfMemory>
     ensures { IfOk result (λ bank. bank ≡ empty minor) }
 {
     let parts = Parts {
@@ -41,7 +41,7 @@ pub(crate) fn empty_bank(alloc: Global, minor: u16) -> Result<Bank<'static>, Out
     Ok(Bank::from_sound_parts(parts))
 }
 
-fn empty_texts() -> Texts<'static>
+fn empty_texts<'a>() -> Texts<'a>
     ensures { result ≡ empty_texts }
 {
     Texts {

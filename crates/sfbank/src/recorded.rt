@@ -7,7 +7,7 @@ ghost use Rattle.sfbank.specs.Outcome.{after_script};
 ghost use Rattle.sfbank.specs.Prepared.{texts_of_bank};
 ghost use Rattle.sfbank.specs.Recordings.{appended, put_in_place, change_of, after_edits, fault_of_replacement, import_outcome};
 ghost use Rattle.sfbank.specs.Recordings.{recording_outcome, replace_outcome, IsScripted, IsRecordingUndone, IsReplaced};
-ghost use Rattle.sfbank.specs.Steps.{ReadsRecording, IsChange};
+ghost use Rattle.sfbank.specs.Steps.{ReadsRecording, ReadsInPlace, IsChange};
 ghost use Rattle.sfbank.specs.Written.{Prepared, Runs};
 
 use crate::edited_bank::{EditedBank, apply_all};
@@ -21,10 +21,12 @@ use edit_script::Line;
 use program_hints::Remarks;
 use program_reports::RunFault;
 use sample_replacements::{ReplaceFault, replacement_edits};
-use sf_base::OutOfMemory;
+use sf_base::{Failure, OutOfMemory};
 use std::alloc::Global;
 use std::io::Write;
-use wave_file::{ReadOptions, Recording, Sides, WaveFault, import_edits, read_recording};
+use wave_file::{
+    ReadOptions, Recording, Sides, WaveFault, import_edits, read_in_place, read_recording,
+};
 
 /// Where a recording goes in a bank.
 #[derive(Clone, Copy)]
@@ -152,6 +154,29 @@ pub(crate) fn read_recorded<'a>(
             let sides = Sides::of(alloc, &recording.channels)?;
             Ok((bank, recording, sides))
         }
+        Err(fault) => Err(fault),
+    }
+}
+
+/// Reads a file as a bank, and a WAVE file as a recording with its sides. Where it can, it converts samples in the
+/// memory of the WAVE file.
+pub(crate) fn read_recorded_in_place<'a>(
+    alloc: Global,
+    file: &'a [u8],
+    wave: &'a mut [u8],
+    options: ReadOptions,
+) -> Result<(Bank<'a>, Recording<'a>, Sides), RunFault>
+    ensures { ReadsInPlace (λ all. all) options file.now wave.old result }
+{
+    match read_bank(alloc, file) {
+        Ok((bank, _counts)) => match read_in_place(alloc, wave, options) {
+            Ok(recording) => {
+                let sides = Sides::of(alloc, &recording.channels)?;
+                Ok((bank, recording, sides))
+            }
+            Err(Failure::Fault(fault)) => Err(RunFault::Recording(fault)),
+            Err(Failure::OutOfMemory) => Err(RunFault::Memory),
+        },
         Err(fault) => Err(fault),
     }
 }

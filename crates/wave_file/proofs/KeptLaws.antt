@@ -28,7 +28,7 @@ body_or : (a b : Option Chunk)
 body_or None b = refl
 body_or (Some c) b = refl
 
-first_body-append : (id : List ℕ) (xs ys : List Chunk)
+pub first_body-append : (id : List ℕ) (xs ys : List Chunk)
     → first_body id (xs ++ ys) ≡ option_or (first_body id xs) (first_body id ys)
 first_body-append id xs ys =
     ap (option_map (λ (c : Chunk). c.body)) (find-append (λ (c : Chunk). bytes_eq c.id id) xs ys)

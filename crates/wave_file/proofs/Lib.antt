@@ -7,3 +7,5 @@ pub mod ImportLaws
 pub mod FitLaws
 pub mod WrittenLaws
 pub mod BackLaws
+pub mod DataLaws
+pub mod FrameLaws

@@ -8,3 +8,4 @@ pub mod Kept
 pub mod ReadChecks
 pub mod Imports
 pub mod Laws
+pub mod InPlace

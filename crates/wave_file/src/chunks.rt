@@ -18,7 +18,7 @@ use sf_base::{front_of, rest_from};
 use std::marker::Model;
 
 /// The size of a chunk header, in bytes.
-const HEAD_SIZE: usize = 8;
+pub(crate) const HEAD_SIZE: usize = 8;
 
 /// The header of data of unknown size.
 const STREAMED_HEAD: [u8; 8] = [b'd', b'a', b't', b'a', 255, 255, 255, 255];
@@ -103,7 +103,7 @@ impl<'a> WaveChunks<'a> {
 }
 
 // The bytes of a chunk with this body.
-fn chunk_size(body: &[u8]) -> usize
+pub(crate) fn chunk_size(body: &[u8]) -> usize
     ensures { result ≡ 8 + length body.now + length body.now % 2 }
 {
     HEAD_SIZE + body.len() + body.len() % 2

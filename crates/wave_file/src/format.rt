@@ -179,7 +179,7 @@ fn read_channels<'a>(
 }
 
 // The size of a frame, in bytes.
-fn frame_size(format: Format) -> usize
+pub(crate) fn frame_size(format: Format) -> usize
     requires { HasChannel format.layout }
     ensures value { result ≡ frame_size format }
     ensures some { 0 < result }

@@ -4,13 +4,16 @@
 //! all others are skipped. The sizes of the RIFF chunk and of `data` may be unknown.
 #![tactic(auto)]
 
+mod channel_frames;
 mod channel_samples;
 mod chunks;
+mod data_range;
 mod encoding;
 mod fault;
 mod first_bodies;
 mod format;
 mod importing;
+mod in_place;
 mod laws;
 mod options;
 mod reading;
@@ -26,6 +29,7 @@ pub use channel_samples::ChannelSamples;
 pub use encoding::{WaveFile, write_wave};
 pub use fault::WaveFault;
 pub use importing::import_edits;
+pub use in_place::read_in_place;
 pub use laws::sample_waves_read_back;
 pub use options::ReadOptions;
 pub use reading::read_recording;

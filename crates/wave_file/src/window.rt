@@ -9,7 +9,7 @@ use bank_format::window_of;
 use sf_base::{front_of, part_of, rest_from};
 
 /// The size of the header of the RIFF chunk and its form, in bytes.
-const HEAD_SIZE: usize = 12;
+pub(crate) const HEAD_SIZE: usize = 12;
 
 /// An unknown size, as programs that write to a pipe leave it.
 const UNKNOWN_SIZE: [u8; 4] = [255; 4];

@@ -10,7 +10,7 @@ ghost use Rattle.sfbank.specs.RecordingPlans.{RecordsBy};
 use super::checks::{EditPaths, reject_outputs};
 use super::inputs::read_two;
 use super::outputs::save_both;
-use crate::recorded::{Destination, apply_recording, read_recorded};
+use crate::recorded::{Destination, apply_recording, read_recorded_in_place};
 use file_host::Host;
 use program_reports::Fault;
 use std::alloc::Global;
@@ -36,28 +36,30 @@ pub(super) fn record<'a, H: Host>(
 {
     match reject_outputs(host, work.paths) {
         Ok(()) => match read_two(host, alloc, work.paths.input, work.paths.other) {
-            Ok((file, wave)) => save_recorded(host, alloc, work, file.as_slice(), wave.as_slice()),
+            Ok((file, mut wave)) => {
+                save_recorded(host, alloc, work, file.as_slice(), wave.as_mut_slice())
+            }
             Err(fault) => Err(fault),
         },
         Err(fault) => Err(fault),
     }
 }
 
-// Saves the bank with the recording, and the undo script.
+// Saves the bank with the recording, and the undo script. The WAVE file's memory is written over.
 fn save_recorded<'a, H: Host>(
     host: &mut H,
     alloc: Global,
     work: RecordingWork<'a, '_>,
     file: &[u8],
-    wave: &[u8],
+    wave: &mut [u8],
 ) -> Result<(), Fault<'a>>
     ensures { (printed : Option (List ℕ)) → EndsFor (λ w. with_both work.entry.paths.out.now work.entry.paths.undo.now
-        (recording_outcome (change_of work.entry.destination) work.entry.options file.now wave.now))
+        (recording_outcome (change_of work.entry.destination) work.entry.options file.now wave.old))
         (record { files = H.world host.old; printed = printed })
         (record { files = H.world host.new; printed = printed }) (H.written host.new) result }
 {
     let EditPaths { out, undo, .. } = work.paths;
-    match read_recorded(alloc, file, wave, work.options) {
+    match read_recorded_in_place(alloc, file, wave, work.options) {
         Ok((bank, recording, sides)) => {
             match apply_recording(alloc, bank, work.destination, recording, &sides) {
                 Ok(edited_bank) => save_both(host, out, undo, &edited_bank),

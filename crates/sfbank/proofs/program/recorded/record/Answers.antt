@@ -11,7 +11,7 @@ returns-in-Ok-read_two g c request printed does =
     two_go_on request (edit_part p) (λ w a b. with_both p.out.now p.undo.now (recording_outcome (change_of work.destination) work.options a b)) p.input.now p.other.now _
     (g.H.Host.world c.reject_outputs.new.host) _ _ _ _ c.save_recorded.result tt c.in-Ok-read_two.file.items
     c.in-Ok-read_two.wave.items does.plans does.inputs c.in-Ok.ensures c.in-Ok-read_two.ensures
-    (rw (c.as_slice.ensures.value, c.as_slice-in-Ok-read_two.ensures.value) at (c.save_recorded.ensures printed))
+    (rw (c.as_slice.ensures.value, c.as_mut_slice.ensures.value) at (c.save_recorded.ensures printed))
 
 pub returns-in-Err-read_two : goal.returns-in-Err-read_two
 returns-in-Err-read_two g c request printed does =
