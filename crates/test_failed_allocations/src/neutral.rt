@@ -130,7 +130,7 @@ fn line_of(edit: &Edit<'_>) -> FixedWriter {
     out
 }
 
-fn edit_of(call: Call) -> Option<Edit<'static>> {
+fn edit_of<'a>(call: Call) -> Option<Edit<'a>> {
     match call {
         Call::Rename => match Name20::from_bytes(b"ABCDEFGHIJKLMNOPQRST") {
             Ok(name) => Some(Edit::One(Step::Sample(SampleStep::RenameSample { sample: 0, name }))),

@@ -195,15 +195,15 @@ fn made(
     }
 }
 
-fn tried(
+fn tried<'a>(
     alloc: Global,
-    session: &mut Session<'_>,
-    edit: Edit<'static>,
+    session: &mut Session<'a>,
+    edit: Edit<'a>,
 ) -> Result<Option<Refusal>, OutOfMemory> {
     edited(session.edit(alloc, edit))
 }
 
-fn edit_of(alloc: Global, change: Change) -> Result<Edit<'static>, OutOfMemory> {
+fn edit_of<'a>(alloc: Global, change: Change) -> Result<Edit<'a>, OutOfMemory> {
     match change {
         Change::Rename => rename(),
         Change::Title => Ok(Edit::One(Step::Text(TextStep::SetInfo {
@@ -215,7 +215,7 @@ fn edit_of(alloc: Global, change: Change) -> Result<Edit<'static>, OutOfMemory> 
     }
 }
 
-fn rename() -> Result<Edit<'static>, OutOfMemory> {
+fn rename<'a>() -> Result<Edit<'a>, OutOfMemory> {
     match Name20::from_bytes(b"u") {
         Ok(name) => Ok(Edit::One(Step::Sample(SampleStep::RenameSample { sample: 0, name }))),
         Err(_) => Err(OutOfMemory),
@@ -223,7 +223,7 @@ fn rename() -> Result<Edit<'static>, OutOfMemory> {
 }
 
 // A group that removes the zone of the instrument, then the sample it uses.
-fn emptying(alloc: Global) -> Result<Edit<'static>, OutOfMemory> {
+fn emptying<'a>(alloc: Global) -> Result<Edit<'a>, OutOfMemory> {
     let mut steps = Vec::new(alloc);
     steps.push(Step::Zone(Owner::Inst(0), ZoneStep::RemoveZone { zone: 0 }))?;
     steps.push(Step::Sample(SampleStep::RemoveSample { sample: 0 }))?;

@@ -156,7 +156,7 @@ fn silent() -> File {
 }
 
 /// The group that removes the zone and the sample of `tone`.
-fn removals(alloc: Global) -> Result<Edit<'static>, OutOfMemory> {
+fn removals<'a>(alloc: Global) -> Result<Edit<'a>, OutOfMemory> {
     let mut steps = Vec::new(alloc);
     steps.push(Step::Zone(Owner::Inst(0), ZoneStep::RemoveZone { zone: 0 }))?;
     steps.push(Step::Sample(SampleStep::RemoveSample { sample: 0 }))?;
