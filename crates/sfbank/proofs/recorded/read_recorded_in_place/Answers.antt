@@ -9,6 +9,6 @@ returns-in-Err-Fault c change =
     (no_recording change c.args.options c.args.file.now c.args.wave.now c.in-Ok.bank c.in-Ok._counts
     c.in-Err-Fault.fault c.in-Ok.ensures (sym (rw c.in-Err-Fault.field-0-is at c.in-Err-Fault.ensures)))
 
-pub returns-in-Err : goal.returns-in-Err
-returns-in-Err c change =
+pub returns : goal.returns
+returns c change =
     recording_fails (λ both. both) change c.args.options c.in-Err.fault c.args.file.now c.args.wave.now c.in-Err.ensures
