@@ -70,10 +70,10 @@ pub fn kit_run<'x, W: Write, V: Write>(
 }
 
 // Brings the recordings into the bank, and writes both texts.
-fn add_kit<'x, W: Write, V: Write>(
+fn add_kit<W: Write, V: Write>(
     alloc: Global,
-    file: &'x [u8],
-    waves: Vec<KitWave<'x>>,
+    file: &[u8],
+    waves: Vec<KitWave<'_>>,
     options: ReadOptions,
     zones: &[(usize, KitZone)],
     members: KitMembers,
@@ -95,10 +95,10 @@ fn add_kit<'x, W: Write, V: Write>(
 }
 
 /// Reads a file as a bank, and WAVE files as recordings with their sides.
-pub(crate) fn read_kit<'a>(
+pub(crate) fn read_kit<'a, 'w: 'a>(
     alloc: Global,
     file: &'a [u8],
-    waves: Vec<KitWave<'a>>,
+    waves: Vec<KitWave<'w>>,
     options: ReadOptions,
 ) -> Result<(Bank<'a>, Vec<KitRecording<'a>>, Vec<Sides>), RunFault>
     ensures { ReadsKit (λ kit. kit.0) (λ kit. kit.1.items) (λ kit. kit.2.items) options (map source_of waves.entry.items) file.now result }
@@ -114,9 +114,9 @@ pub(crate) fn read_kit<'a>(
 }
 
 // Reads WAVE files as recordings.
-fn read_recordings<'a>(
+fn read_recordings<'a, 'w: 'a>(
     alloc: Global,
-    waves: Vec<KitWave<'a>>,
+    waves: Vec<KitWave<'w>>,
     options: ReadOptions,
 ) -> Result<Vec<KitRecording<'a>>, RunFault>
     ensures { ReadsRecordings (λ recordings. recordings.items) (recordings_in options (map source_of waves.entry.items)) result }

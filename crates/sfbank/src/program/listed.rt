@@ -166,15 +166,15 @@ fn kit_waves(alloc: Global, files: &[ReadFile]) -> Result<Vec<KitWave<'_>>, OutO
     Ok(sources)
 }
 
-fn save_sources<'a, 'x, H: Host>(
+fn save_sources<'a, H: Host>(
     host: &mut H,
     alloc: Global,
     work: KitWork<'a>,
-    file: &'x [u8],
+    file: &[u8],
     entries: &[Entry<'_>],
     zones: &[(usize, KitZone)],
     members: KitMembers,
-    sources: Vec<KitWave<'x>>,
+    sources: Vec<KitWave<'_>>,
 ) -> Result<(), Fault<'a>>
     ensures { (printed : Option (List ℕ)) → EndsFor (λ w. with_kit work.entry (map entry_of entries.now)
         (kit_outcome (record { zones = zones.now; members = members }) work.entry.options (map source_of sources.entry.items) file.now))

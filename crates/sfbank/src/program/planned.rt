@@ -91,11 +91,11 @@ fn put_found<'a, 'b, H: Host, O: Write + KnowsError>(
 }
 
 // Prints the script of edits.
-fn print_edits<'a, O: Write + KnowsError>(
+fn print_edits<'a, 'b, O: Write + KnowsError>(
     alloc: Global,
     paths: PlanPaths<'a>,
-    bank: &Bank<'_>,
-    edits: &[Edit<'_>],
+    bank: &Bank<'b>,
+    edits: &[Edit<'b>],
     output: &mut O,
 ) -> Result<(), Fault<'a>>
     requires { AllAccepted bank.now edits.now }
