@@ -214,7 +214,7 @@ fn note_of(call: Call) -> Option<Note> {
 }
 
 // The edit of a call; `None` for a start.
-fn step_of(alloc: Global, call: Call) -> Option<Step<'static>> {
+fn step_of<'a>(alloc: Global, call: Call) -> Option<Step<'a>> {
     let owner = Owner::Inst(0);
     match call {
         Call::Start | Call::Outside | Call::Absent => None,
