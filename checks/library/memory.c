@@ -61,7 +61,7 @@ static void try_pieces(void) {
     CHECK(sfbank_start(&player, &bank, 0, 0, 70, 100, 100) == SFBANK_OK);
     unsigned long seen = shim_calls(), freed = shim_frees();
     for (int n = 0; n < 100; n++) CHECK(sfbank_block(&player, values, 2048) == SFBANK_OK);
-    CHECK(shim_frees() == freed + 2 && shim_calls() == seen + 2);
+    CHECK(shim_frees() > freed && shim_calls() - seen == shim_frees() - freed);
     CHECK(sfbank_voices(&player, &voices) == SFBANK_OK && voices == 0);
 }
 
