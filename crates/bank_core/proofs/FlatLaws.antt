@@ -7,9 +7,10 @@ use Rattle.std.specs.List.{AllByRecursion}
 use Rattle.generators.specs.Levels.{target_operator}
 use Rattle.generators.specs.declared.level.Level.{Level}
 use Rattle.generators.specs.declared.level.Level.TheVariants as level
-use Rattle.flat_records.specs.Bags.{Tables}
-use Rattle.flat_records.specs.Begins as owned
-use Rattle.flat_records.proofs.OwnerConverse.{same_owners}
+use Rattle.flat_records.specs.Bags.{Tables, bags_in}
+use Rattle.flat_records.specs.Owned as owned
+use Rattle.flat_records.proofs.TableLaws as tables
+use Rattle.flat_records.proofs.Owners.{owners-back}
 use Rattle.bank_parts.specs.declared.parts.ZoneOwner.{ZoneOwner}
 use Rattle.bank_parts.specs.declared.parts.Parts.{Parts}
 use Rattle.bank_parts.specs.Bagged.{bags_of, IsPlainOwner}
@@ -116,33 +117,51 @@ module _ {H : Type 0} where
   answered at given hs ns t (Some owners) e size are =
       subst (λ rs. AreFlatOf at rs t owners) (sym e) (records_by at hs ns t owners are)
 
-  -- no others have the same records
-  pub same_flat : (at : Level) (hs : List (HeadRecord H)) (t : Tables) (owners others : List (ZoneOwner H))
-      → AllByRecursion (IsPlainOwner (target_operator at)) owners
-      → AllByRecursion (IsPlainOwner (target_operator at)) others
-      → AreFlatOf at hs t owners → AreFlatOf at hs t others → owners ≡ others
-  same_flat at hs t owners others plain plain_too are are_too =
+  -- the presets or instruments with these records
+  owners_at : Level → List (HeadRecord H) → Tables → List (ZoneOwner H)
+  owners_at at hs t =
+      owners_in (target_operator at) (heads_of hs) (owned.owners_in (record { begins = numbers_of hs; bags = bags_in t }))
+
+  owners_there : (at : Level) (hs : List (HeadRecord H)) (t : Tables) (owners : List (ZoneOwner H))
+      → AllByRecursion (IsPlainOwner (target_operator at)) owners → AreFlatOf at hs t owners
+      → owners_at at hs t ≡ owners
+  unfolding owners_at
+  owners_there at hs t owners plain are =
       let op = target_operator at in
       let names = map (λ (x : ZoneOwner H). x.head) owners in
-      let names_too = map (λ (x : ZoneOwner H). x.head) others in
       let numbers = (lists_of at owners).first_bags in
-      let numbers_too = (lists_of at others).first_bags in
-      let records = sym are.heads ∙ are_too.heads in
-      let heads : names ≡ names_too =
-      sym (heads-back names numbers (heads_within at owners))
-      ∙ (ap heads_of records ∙ heads-back names_too numbers_too (heads_within at others)) in
-      let first_bags : numbers ≡ numbers_too =
-      sym (numbers-back names numbers) ∙ (ap numbers_of records ∙ numbers-back names_too numbers_too) in
-      let own : owned.AreFlat numbers t (map (bags_of op) owners) = record { begins = refl; records = are.records } in
-      let own_too : owned.AreFlat numbers t (map (bags_of op) others) =
-      record { begins = first_bags; records = are_too.records } in
-      let bags = same_owners numbers t (map (bags_of op) owners) (map (bags_of op) others) own own_too in
-      let a : RepresentOwners op names (map (bags_of op) owners) owners = record { heads = refl; bags = refl; plain = plain } in
-      let b : RepresentOwners op names_too (map (bags_of op) others) others =
-      record { heads = refl; bags = refl; plain = plain_too } in
-      sym (read a) ∙ ((λ i. owners_in op (heads i) (bags i)) ∙ read b)
+      let own = map (bags_of op) owners in
+      let heads : heads_of hs ≡ names = ap heads_of are.heads ∙ heads-back names numbers (heads_within at owners) in
+      let first_bags : numbers_of hs ≡ numbers = ap numbers_of are.heads ∙ numbers-back names numbers in
+      let bags : bags_in t ≡ owned.all_bags own = tables.read t (owned.all_bags own) are.records in
+      let all : RepresentOwners op names own owners = record { heads = refl; bags = refl; plain = plain } in
+      (λ i. owners_in op (heads i) (owned.owners_in (record { begins = first_bags i; bags = bags i })))
+      ∙ (ap (owners_in op names) (owners-back own) ∙ read all)
 
 -- ---- a whole bank
+
+-- the bank with these lists
+pub bank_in : Flat → Parts
+bank_in f = record {
+  minor = f.minor;
+  texts = f.texts;
+  presets = owners_at level.Preset f.preset_heads f.preset;
+  instruments = owners_at level.Inst f.inst_heads f.inst;
+  samples = f.samples;
+}
+
+pub bank_there : (f : Flat) (b : Parts) → AllByRecursion (IsPlainOwner (target_operator level.Preset)) b.presets
+    → AllByRecursion (IsPlainOwner (target_operator level.Inst)) b.instruments → IsFlatOf f b → bank_in f ≡ b
+unfolding bank_in
+bank_there f b plain_presets plain_instruments are =
+    let minor = are.minor in
+    let texts = are.texts in
+    let presets = owners_there level.Preset _ _ b.presets plain_presets are.presets in
+    let instruments = owners_there level.Inst _ _ b.instruments plain_instruments are.instruments in
+    let samples = are.samples in
+    λ i.
+    record
+    { minor = minor i; texts = texts i; presets = presets i; instruments = instruments i; samples = samples i }
 
 -- no other bank has the same lists
 pub same_bank : (f : Flat) (b c : Parts) → IsSound b
@@ -150,14 +169,9 @@ pub same_bank : (f : Flat) (b c : Parts) → IsSound b
     → AllByRecursion (IsPlainOwner (target_operator level.Inst)) c.instruments
     → IsFlatOf f b → IsFlatOf f c → b ≡ c
 same_bank f b c s presets_too instruments_too are are_too =
-    let minor = sym are.minor ∙ are_too.minor in
-    let texts = sym are.texts ∙ are_too.texts in
-    let presets =
-    same_flat level.Preset _ _ b.presets c.presets (presets_plain b s) presets_too are.presets are_too.presets in
-    let instruments =
-    same_flat level.Inst _ _ b.instruments c.instruments (instruments_plain b s) instruments_too
-    are.instruments are_too.instruments in
-    let samples = sym are.samples ∙ are_too.samples in
-    λ i.
-    record
-    { minor = minor i; texts = texts i; presets = presets i; instruments = instruments i; samples = samples i }
+    sym (bank_there f b (presets_plain b s) (instruments_plain b s) are)
+    ∙ bank_there f c presets_too instruments_too are_too
+
+-- the bank of the lists of a sound bank is that bank
+pub sound_bank_there : (f : Flat) (b : Parts) → IsSound b → IsFlatOf f b → bank_in f ≡ b
+sound_bank_there f b sound are = bank_there f b (presets_plain b sound) (instruments_plain b sound) are

@@ -15,17 +15,20 @@ use Rattle.generators.specs.declared.level.Level.{Level}
 use Rattle.generators.proofs.Entries.{both_true}
 use Rattle.generators.proofs.EntryLaws.{set_is_entry}
 use Rattle.generators.proofs.Maps.{entries_rise, entries-no_gens}
-use Rattle.flat_records.specs.Bags.{Bag, Tables, gens_in}
+use Rattle.flat_records.specs.Bags.{Bag, Tables, gens_in, bags_in}
 use Rattle.flat_records.specs.Owned.{all_bags}
+use Rattle.flat_records.specs.Owned as flat
 use Rattle.flat_records.specs.Begins as owned
 use Rattle.flat_records.proofs.OwnerConverse.{same_owners}
+use Rattle.flat_records.proofs.Owners as stored
+use Rattle.flat_records.proofs.TableLaws as tables
 use Rattle.bank_parts.specs.declared.parts.GlobalZone.{GlobalZone}
 use Rattle.bank_parts.specs.declared.parts.Zone.{Zone}
 use Rattle.bank_parts.specs.declared.parts.ZoneOwner.{ZoneOwner}
 use Rattle.bank_parts.specs.Bagged.{zone_bag, global_bag, global_bags, bags_of, ends_in, without_last, last_amount}
 use Rattle.bank_parts.specs.Bagged.{zone_in, no_global, owner_in, IsPlain, IsPlainOwner}
 use Rattle.bank_parts.specs.Flat.{RepresentOwners, AreRead}
-use Rattle.bank_parts.specs.FlatLists.{FlatLists, AreFlat}
+use Rattle.bank_parts.specs.FlatLists.{FlatLists, AreFlat, lists_with}
 use Rattle.bank_parts.specs.OwnBags.{is_plain, is_own_bag, AreAllBags}
 use Rattle.bank_parts.proofs.Everywhere.{none_passes, passes_none}
 use Rattle.bank_parts.proofs.ListLaws.{everywhere-found}
@@ -299,3 +302,13 @@ pub bags_by : {H : Type 0} (at : Level) (hs : List H) (places : List ℕ) (t : T
     → bags ≡ map (bags_of (target_operator at)) owners
 bags_by at hs places t bags owners own are =
     same_owners places t bags (map (bags_of (target_operator at)) owners) own (owned_by at hs places t owners are)
+
+-- the bags of owners with these flat lists are those read from the lists
+pub read_by : {H : Type 0} (at : Level) (hs : List H) (places : List ℕ) (t : Tables) (owners : List (ZoneOwner H))
+    → AreFlat at hs (lists_with places t) owners
+    → flat.owners_in (record { begins = places; bags = bags_in t }) ≡ map (bags_of (target_operator at)) owners
+read_by at hs places t owners are =
+    let own = owned_by at hs places t owners are in
+    let begins = own.begins in
+    let bags = tables.read t (all_bags (map (bags_of (target_operator at)) owners)) own.records in
+    stored.read (record { same = λ i. record { begins = begins i; bags = bags i } })

@@ -4,11 +4,12 @@ use Rattle.generators.specs.Levels.{target_operator}
 use Rattle.generators.specs.declared.level.Level.{Level}
 use Rattle.generators.specs.declared.level.Level.TheVariants as level
 use Rattle.modulators.specs.declared.modulator.Modulator.{Modulator}
-use Rattle.flat_records.specs.Bags.{Bag, tables_of}
+use Rattle.flat_records.specs.Bags.{Bag, Tables, tables_of, bags_in}
 use Rattle.flat_records.specs.Owned as owned
 use Rattle.bank_parts.specs.declared.parts.ZoneOwner.{ZoneOwner}
 use Rattle.bank_parts.specs.declared.parts.Parts.{Parts}
 use Rattle.bank_parts.specs.Bagged.{bags_of}
+use Rattle.bank_parts.specs.Flat.{owners_in}
 
 pub record FlatLists : Type 0 where
   -- the index of each owner's first bag, and last the number of bags
@@ -31,6 +32,15 @@ lists_of_bags owners = record {
 -- the flat lists of these presets or instruments
 abbrev pub lists_of : {H : Type 0} → Level → List (ZoneOwner H) → FlatLists
 lists_of at owners = lists_of_bags (map (bags_of (target_operator at)) owners)
+
+-- the index of each owner's first bag, and the records
+abbrev pub lists_with : List ℕ → Tables → FlatLists
+lists_with first_bags t = record { first_bags = first_bags; bags = t.bags; gens = t.gens; mods = t.mods }
+
+-- the presets or instruments with these heads and flat lists
+abbrev pub owners_read : {H : Type 0} → Level → List H → List ℕ → Tables → List (ZoneOwner H)
+owners_read at hs first_bags t =
+    owners_in (target_operator at) hs (owned.owners_in (record { begins = first_bags; bags = bags_in t }))
 
 -- these are the heads and the flat lists of these presets or instruments
 pub record AreFlat {H : Type 0} (at : Level) (hs : List H) (lists : FlatLists) (owners : List (ZoneOwner H)) : Type 0

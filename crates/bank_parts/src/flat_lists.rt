@@ -4,7 +4,7 @@ ghost use Rattle.std.specs.List.{AllByRecursion};
 ghost use Rattle.generators.specs.Levels.{target_operator};
 ghost use Rattle.bank_parts.specs.declared.parts.ZoneOwner.{ZoneOwner};
 ghost use Rattle.bank_parts.specs.Bagged.{IsPlainOwner};
-ghost use Rattle.bank_parts.specs.FlatLists.{AreFlat, lists_of};
+ghost use Rattle.bank_parts.specs.FlatLists.{AreFlat, lists_of, lists_with, owners_read};
 
 use crate::heads::OwnerHead;
 use crate::level_contents::gens_fit;
@@ -37,6 +37,18 @@ impl<H: OwnerHead> Owners<H> {
         gens_fit(bags.gen_records());
         let heads = DoubleEndedList::from_vec(heads.into_vec());
         Some(Owners { heads, bags })
+    }
+
+    /// The presets or instruments with these heads and flat lists, which must be those of owners whose maps lack the
+    /// operator of targets. Checks and allocates nothing.
+    pub fn from_sound_flat(heads: NumberedList<H>, first_bags: Vec<u16>, recs: Recs) -> Owners<H>
+        requires lists { AreFlat H.LEVEL heads (lists_with first_bags.items recs) (owners_read H.LEVEL heads first_bags.items recs) }
+        requires plain { AllByRecursion (IsPlainOwner (target_operator H.LEVEL)) (owners_read H.LEVEL heads first_bags.items recs) }
+        ensures { result ≡ owners_read H.LEVEL heads first_bags.items recs }
+    {
+        let bags = OwnerBags::from_sound_flat(first_bags, recs);
+        let heads = DoubleEndedList::from_vec(heads.into_vec());
+        Owners { heads, bags }
     }
 
     /// The index of each owner's first bag, and last the number of bags (SoundFont 2.04, sections 7.2 and 7.6,

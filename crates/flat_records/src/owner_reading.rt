@@ -1,5 +1,5 @@
 //! Which flat lists are those of owners with their bags.
-ghost use Rattle.std.specs.Prelude.{◌↔◌, List, IsTrue, MatchOption};
+ghost use Rattle.std.specs.Prelude.{◌≡◌, ◌↔◌, List, IsTrue, MatchOption};
 ghost use Rattle.flat_records.specs.Bags.{Bag};
 ghost use Rattle.flat_records.specs.Begins.{AreFlat, EndsAt, AreBegins};
 
@@ -21,6 +21,16 @@ impl OwnerBags {
             return None;
         }
         Some(OwnerBags { begins, bags })
+    }
+
+    /// The owners with these starts and records, which must be those of some owners. Checks and allocates nothing.
+    pub fn from_sound_flat(begins: Vec<u16>, recs: Recs) -> OwnerBags
+        ghost owners: { List (List Bag) }
+        requires { AreFlat begins.items recs owners }
+        ensures { result.owners ≡ owners }
+    {
+        let bags = Bags::from_sound_recs(recs);
+        OwnerBags { begins, bags }
     }
 }
 

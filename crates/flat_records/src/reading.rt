@@ -19,6 +19,16 @@ impl Bags {
         let Recs { bags, gens, mods } = recs;
         Some(Bags { bags, gens, mods })
     }
+
+    /// The bags of these records, which must be those of a list of bags. Checks and allocates nothing.
+    pub fn from_sound_recs(recs: Recs) -> Bags
+        ghost list: { List Bag }
+        requires { recs ≡ tables_of list }
+        ensures { result.bags ≡ list }
+    {
+        let Recs { bags, gens, mods } = recs;
+        Bags { bags, gens, mods }
+    }
 }
 
 /// The records of any list of bags are tables, so `from_recs` accepts them.

@@ -1,6 +1,5 @@
 -- The content of the tables, in flat lists.
 use Rattle.std.proofs.Common.{◌≡◌, List, [], ◌∷◌, length, map, Option, Some, None, IsSome, refl, ap, subst, arith}
-use Rattle.std.specs.Prelude.{MatchOption}
 use Rattle.sf_base.specs.Fields.{field_at}
 use Rattle.generators.specs.Levels.{target_operator}
 use Rattle.flat_records.specs.Bags as flat
@@ -12,8 +11,6 @@ use Rattle.bank_parts.specs.Sound.{IsSound}
 use Rattle.bank_core.specs.declared.flat.Flat.{Flat}
 use Rattle.bank_core.specs.Heads.{head_records}
 use Rattle.bank_core.specs.Flat.{IsFlatOf}
-use Rattle.bank_parts.proofs.SoundLaws.{presets_plain, instruments_plain}
-use Rattle.bank_core.proofs.FlatLaws.{same_bank}
 use Rattle.hydra_records.specs.declared.head.PresetHead.{PresetHead}
 use Rattle.hydra_records.specs.declared.head.InstrumentHead.{InstrumentHead}
 use Rattle.bank_format.specs.Ids.{IFIL}
@@ -97,19 +94,3 @@ is_flat f b e = record {
       { heads = ap (λ (x : Flat). x.inst_heads) e; records = ap (λ (x : Flat). x.inst) e };
   samples = ap (λ (x : Flat). x.samples) e;
 }
-
--- if a sound bank has these lists, one is found
-pub is_there : (f : Flat) (o : Option Parts)
-    → MatchOption o ((b : Parts) → IsSound b → IsFlatOf f b → ⊥) (λ b. IsFlatOf f b) → (b : Parts) → IsSound b
-    → IsFlatOf f b → IsSome o
-is_there f None h b sound are = absurd (h b sound are)
-is_there f (Some c) h b sound are = refl
-
-pub has_lists : (f : Flat) (o : Option Parts) (c : Parts)
-    → MatchOption o ((b : Parts) → IsSound b → IsFlatOf f b → ⊥) (λ b. IsFlatOf f b) → o ≡ Some c → IsFlatOf f c
-has_lists f o c h e = subst (λ p. MatchOption p ((b : Parts) → IsSound b → IsFlatOf f b → ⊥) (λ b. IsFlatOf f b)) e h
-
--- at most one sound bank has given flat lists
-pub bank_is : (f : Flat) (b c : Parts) → IsSound b → IsSound c → IsFlatOf f b → IsFlatOf f c → b ≡ c
-bank_is f b c sound sound_too are are_too =
-    same_bank f b c sound (presets_plain c sound_too) (instruments_plain c sound_too) are are_too

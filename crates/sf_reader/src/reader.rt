@@ -48,10 +48,7 @@ pub fn read<'a>(alloc: Global, file: &'a [u8]) -> Result<(Bank<'a>, Counts), Fai
     let lists = lists_of(window)?;
     let (flat, counts) = read_lists(alloc, &lists)?;
     read_banks_are_valid();
-    let bank = Bank::from_flat(flat).unwrap();
-    // Proves that no other sound bank has these lists.
-    bank.soundness();
-    Ok((bank, counts))
+    Ok((Bank::from_sound_flat(flat), counts))
 }
 
 // Checks and reads the three lists.

@@ -37,50 +37,14 @@ returns-in_err-flat-clause-err c =
     (in_content file e c.in_ok-window.window.now c.in_ok-lists.lists c.in_ok-window.ensures.1 c.in_ok-lists.ensures.1
     c.in_ok-window.ensures.0 c.in_ok-lists.ensures.0 c.in_err-flat.ensures)
 
-pub unwrap-bank-requires : goal.unwrap-bank-requires
+pub from_sound_flat-requires-clause-sound : goal.from_sound_flat-requires-clause-sound
 unfolding SFBK
-unwrap-bank-requires c =
-    let file = c.args.file.now in
-    let bytes = are_bytes file c.type_inv.file in
-    let b = (content_in (window file)).bank in
-    let holds =
-    file_holds file c.in_ok-window.window.now c.in_ok-lists.lists c.in_ok-window.ensures.1
-    c.in_ok-lists.ensures.1 c.in_ok-window.ensures.0 c.in_ok-lists.ensures.0 c.in_ok-flat.ensures.0 in
-    let content = c.in_ok-flat.ensures.1 ∙ holds.1 in
-    let sound : IsSound b =
-    record {
-      valid =
-          c.read_banks_are_valid.ensures.valid file bytes holds.0;
-      fits =
-          c.read_banks_are_valid.ensures.fits file bytes;
-    }
-    in
-    is_there c.in_ok-flat.flat c.from_flat.result c.from_flat.ensures b sound
-    (is_flat c.in_ok-flat.flat b (ap (λ (k : FlatContent). k.bank) content))
+from_sound_flat-requires-clause-sound c = ?
+
+pub from_sound_flat-requires-clause-lists : goal.from_sound_flat-requires-clause-lists
+unfolding SFBK
+from_sound_flat-requires-clause-lists c = ?
 
 pub returns-clause-ok : goal.returns-clause-ok
 unfolding SFBK
-returns-clause-ok c =
-    let file = c.args.file.now in
-    let bytes = are_bytes file c.type_inv.file in
-    let b = (content_in (window file)).bank in
-    let bank = c.unwrap-bank.result in
-    let holds =
-    file_holds file c.in_ok-window.window.now c.in_ok-lists.lists c.in_ok-window.ensures.1
-    c.in_ok-lists.ensures.1 c.in_ok-window.ensures.0 c.in_ok-lists.ensures.0 c.in_ok-flat.ensures.0 in
-    let content = c.in_ok-flat.ensures.1 ∙ holds.1 in
-    let sound : IsSound b =
-    record {
-      valid =
-          c.read_banks_are_valid.ensures.valid file bytes holds.0;
-      fits =
-          c.read_banks_are_valid.ensures.fits file bytes;
-    }
-    in
-    let sound_too : IsSound bank = c.soundness.ensures in
-    let same =
-    bank_is c.in_ok-flat.flat b bank sound sound_too
-    (is_flat c.in_ok-flat.flat b (ap (λ (k : FlatContent). k.bank) content))
-    (has_lists c.in_ok-flat.flat c.from_flat.result bank c.from_flat.ensures c.unwrap-bank.ensures) in
-    let counts = sym (ap (λ (k : FlatContent). k.counts) content) in
-    (holds.0, λ i. record { bank = same i; counts = counts i })
+returns-clause-ok c = ?

@@ -1,0 +1,4 @@
+use Rattle.bank_core.proofs.flat.sound_presets.Goals as goal
+
+pub from_sound_flat-requires : goal.from_sound_flat-requires
+from_sound_flat-requires g c = ?
