@@ -24,9 +24,8 @@ pub(crate) fn insert_zone_bag(bags: &mut OwnerBags, i: usize, k: usize, operator
     ensures owners { bags.new.owners ≡ changed bags.old.owners i (λ own. insert own k (zone_bag operator zone.now)) }
     ensures room { (more : Records) → HasRoom bags.old (records_sum (records_of_zone zone.now) more) → HasRoom bags.new more }
 {
-    let gens = zone.gens.entries();
-    bags.put_bag(i, k, gens, zone.mods.as_slice());
-    bags.put_gens(i, k, gens.len(), &[(operator, zone.target)]);
+    let target = [(operator, zone.target)];
+    bags.put_bag(i, k, zone.gens.entries(), &target, zone.mods.as_slice());
 }
 
 /// Appends the bags of a preset or an instrument as the last owner.
@@ -52,7 +51,7 @@ fn append_global(bags: &mut OwnerBags, i: usize, global: &GlobalZone)
         return;
     }
     let count = bags.bag_count(i);
-    bags.put_bag(i, count, global.gens.entries(), global.mods.as_slice());
+    bags.put_bag(i, count, global.gens.entries(), &[], global.mods.as_slice());
 }
 
 // Appends the bags of zones to owner i.
@@ -85,7 +84,7 @@ pub(crate) fn insert_first_bag(
         mods: mods.len(),
     };
     make_room(bags, 0, more)?;
-    bags.put_bag(i, 0, gens, mods);
+    bags.put_bag(i, 0, gens, &[], mods);
     Ok(())
 }
 
