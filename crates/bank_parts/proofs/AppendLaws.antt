@@ -4,15 +4,14 @@ use Rattle.std.proofs.Common.{List, [], ◌∷◌, ◌++◌, length, map, insert
 use Rattle.std.proofs.Common.{refl, sym, subst, ◌∙◌, ap, length-append, append-nil, append_assoc, arith}
 use Rattle.std.specs.Prelude.{sum_by}
 use Rattle.std.specs.FinMap.{entries, len, len-entries}
-use Rattle.std.specs.Option.{IfSome, IsSomeAnd, option_and_then}
+use Rattle.std.specs.Option.{IfSome, IsSomeAnd}
 use Rattle.std.proofs.lemmas.List.Sums.{sum_by-cons}
 use Rattle.std.proofs.lemmas.Option.{get_or_from_slice_get}
 use Rattle.base_numbered_lists.specs.Moved.{changed}
 use Rattle.base_numbered_lists.proofs.Lists.{slice_get-found, slice_get-changed, changed-found, length-changed}
 use Rattle.base_numbered_lists.proofs.Lists.{slice_set_same}
-use Rattle.flat_records.specs.Runs.{put}
-use Rattle.flat_records.specs.Bags.{Bag, gens_in, mods_in, with_gens}
-use Rattle.flat_records.specs.Owned.{all_bags, bag_at, bag_changed}
+use Rattle.flat_records.specs.Bags.{Bag, gens_in, mods_in}
+use Rattle.flat_records.specs.Owned.{all_bags}
 use Rattle.flat_records.specs.Stored.{Counts}
 use Rattle.flat_records.specs.OwnersStored.{Stored}
 use Rattle.bank_parts.specs.declared.counting.Records.{Records}
@@ -24,16 +23,7 @@ use Rattle.bank_parts.specs.Bagged.{zone_bag, global_bag, global_bags, bags_of}
 use Rattle.bank_parts.specs.Room.{HasRoom, records_of_zones}
 use Rattle.bank_parts.proofs.ListLaws.{get-last, insert-last, set-last}
 use Rattle.bank_parts.proofs.PlaceLaws.{of_some}
-use Rattle.bank_parts.proofs.RoomLaws.{grows, room_at_most, room_same, room_left, changed-twice, get-insert}
-use Rattle.bank_parts.proofs.RoomLaws.{put_and_changed}
-
--- ---- a bag of entries, then its target
-
-pub put-end : {X : Type 0} (xs : List X) (n : ℕ) (ys : List X) → n ≡ length xs → put xs n ys ≡ xs ++ ys
-put-end [] zero ys e = append-nil ys
-put-end [] (suc n) ys e = absurd (omega arith)
-put-end (x ∷ xs) zero ys e = absurd (omega arith)
-put-end (x ∷ xs) (suc n) ys e = ap (λ zs. x ∷ zs) (put-end xs n ys (omega arith))
+use Rattle.bank_parts.proofs.RoomLaws.{room_at_most, room_same, room_left, changed-twice}
 
 -- ---- bags appended to those of one owner
 
@@ -134,45 +124,11 @@ pub append_no_bags : (owners : List (List Bag)) → all_bags (owners ++ [] ∷ [
 append_no_bags [] = refl
 append_no_bags (xs ∷ os) = ap (λ bs. xs ++ bs) (append_no_bags os)
 
--- ---- the bag of a zone, inserted and then given its target
+-- ---- the bag of a zone
 
 pub found_that : {X : Type 0} (P : X → Type 0) (o : Option X) → IsSomeAnd o P → (x : X) × (o ≡ Some x) × P x
 found_that P None h = absurd h
 found_that P (Some x) h = (x, refl, h)
-
-module _ (owners mid : List (List Bag)) (i k : ℕ) (b : Bag)
-    (place : IsSomeAnd (slice_get owners i) (λ own. k ≤ length own))
-    (m : mid ≡ changed owners i (λ own. insert own k b)) where
-  pub bag_put_there : (n : ℕ) → n ≤ length b.gens → IsSomeAnd (bag_at mid i k) (λ (b : Bag). n ≤ length b.gens)
-  bag_put_there n h =
-      let (own, there, within) = found_that (λ (own : List Bag). k ≤ length own) (slice_get owners i) place in
-      let now : slice_get mid i ≡ Some (insert own k b) =
-      ap (λ os. slice_get os i) m ∙ slice_get-changed owners i (λ own. insert own k b) own there in
-      let at : bag_at mid i k ≡ Some b =
-      ap (option_and_then (λ (own : List Bag). slice_get own k)) now ∙ get-insert own k b within in
-      subst (λ o. IsSomeAnd o (λ (b : Bag). n ≤ length b.gens)) (sym at) h
-
-  pub gens_put : length (gens_in (all_bags mid)) ≡ length (gens_in (all_bags owners)) + length b.gens
-  gens_put =
-      let (own, there, within) = found_that (λ (own : List Bag). k ≤ length own) (slice_get owners i) place in
-      ap (λ os. length (gens_in (all_bags os))) m ∙ grows (λ (b : Bag). b.gens) owners i k own b there within
-
-  -- then with the target
-  pub zone_is_put : (new : List (List Bag)) (op : ℕ) (zone : Zone) → b.gens ≡ entries zone.gens → b.mods ≡ zone.mods
-      → new ≡ bag_changed mid i k (λ (c : Bag). with_gens (put c.gens (length b.gens) ((op, zone.target) ∷ [])) c)
-      → new ≡ changed owners i (λ own. insert own k (zone_bag op zone))
-  zone_is_put new op zone g s e =
-      let (own, there, within) = found_that (λ (own : List Bag). k ≤ length own) (slice_get owners i) place in
-      let F = λ (c : Bag). with_gens (put c.gens (length b.gens) ((op, zone.target) ∷ [])) c in
-      let bag : F b ≡ zone_bag op zone =
-      (λ t. record { gens = put-end b.gens (length b.gens) ((op, zone.target) ∷ []) refl t; mods = b.mods })
-      ∙ (λ t. record { gens = g t ++ (op, zone.target) ∷ []; mods = s t }) in
-      e
-      ∙
-      (ap (λ os. bag_changed os i k F) m
-      ∙
-      (put_and_changed owners i k own b F there within
-      ∙ ap (λ b. changed owners i (λ own. insert own k b)) bag))
 
 pub zone_leaves : (s t : Stored) (i k op : ℕ) (zone : Zone) (more : Records)
     → IsSomeAnd (slice_get s.owners i) (λ own. k ≤ length own)

@@ -25,3 +25,4 @@ pub mod StorableLaws
 pub mod SoundLaws
 pub mod FlatListLaws
 pub mod FromFlatLaws
+pub mod NextZones

@@ -1,6 +1,6 @@
 -- Numbers of records after bags are inserted, and that there is capacity for the rest.
 use Rattle.std.proofs.Common.{◌≡◌, ℕ, ◌≤◌, ◌+◌, zero, suc, List, [], ◌∷◌, length, insert, slice_get, set, Some, refl}
-use Rattle.std.proofs.Common.{sym, ◌∙◌, ap, length-append, arith}
+use Rattle.std.proofs.Common.{◌∙◌, ap, length-append, arith}
 use Rattle.std.specs.List.{flat_map}
 use Rattle.std.proofs.lemmas.List.Concat.{flat_map-append}
 use Rattle.base_numbered_lists.specs.Moved.{changed}
@@ -158,23 +158,3 @@ pub changed-twice : {X : Type 0} (xs : List X) (i : ℕ) (x : X) (f g : X → X)
 changed-twice xs i x f g e =
     changed-found (changed xs i f) i g (f x) (slice_get-changed xs i f x e)
     ∙ (ap (λ ys. set ys i (g (f x))) (changed-found xs i f x e) ∙ set-twice xs i (f x) (g (f x)))
-
-set-insert : {X : Type 0} (xs : List X) (k : ℕ) (x y : X) → k ≤ length xs → set (insert xs k x) k y ≡ insert xs k y
-set-insert xs zero x y h = refl
-set-insert [] (suc k) x y h = absurd (omega arith)
-set-insert (z ∷ zs) (suc k) x y h = ap (λ ws. z ∷ ws) (set-insert zs k x y (omega arith))
-
-pub get-insert : {X : Type 0} (xs : List X) (k : ℕ) (x : X) → k ≤ length xs → slice_get (insert xs k x) k ≡ Some x
-get-insert xs zero x h = refl
-get-insert [] (suc k) x h = absurd (omega arith)
-get-insert (z ∷ zs) (suc k) x h = get-insert zs k x (omega arith)
-
--- a bag inserted, then changed by F
-pub put_and_changed : (owners : List (List Bag)) (i k : ℕ) (own : List Bag) (b : Bag) (F : Bag → Bag)
-    → slice_get owners i ≡ Some own → k ≤ length own
-    → bag_changed (changed owners i (λ own. insert own k b)) i k F ≡ changed owners i (λ own. insert own k (F b))
-put_and_changed owners i k own b F there within =
-    changed-twice owners i own (λ own. insert own k b) (λ own. changed own k F) there
-    ∙ (ap (set owners i)
-    (changed-found (insert own k b) k F b (get-insert own k b within) ∙ set-insert own k b (F b) within)
-    ∙ sym (changed-found owners i (λ own. insert own k (F b)) own there))

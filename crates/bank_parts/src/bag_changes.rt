@@ -1,14 +1,15 @@
 //! Changes of the bags of owners: insertion of zones and whole owners, and the bags of global zones, which exist only
 //! while they hold a record.
-ghost use Rattle.std.specs.Prelude.{◌≡◌, ◌==◌, ◌≤◌, ◌<◌, ◌++◌, ◌∷◌, [], length, insert, slice_get, map, IfSome, IsSomeAnd, OnOk, OnErr, IsSome};
+ghost use Rattle.std.specs.Prelude.{◌≡◌, ◌==◌, ◌≤◌, ◌<◌, ◌+◌, ◌^◌, ℕ, ◌++◌, ◌∷◌, [], length, insert, slice_get, map, IfSome, IsSomeAnd, IfErr, OnOk, OnErr, IsSome};
 ghost use Rattle.base_numbered_lists.specs.Moved.{changed};
-ghost use Rattle.flat_records.specs.Bags.{Bag};
-ghost use Rattle.flat_records.specs.Owned.{bag_at};
+ghost use Rattle.flat_records.specs.Bags.{Bag, gens_in, with_gens};
+ghost use Rattle.flat_records.specs.Owned.{all_bags, bag_at, bag_changed};
+ghost use Rattle.flat_records.specs.Stored.{Uses};
 ghost use Rattle.bank_parts.specs.declared.counting.Records.{Records};
 ghost use Rattle.bank_parts.specs.Counts.{records_of_global, records_of_zone, records_of_owner, records_sum};
 ghost use Rattle.bank_parts.specs.Bagged.{zone_bag, global_bags, bags_of};
 ghost use Rattle.bank_parts.specs.Room.{CanHold, HasRoom, records_of_zones};
-ghost use Rattle.bank_parts.specs.Changes.{bag_size, gen_record_removed, mod_record_removed};
+ghost use Rattle.bank_parts.specs.Changes.{FitsIndex, gens_with, bag_size, gen_record_removed, mod_record_removed};
 
 use crate::counting::Records;
 use crate::parts::{GlobalZone, Zone, ZoneOwner};
@@ -24,9 +25,8 @@ pub(crate) fn insert_zone_bag(bags: &mut OwnerBags, i: usize, k: usize, operator
     ensures owners { bags.new.owners ≡ changed bags.old.owners i (λ own. insert own k (zone_bag operator zone.now)) }
     ensures room { (more : Records) → HasRoom bags.old (records_sum (records_of_zone zone.now) more) → HasRoom bags.new more }
 {
-    let gens = zone.gens.entries();
-    bags.put_bag(i, k, gens, zone.mods.as_slice());
-    bags.put_gens(i, k, gens.len(), &[(operator, zone.target)]);
+    let target = [(operator, zone.target)];
+    bags.put_bag(i, k, zone.gens.entries(), &target, zone.mods.as_slice());
 }
 
 /// Appends the bags of a preset or an instrument as the last owner.
@@ -52,7 +52,7 @@ fn append_global(bags: &mut OwnerBags, i: usize, global: &GlobalZone)
         return;
     }
     let count = bags.bag_count(i);
-    bags.put_bag(i, count, global.gens.entries(), global.mods.as_slice());
+    bags.put_bag(i, count, global.gens.entries(), &[], global.mods.as_slice());
 }
 
 // Appends the bags of zones to owner i.
@@ -85,8 +85,28 @@ pub(crate) fn insert_first_bag(
         mods: mods.len(),
     };
     make_room(bags, 0, more)?;
-    bags.put_bag(i, 0, gens, mods);
+    bags.put_bag(i, 0, gens, &[], mods);
     Ok(())
+}
+
+/// Sets a generator of bag `k` of owner `i` at its index, or inserts it at one, into reserved capacity.
+pub(crate) fn put_gen(
+    bags: &mut OwnerBags,
+    i: usize,
+    k: usize,
+    index: Result<usize, usize>,
+    pair: (u16, u16),
+)
+    requires place { IsSomeAnd (bag_at bags.old.owners i k) (λ (b : Bag). FitsIndex b.gens index) }
+    requires room { 0 < bags.old.spare.gens }
+    requires limit { IfErr index (λ (j : ℕ). length (gens_in (all_bags bags.old.owners)) + 1 < 2 ^ 16) }
+    ensures owners { bags.new.owners ≡ bag_changed bags.old.owners i k (λ (b : Bag). with_gens (gens_with b.gens index pair) b) }
+    ensures spare { Uses bags.old.spare bags.new.spare (record { bags = 0; gens = 1; mods = 0 }) }
+{
+    match index {
+        Ok(j) => bags.set_gen(i, k, j, pair),
+        Err(j) => bags.put_gens(i, k, j, &[pair]),
+    }
 }
 
 /// Removes generator `j` of bag `k` of owner `i`, and the bag too if that was its last record.

@@ -72,6 +72,15 @@ impl<H: OwnerHead> Owners<H> {
         }
     }
 
+    // The generators of a place, given the index of its bag among the bags of owner i.
+    pub(crate) fn bag_entries(&self, i: usize, _place: ZonePlace, at: usize) -> &[(u16, u16)]
+        requires there { HasPlace self.now i _place }
+        requires bag { IfSome (slice_get self.now i) (λ (x : ZoneOwner H). Some at ≡ bag_number _place x) }
+        ensures { entries_at self.now i _place ≡ Some result.now }
+    {
+        without_target(Self::operator(), self.bags.gens(i, at))
+    }
+
     /// How many generators a place of owner `i` has, not counting the target.
     pub fn gen_count(&self, i: usize, place: ZonePlace) -> usize
         requires { HasPlace self.now i place }

@@ -36,7 +36,7 @@ impl<H: OwnerHead> Owners<H> {
             insert_first_bag(&mut self.bags, i, &[(operator, amount)], &[])?;
             return Ok(None);
         };
-        let entries = self.entries(i, place);
+        let entries = self.bag_entries(i, place, at);
         match search_entries(entries, operator) {
             Ok(j) => {
                 let was = entries[j].1;
@@ -60,7 +60,7 @@ impl<H: OwnerHead> Owners<H> {
         let Some(at) = self.place_bag(i, place) else {
             return None;
         };
-        let entries = self.entries(i, place);
+        let entries = self.bag_entries(i, place, at);
         match search_entries(entries, operator) {
             Ok(j) => {
                 let was = entries[j].1;

@@ -1,15 +1,16 @@
 //! Insertion, removal and moves of zones, and changes of their targets.
-ghost use Rattle.std.specs.Prelude.{◌≡◌, ◌≤◌, Some, IsSomeAnd, IfOk, IfErr, OnOk, OnErr};
+ghost use Rattle.std.specs.Prelude.{◌≡◌, ◌≤◌, ◌+◌, Some, IsSomeAnd, IfOk, IfErr, OnOk, OnErr};
 ghost use Rattle.bank_parts.specs.declared.owners.ZonePlace.TheVariants as place;
 ghost use Rattle.bank_parts.specs.Owners.{HasPlace, zone_count_at, zone_at, target_at};
 ghost use Rattle.bank_parts.specs.Room.{AreStorable};
-ghost use Rattle.bank_parts.specs.ZoneChanges.{zone_added, zone_removed, zone_moved, target_set};
+ghost use Rattle.bank_parts.specs.ZoneChanges.{zone_added, zone_removed, zone_moved, target_set, gen_set};
 
-use crate::bag_changes::insert_zone_bag;
+use crate::bag_changes::{insert_zone_bag, put_gen};
 use crate::heads::OwnerHead;
-use crate::owners::Owners;
+use crate::owners::{Owners, ZonePlace};
 use crate::parts::Zone;
 use crate::room::make_room;
+use generators::search_entries;
 use sf_base::OutOfMemory;
 use std::alloc::Global;
 
@@ -30,6 +31,34 @@ impl<H: OwnerHead> Owners<H> {
             return Err(zone);
         };
         insert_zone_bag(&mut self.bags, i, at, operator, &zone);
+        Ok(())
+    }
+
+    /// Sets an operator of zone `k` of owner `i`, and inserts a zone after it; later zones move up by one. All memory is
+    /// reserved before the first change: on `OutOfMemory` nothing changes.
+    pub fn set_gen_and_insert_zone(
+        &mut self,
+        i: usize,
+        k: usize,
+        operator: u16,
+        amount: u16,
+        next: &Zone,
+    ) -> Result<(), OutOfMemory>
+        requires there { HasPlace self.old i (place.Zone k) }
+        requires storable { AreStorable H.LEVEL (zone_added (gen_set self.old i (place.Zone k) operator amount) i (k + 1) next.now) }
+        ensures ok { OnOk result (self.new ≡ zone_added (gen_set self.old i (place.Zone k) operator amount) i (k + 1) next.now) }
+        ensures err { OnErr result (self.new ≡ self.old) }
+    {
+        let _count = self.bags.bag_count(i);
+        let at = self.zone_bag(i, k);
+        let entries = self.bag_entries(i, ZonePlace::Zone(k), at);
+        let index = search_entries(entries, operator);
+        let target = Self::operator();
+        let more = next.records();
+        self.bags
+            .reserve(0, more.zones, more.gens.saturating_add(1), more.mods)?;
+        put_gen(&mut self.bags, i, at, index, (operator, amount));
+        insert_zone_bag(&mut self.bags, i, at + 1, target, next);
         Ok(())
     }
 

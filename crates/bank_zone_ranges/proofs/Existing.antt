@@ -1,23 +1,19 @@
 -- Owners and zones that exist, and what the code makes of them.
-use Rattle.std.proofs.Common.{◌≡◌, ◌↔◌, Bool, true≢false, ◌<◌, ◌≤◌, ◌+◌, ◌-◌, ℕ, true, false, List, length, insert}
-use Rattle.std.proofs.Common.{remove, Option, Some, None, IsTrue, refl, sym, ap, subst, ◌∙◌, arith, add-one}
+use Rattle.std.proofs.Common.{◌≡◌, ◌↔◌, Bool, true≢false, ◌<◌, ◌+◌, ◌-◌, ℕ, true, false, List, length, insert}
+use Rattle.std.proofs.Common.{remove, Option, Some, None, IsTrue, refl, sym, ap, subst, ◌∙◌, add-one}
 use Rattle.std.specs.Prelude.{slice_get, slice_set, IsSomeAnd, IfSome}
 use Rattle.std.specs.Option.{option_map, option_map_or, option_and_then}
 use Rattle.std.specs.FinMap as map
 use Rattle.base_numbered_lists.specs.Moved.{changed}
-use Rattle.base_numbered_lists.proofs.Lists.{slice_get-found, slice_get-within, changed-found, length-changed}
+use Rattle.base_numbered_lists.proofs.Lists.{slice_get-found, slice_get-within, changed-found}
 use Rattle.base_numbered_lists.proofs.Lists.{slice_get-changed}
 use Rattle.bank_parts.specs.declared.owners.ZonePlace.TheVariants as place
 use Rattle.bank_parts.specs.declared.parts.Zone.{Zone}
 use Rattle.bank_parts.specs.declared.parts.ZoneOwner.{ZoneOwner}
-use Rattle.bank_parts.specs.Owners.{HasPlace, zone_count_at, zone_at, gens_at, entries_at, amount_at}
+use Rattle.bank_parts.specs.Owners.{HasPlace, zone_at, gens_at, entries_at, amount_at}
 use Rattle.bank_parts.specs.Settings.{Settings, place_changed, settings_of_zone, settings_changed}
 use Rattle.bank_parts.specs.Settings.{zone_with_settings, zones_at, zones_changed, with_zones, with_gens}
 use Rattle.bank_parts.specs.ZoneChanges.{zone_added, zone_removed, gen_set, gen_cleared}
-use Rattle.generators.specs.declared.level.Level.{Level}
-use Rattle.bank_parts.specs.Room.{AreStorable}
-use Rattle.bank_parts.proofs.StorableLaws.{zone_out}
-use Rattle.bank_parts.proofs.UndoneLaws.{gen_set_back, gen_set_cleared}
 use Rattle.bank_zone_ranges.specs.declared.axes.Axis.{Axis}
 use Rattle.bank_zone_ranges.specs.declared.axes.Keep.{Keep}
 use Rattle.bank_zone_ranges.specs.declared.axes.Keep.TheVariants as keeping
@@ -72,38 +68,6 @@ module _ {H : Type 0} (owners : List (ZoneOwner H)) (i k : ℕ) (t : ZoneThere o
   with_setting f =
       changed-found t.member.zones k (λ (z : Zone). zone_with_settings (f (settings_of_zone z)) z) t.zone
       t.zone_there
-
-  -- the number of zones does not change
-  pub place_stays : (op amount : ℕ)
-      → IsSomeAnd (zone_count_at (gen_set owners i (place.Zone k) op amount) i) (λ count. k + 1 ≤ count)
-  place_stays op amount =
-      let f : Settings → Settings = λ s. with_gens (map.insert s.gens op amount) s in
-      let same = length-changed t.member.zones k (λ (z : Zone). zone_with_settings (f (settings_of_zone z)) z) in
-      let lt = zone_within t in
-      let now = slice_get-changed owners i (settings_changed (place.Zone k) f) t.member t.there in
-      let many : k + 1
-      ≤ length (changed t.member.zones k (λ (z : Zone). zone_with_settings (f (settings_of_zone z)) z)) =
-      omega (arith, same, lt) in
-      rw now many
-
-  pub first_stays : (op amount : ℕ) → HasPlace (gen_set owners i (place.Zone k) op amount) i (place.Zone k)
-  first_stays op amount =
-      let f : Settings → Settings = λ s. with_gens (map.insert s.gens op amount) s in
-      let same = length-changed t.member.zones k (λ (z : Zone). zone_with_settings (f (settings_of_zone z)) z) in
-      let lt = zone_within t in
-      let now = slice_get-changed owners i (settings_changed (place.Zone k) f) t.member t.there in
-      let many : k < length (changed t.member.zones k (λ (z : Zone). zone_with_settings (f (settings_of_zone z)) z)) =
-      omega (arith, same, lt) in
-      rw now many
-
-  -- flat lists that can hold both changes can hold the setting alone
-  pub set_storable : {at : Level} (op amount : ℕ) (upper : Zone)
-      → AreStorable at (zone_added (gen_set owners i (place.Zone k) op amount) i (k + 1) upper)
-      → AreStorable at (gen_set owners i (place.Zone k) op amount)
-  set_storable op amount upper s =
-      let f : Settings → Settings = λ s. with_gens (map.insert s.gens op amount) s in
-      zone_out (gen_set owners i (place.Zone k) op amount) i (k + 1) upper (settings_changed (place.Zone k) f t.member)
-      (slice_get-changed owners i (settings_changed (place.Zone k) f) t.member t.there) s
 
   pub split_put : (axis : Axis) (m : ℕ)
       → zone_added
@@ -278,16 +242,6 @@ pub are_alike_by_mods : (axis : Axis) (y z : Zone) (r s : Bool) → y.target ≡
 are_alike_by_mods axis y z r s target t h k =
     tests_equal {P = y.mods ≡ z.mods} s (agree_but_range axis y z) k (λ a. ap (λ (x : Zone). x.mods) (alike_is axis y z a))
     (λ e. is_alike axis y z ((alike_zones axis y z).0 (target, h.0 t, e)))
-
--- ---- an operator with its old amount restored
-
-pub gen_restored : {H : Type 0} (owners : List (ZoneOwner H)) (i k op amount : ℕ) (was : Option ℕ)
-    → HasPlace owners i (place.Zone k) → was ≡ amount_at owners i (place.Zone k) op
-    → option_map_or (λ w. gen_set (gen_set owners i (place.Zone k) op amount) i (place.Zone k) op w) was
-    (gen_cleared (gen_set owners i (place.Zone k) op amount) i (place.Zone k) op)
-    ≡ owners
-gen_restored owners i k op amount None h e = gen_set_cleared owners i (place.Zone k) op amount h (sym e)
-gen_restored owners i k op amount (Some w) h e = gen_set_back owners i (place.Zone k) op w amount (sym e)
 
 -- ---- the result of a join
 

@@ -1,11 +1,11 @@
 //! Split of a zone in two, and join of two zones, in presets or instruments.
-ghost use Rattle.std.specs.Prelude.{◌≡◌, ◌+◌, true, slice_get, Some, IsSome, IfSome, OnOk, OnErr};
+ghost use Rattle.std.specs.Prelude.{◌≡◌, true, slice_get, Some, IsSome, IfSome, OnOk, OnErr};
 ghost use Rattle.std.specs.Option.{option_map_or};
 ghost use Rattle.bank_parts.specs.declared.owners.ZonePlace.TheVariants as place;
 ghost use Rattle.bank_parts.specs.declared.parts.GlobalZone.{GlobalZone};
 ghost use Rattle.bank_parts.specs.Owners.{HasPlace, amount_at};
 ghost use Rattle.bank_parts.specs.Room.{AreStorable};
-ghost use Rattle.bank_parts.specs.ZoneChanges.{zone_added, gen_set, gen_cleared};
+ghost use Rattle.bank_parts.specs.ZoneChanges.{gen_set, gen_cleared};
 ghost use Rattle.bank_zone_ranges.specs.declared.axes.Axis.{Axis};
 ghost use Rattle.bank_zone_ranges.specs.Ranges.{inherited_range};
 ghost use Rattle.bank_zone_ranges.specs.Splits.{is_splittable_at, is_joinable_at, zone_split, zone_joined, have_neighbours, are_neighbours, joint_range};
@@ -13,7 +13,7 @@ ghost use Rattle.bank_zone_ranges.specs.Splits.{is_splittable_at, is_joinable_at
 use crate::agreement::agree_but_range;
 use crate::axes::{Axis, Keep};
 use crate::ranges::{WHOLE_RANGE, inherited_range, own_range, range_operator, zone_range};
-use bank_parts::{OwnerHead, Owners, Zone, ZonePlace};
+use bank_parts::{OwnerHead, Owners, ZonePlace};
 use generators::Range;
 use sf_base::OutOfMemory;
 use std::alloc::Global;
@@ -117,48 +117,24 @@ pub fn split_zone<H: OwnerHead>(
         low: range.low,
         high: at - 1,
     };
-    set_both_zones(owners, i, k, operator, up_to_there.to_amount(), upper)?;
+    let lower = up_to_there.to_amount();
+    owners.set_gen_and_insert_zone(i as usize, k as usize, operator, lower, &upper)?;
     Ok(())
 }
 
-// Sets the operator of zone `k` to this amount, and inserts a zone after it. On `OutOfMemory` nothing changes.
-fn set_both_zones<H: OwnerHead>(
-    owners: &mut Owners<H>,
-    i: u32,
-    k: u32,
-    operator: u16,
-    amount: u16,
-    upper: Zone,
-) -> Result<(), OutOfMemory>
-    requires place { HasPlace owners.old i (place.Zone k) }
-    requires storable { AreStorable H.LEVEL (zone_added (gen_set owners.old i (place.Zone k) operator amount) i (k + 1) upper) }
-    ensures ok { OnOk result (owners.new ≡ zone_added (gen_set owners.old i (place.Zone k) operator amount) i (k + 1) upper) }
-    ensures err { OnErr result (owners.new ≡ owners.old) }
-{
-    let (i, k) = (i as usize, k as usize);
-    let was = owners.set_gen(i, ZonePlace::Zone(k), operator, amount)?;
-    match owners.insert_zone(i, k + 1, upper) {
-        Ok(()) => Ok(()),
-        Err(_upper) => {
-            restore_gen(owners, i, k, operator, was);
-            Err(OutOfMemory)
-        }
-    }
-}
-
-// Restores the old amount of an operator that is set now, or clears it if it had none. Allocates nothing.
-fn restore_gen<H: OwnerHead>(
+// Gives an operator that is set now this amount, or clears it if there is none. Allocates nothing.
+fn set_or_clear_gen<H: OwnerHead>(
     owners: &mut Owners<H>,
     i: usize,
     k: usize,
     operator: u16,
-    was: Option<u16>,
+    amount: Option<u16>,
 )
     requires there { HasPlace owners.old i (place.Zone k) }
     requires set { IsSome (amount_at owners.old i (place.Zone k) operator) }
-    ensures { owners.new ≡ option_map_or (λ amount. gen_set owners.old i (place.Zone k) operator amount) was (gen_cleared owners.old i (place.Zone k) operator) }
+    ensures { owners.new ≡ option_map_or (λ amount. gen_set owners.old i (place.Zone k) operator amount) amount (gen_cleared owners.old i (place.Zone k) operator) }
 {
-    match was {
+    match amount {
         Some(amount) => match owners.set_gen(i, ZonePlace::Zone(k), operator, amount) {
             Ok(_) => {}
             Err(_) => unreachable!(),
@@ -187,10 +163,10 @@ pub fn join_zones<H: OwnerHead>(
     let low = own_range(owners, i, first, axis).unwrap_or(WHOLE_RANGE);
     let high = own_range(owners, i, second, axis).unwrap_or(WHOLE_RANGE);
     let _second = owners.remove_zone(alloc, i, second)?;
-    let was = match keep {
+    let own = match keep {
         Keep::Keep => Some(joint_range(low, high)),
         Keep::Bare => None,
     };
-    restore_gen(owners, i, first, range_operator(axis), was);
+    set_or_clear_gen(owners, i, first, range_operator(axis), own);
     Ok(())
 }

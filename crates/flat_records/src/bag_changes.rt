@@ -1,5 +1,5 @@
 //! Changes of the bags of a level.
-ghost use Rattle.std.specs.Prelude.{◌≡◌, ◌≤◌, ◌<◌, ◌+◌, ◌^◌, length, insert, remove, slice_get, slice_set, Some, IfSome};
+ghost use Rattle.std.specs.Prelude.{◌≡◌, ◌≤◌, ◌<◌, ◌+◌, ◌^◌, ◌++◌, length, insert, remove, slice_get, slice_set, Some, IfSome};
 ghost use Rattle.std.specs.Option.{IsSomeAnd};
 ghost use Rattle.base_numbered_lists.specs.Moved.{changed};
 ghost use Rattle.flat_records.specs.Runs.{put, cut, exchanged};
@@ -9,31 +9,32 @@ ghost use Rattle.flat_records.specs.Stored.{Uses, Frees, counts_of, no_records};
 use crate::bags::Bags;
 use crate::index_pairs::index;
 use crate::index_shift::{exchange_indexes, lower_from, raise_from};
-use crate::pieces::{cut_within, exchange_within, put_within};
+use crate::pieces::{cut_within, exchange_within, put_both_within, put_within};
 use modulators::Modulator;
 
 impl Bags {
-    // Inserts generators and modulators into bag k, at an index each.
+    // Inserts generators, given as two slices, and modulators into bag k, at an index each.
     fn insert_records(
         &mut self,
         k: usize,
         j: usize,
         gens: &[(u16, u16)],
+        last: &[(u16, u16)],
         i: usize,
         mods: &[Modulator],
     )
         requires place { IsSomeAnd (slice_get self.old.bags k) (λ (b : Bag). (j ≤ length b.gens) × (i ≤ length b.mods)) }
-        requires gens { length gens.now ≤ self.old.spare.gens }
+        requires gens { length gens.now + length last.now ≤ self.old.spare.gens }
         requires mods { length mods.now ≤ self.old.spare.mods }
-        requires gens_limit { 0 < length gens.now → length (gens_in self.old.bags) + length gens.now < 2 ^ 16 }
+        requires gens_limit { 0 < length gens.now + length last.now → length (gens_in self.old.bags) + (length gens.now + length last.now) < 2 ^ 16 }
         requires mods_limit { 0 < length mods.now → length (mods_in self.old.bags) + length mods.now < 2 ^ 16 }
-        ensures bags { self.new.bags ≡ changed self.old.bags k (λ (b : Bag). record { gens = put b.gens j gens.now; mods = put b.mods i mods.now }) }
-        ensures spare { Uses self.old.spare self.new.spare (record { bags = 0; gens = length gens.now; mods = length mods.now }) }
+        ensures bags { self.new.bags ≡ changed self.old.bags k (λ (b : Bag). record { gens = put b.gens j (gens.now ++ last.now); mods = put b.mods i mods.now }) }
+        ensures spare { Uses self.old.spare self.new.spare (record { bags = 0; gens = length gens.now + length last.now; mods = length mods.now }) }
     {
         let at = self.bags[k];
-        put_within(&mut self.gens, at.0 as usize + j, gens);
+        put_both_within(&mut self.gens, at.0 as usize + j, gens, last);
         put_within(&mut self.mods, at.1 as usize + i, mods);
-        let by = (gens.len() as u16, mods.len() as u16);
+        let by = ((gens.len() + last.len()) as u16, mods.len() as u16);
         raise_from(&mut self.bags, k + 1, by);
     }
 
@@ -70,19 +71,26 @@ impl Bags {
         self.bags.remove(k);
     }
 
-    /// Inserts a bag as number k, into reserved capacity. Allocates nothing.
-    pub fn put_bag(&mut self, k: usize, gens: &[(u16, u16)], mods: &[Modulator])
+    /// Inserts a bag as number k, into reserved capacity. Its generators are those of `gens`, then those of `last`.
+    /// Allocates nothing.
+    pub fn put_bag(
+        &mut self,
+        k: usize,
+        gens: &[(u16, u16)],
+        last: &[(u16, u16)],
+        mods: &[Modulator],
+    )
         requires place { k ≤ length self.old.bags }
         requires bags { 0 < self.old.spare.bags }
-        requires gens { length gens.now ≤ self.old.spare.gens }
+        requires gens { length gens.now + length last.now ≤ self.old.spare.gens }
         requires mods { length mods.now ≤ self.old.spare.mods }
-        requires gens_limit { length (gens_in self.old.bags) + length gens.now < 2 ^ 16 }
+        requires gens_limit { length (gens_in self.old.bags) + (length gens.now + length last.now) < 2 ^ 16 }
         requires mods_limit { length (mods_in self.old.bags) + length mods.now < 2 ^ 16 }
-        ensures bags { self.new.bags ≡ insert self.old.bags k (record { gens = gens.now; mods = mods.now }) }
-        ensures spare { Uses self.old.spare self.new.spare (record { bags = 1; gens = length gens.now; mods = length mods.now }) }
+        ensures bags { self.new.bags ≡ insert self.old.bags k (record { gens = gens.now ++ last.now; mods = mods.now }) }
+        ensures spare { Uses self.old.spare self.new.spare (record { bags = 1; gens = length gens.now + length last.now; mods = length mods.now }) }
     {
         self.insert_empty_bag(k);
-        self.insert_records(k, 0, gens, 0, mods);
+        self.insert_records(k, 0, gens, last, 0, mods);
     }
 
     /// Removes bag k. Allocates nothing.
@@ -117,7 +125,7 @@ impl Bags {
     {
         self.records_fit();
         self.clear_bag(k);
-        self.insert_records(k, 0, gens, 0, mods);
+        self.insert_records(k, 0, &[], gens, 0, mods);
     }
 
     // The law that the numbers of generators and modulators fit into 16 bits, since the terminal bag has them. It does
@@ -137,7 +145,7 @@ impl Bags {
         ensures bags { self.new.bags ≡ changed self.old.bags k (λ (b : Bag). with_gens (put b.gens j gens.now) b) }
         ensures spare { Uses self.old.spare self.new.spare (record { bags = 0; gens = length gens.now; mods = 0 }) }
     {
-        self.insert_records(k, j, gens, 0, &[]);
+        self.insert_records(k, j, &[], gens, 0, &[]);
     }
 
     /// Removes n generators of bag k from index j. Allocates nothing.
@@ -167,7 +175,7 @@ impl Bags {
         ensures bags { self.new.bags ≡ changed self.old.bags k (λ (b : Bag). with_mods (put b.mods j mods.now) b) }
         ensures spare { Uses self.old.spare self.new.spare (record { bags = 0; gens = 0; mods = length mods.now }) }
     {
-        self.insert_records(k, 0, &[], j, mods);
+        self.insert_records(k, 0, &[], &[], j, mods);
     }
 
     /// Removes n modulators of bag k from index j. Allocates nothing.

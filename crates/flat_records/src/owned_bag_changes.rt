@@ -1,5 +1,5 @@
 //! Changes of the bags of one owner.
-ghost use Rattle.std.specs.Prelude.{◌≡◌, ◌≤◌, ◌<◌, ◌+◌, ◌^◌, length, insert, remove, slice_get, slice_set, IsSome, IfSome};
+ghost use Rattle.std.specs.Prelude.{◌≡◌, ◌≤◌, ◌<◌, ◌+◌, ◌^◌, ◌++◌, length, insert, remove, slice_get, slice_set, IsSome, IfSome};
 ghost use Rattle.std.specs.Option.{IsSomeAnd};
 ghost use Rattle.base_numbered_lists.specs.Moved.{changed};
 ghost use Rattle.flat_records.specs.Runs.{put, cut};
@@ -12,21 +12,29 @@ use crate::owned::{OwnerBags, place};
 use modulators::Modulator;
 
 impl OwnerBags {
-    /// Inserts a bag as number `k` of owner `i`, which must exist, into reserved capacity. Allocates nothing.
-    pub fn put_bag(&mut self, i: usize, k: usize, gens: &[(u16, u16)], mods: &[Modulator])
+    /// Inserts a bag as number `k` of owner `i`, which must exist, into reserved capacity. Its generators are those of
+    /// `gens`, then those of `last`. Allocates nothing.
+    pub fn put_bag(
+        &mut self,
+        i: usize,
+        k: usize,
+        gens: &[(u16, u16)],
+        last: &[(u16, u16)],
+        mods: &[Modulator],
+    )
         requires place { IsSomeAnd (slice_get self.old.owners i) (λ bags. k ≤ length bags) }
         requires bags { 0 < self.old.spare.bags }
-        requires gens { length gens.now ≤ self.old.spare.gens }
+        requires gens { length gens.now + length last.now ≤ self.old.spare.gens }
         requires mods { length mods.now ≤ self.old.spare.mods }
         requires bags_limit { length (all_bags self.old.owners) + 1 < 2 ^ 16 }
-        requires gens_limit { length (gens_in (all_bags self.old.owners)) + length gens.now < 2 ^ 16 }
+        requires gens_limit { length (gens_in (all_bags self.old.owners)) + (length gens.now + length last.now) < 2 ^ 16 }
         requires mods_limit { length (mods_in (all_bags self.old.owners)) + length mods.now < 2 ^ 16 }
-        ensures owners { self.new.owners ≡ changed self.old.owners i (λ bags. insert bags k (record { gens = gens.now; mods = mods.now })) }
-        ensures spare { Uses self.old.spare self.new.spare (record { bags = 1; gens = length gens.now; mods = length mods.now }) }
+        ensures owners { self.new.owners ≡ changed self.old.owners i (λ bags. insert bags k (record { gens = gens.now ++ last.now; mods = mods.now })) }
+        ensures spare { Uses self.old.spare self.new.spare (record { bags = 1; gens = length gens.now + length last.now; mods = length mods.now }) }
         ensures spare_owners { self.new.spare_owners ≡ self.old.spare_owners }
     {
         let at = place(&self.begins, i, k);
-        self.bags.put_bag(at, gens, mods);
+        self.bags.put_bag(at, gens, last, mods);
         raise_from(&mut self.begins, i + 1, 1);
     }
 

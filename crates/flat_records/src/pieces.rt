@@ -1,5 +1,5 @@
 //! Insertion and removal of several members of a list.
-ghost use Rattle.std.specs.Prelude.{◌≡◌, ◌+◌, ◌-◌, ◌≤◌, ◌<◌, length, insert, remove, take, drop, vec_len, vec_capacity};
+ghost use Rattle.std.specs.Prelude.{◌≡◌, ◌+◌, ◌-◌, ◌≤◌, ◌<◌, ◌++◌, length, insert, remove, take, drop, vec_len, vec_capacity};
 ghost use Rattle.flat_records.specs.Runs.{put, cut, exchanged, AreAdjacentRanges};
 
 /// Inserts a member at index `i` of a `Vec` with spare capacity.
@@ -34,6 +34,31 @@ pub(crate) fn put_within<T: Copy>(list: &mut Vec<T>, i: usize, items: &[T])
                 Err(_) => unreachable!(),
             }
             list[i..].rotate_right(items.len());
+        }
+    }
+}
+
+/// Inserts the members of two slices at index `i` of a `Vec` with enough spare capacity, in one shift.
+pub(crate) fn put_both_within<T: Copy>(list: &mut Vec<T>, i: usize, first: &[T], second: &[T])
+    requires place { i ≤ length list.old.items }
+    requires room { vec_len list.old + (length first.now + length second.now) ≤ vec_capacity list.old }
+    ensures list { list.new.items ≡ put list.old.items i (first.now ++ second.now) }
+    ensures len { vec_len list.new ≡ vec_len list.old + (length first.now + length second.now) }
+    ensures capacity { vec_capacity list.old ≤ vec_capacity list.new }
+{
+    match (first, second) {
+        ([], _) => put_within(list, i, second),
+        (_, []) => put_within(list, i, first),
+        _ => {
+            match list.extend_from_slice(first) {
+                Ok(()) => {}
+                Err(_) => unreachable!(),
+            }
+            match list.extend_from_slice(second) {
+                Ok(()) => {}
+                Err(_) => unreachable!(),
+            }
+            list[i..].rotate_right(first.len() + second.len());
         }
     }
 }

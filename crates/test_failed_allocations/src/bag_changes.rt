@@ -74,7 +74,7 @@ fn put_bag(bags: &mut Bags, k: usize) -> bool {
     if k > bags.bag_count() {
         return false;
     }
-    bags.put_bag(k, &GENS, &MODS);
+    bags.put_bag(k, &GENS, &[], &MODS);
     true
 }
 

@@ -1,4 +1,4 @@
-use Rattle.std.proofs.Common.{◌≡◌, length, ap, arith}
+use Rattle.std.proofs.Common.{◌≡◌, [], ◌++◌, length, append-nil, ap, ◌∙◌, arith}
 use Rattle.std.specs.FinMap.{len-entries}
 use Rattle.base_numbered_lists.proofs.Lists.{slice_get-found}
 use Rattle.flat_records.specs.Bags.{Bag}
@@ -46,8 +46,10 @@ put_bag-requires c =
 pub returns : goal.returns
 returns c =
     let g = c.args.global.now in
-    let b : Bag = record { gens = c.entries.result.now; mods = c.as_slice.result.now } in
-    let same : b ≡ global_bag g = λ t. record { gens = c.entries.ensures.all t; mods = c.as_slice.ensures t } in
+    let b : Bag = record { gens = c.entries.result.now ++ []; mods = c.as_slice.result.now } in
+    let entries = append-nil c.entries.result.now ∙ c.entries.ensures.all in
+    let same : b ≡ global_bag g = λ t. record { gens = entries t; mods = c.as_slice.ensures t } in
+    let size = ap length (append-nil c.entries.result.now) in
     record {
       owners =
           global_is_put c.args.bags.now.owners c.put_bag.new.self.owners c.args.i c.bag_count-count.result b g

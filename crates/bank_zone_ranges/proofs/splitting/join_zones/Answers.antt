@@ -16,9 +16,9 @@ returns-clause-ok g c =
     let low_is = c.unwrap_or-low.ensures ∙ ap (λ o. unwrap_or o 32512) low in
     let high_is = c.unwrap_or-high.ensures ∙ ap (λ o. unwrap_or o 32512) high in
     elim c.match-keep.branch [
-      | in-Keep w ↦ rw (c.restore_gen.ensures, c.in_ok-_second.ensures.change, c.range_operator.ensures)
-          (kept owners c.args.i c.args.k c.args.axis c.args.keep h c.match-keep.was w.joint_range.result w.in-Keep.is
-          w.was-is (w.joint_range.ensures ∙ (λ j. joint_range (low_is j) (high_is j))))
-      | in-Bare w ↦ rw (c.restore_gen.ensures, c.in_ok-_second.ensures.change, c.range_operator.ensures)
-          (bared owners c.args.i c.args.k c.args.axis c.args.keep h c.match-keep.was w.in-Bare.is w.was-is)
+      | in-Keep w ↦ rw (c.set_or_clear_gen.ensures, c.in_ok-_second.ensures.change, c.range_operator.ensures)
+          (kept owners c.args.i c.args.k c.args.axis c.args.keep h c.match-keep.own w.joint_range.result w.in-Keep.is
+          w.own-is (w.joint_range.ensures ∙ (λ j. joint_range (low_is j) (high_is j))))
+      | in-Bare w ↦ rw (c.set_or_clear_gen.ensures, c.in_ok-_second.ensures.change, c.range_operator.ensures)
+          (bared owners c.args.i c.args.k c.args.axis c.args.keep h c.match-keep.own w.in-Bare.is w.own-is)
     ]

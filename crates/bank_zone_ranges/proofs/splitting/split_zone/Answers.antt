@@ -3,8 +3,8 @@ use Rattle.bank_zone_ranges.specs.Ranges.{low_end, high_end, range_of}
 use Rattle.bank_zone_ranges.proofs.Existing.{split_there, split_put}
 use Rattle.bank_zone_ranges.proofs.splitting.split_zone.Goals as goal
 
-pub set_both_zones-requires-clause-storable : goal.set_both_zones-requires-clause-storable
-set_both_zones-requires-clause-storable g c =
+pub set_gen_and_insert_zone-requires-clause-storable : goal.set_gen_and_insert_zone-requires-clause-storable
+set_gen_and_insert_zone-requires-clause-storable g c =
     let owners = c.args.owners.now in
     let t = (split_there c.args.axis c.args.at owners c.args.i c.args.k c.requires.is_splittable).at in
     let w = range_of c.args.axis t.member.global t.zone in
@@ -18,7 +18,7 @@ set_both_zones-requires-clause-storable g c =
     let zone : c.in_ok-upper.upper ≡ t.zone = cc in
     rw (
       c.in_ok-set.ensures.ok,
-      c.to_amount-2.ensures.amount,
+      c.to_amount-lower.ensures.amount,
       c.to_amount.ensures.amount,
       c.range_operator-operator.ensures,
       low,
@@ -42,9 +42,9 @@ returns-clause-ok g c =
     let high : c.zone_range-range.result.high ≡ high_end w = cc in
     let zone : c.in_ok-upper.upper ≡ t.zone = cc in
     rw (
-      c.in_ok-set_both_zones.ensures.ok,
+      c.in_ok-set_gen_and_insert_zone.ensures.ok,
       c.in_ok-set.ensures.ok,
-      c.to_amount-2.ensures.amount,
+      c.to_amount-lower.ensures.amount,
       c.to_amount.ensures.amount,
       c.range_operator-operator.ensures,
       low,

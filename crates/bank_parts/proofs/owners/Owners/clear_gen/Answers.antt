@@ -19,14 +19,14 @@ returns-in_default-clause-change g c =
 
 pub search_entries-requires : goal.search_entries-requires
 search_entries-requires g c =
-    ordered (gens_at c.args.self.now c.args.i c.args.place) c.entries-entries.result.now c.entries-entries.ensures.value
+    ordered (gens_at c.args.self.now c.args.i c.args.place) c.bag_entries-entries.result.now c.bag_entries-entries.ensures
 
 pub remove_gen_record-requires : goal.remove_gen_record-requires
 remove_gen_record-requires g c =
     let b =
     bag_place (held c.self.invariant c.self.view_is) c.args.i c.args.place c.requires c.in-Some.at
     c.in-Some.ensures in
-    gen_within b c.entries-entries.ensures.value c.in-Ok.ensures.found
+    gen_within b c.bag_entries-entries.ensures c.in-Ok.ensures.found
 
 pub invariant_of-self : goal.invariant_of-self
 invariant_of-self g c =
@@ -34,13 +34,13 @@ invariant_of-self g c =
     bag_place (held c.self.invariant c.self.view_is) c.args.i c.args.place c.requires c.in-Some.at
     c.in-Some.ensures in
     are_read
-    (gen_is_removed b c.entries-entries.ensures.value c.remove_gen_record.new.bags.owners c.in-Ok.ensures.found
+    (gen_is_removed b c.bag_entries-entries.ensures c.remove_gen_record.new.bags.owners c.in-Ok.ensures.found
     c.remove_gen_record.ensures)
 
 pub returns-in-Ok-clause-was : goal.returns-in-Ok-clause-was
 returns-in-Ok-clause-was g c =
     was_found (place_there (held c.self.invariant c.self.view_is) c.args.i c.args.place c.requires)
-    c.entries-entries.ensures.value c.in-Ok.ensures.found
+    c.bag_entries-entries.ensures c.in-Ok.ensures.found
 
 pub returns-in-Ok-clause-change : goal.returns-in-Ok-clause-change
 returns-in-Ok-clause-change g c =
@@ -48,15 +48,15 @@ returns-in-Ok-clause-change g c =
     bag_place (held c.self.invariant c.self.view_is) c.args.i c.args.place c.requires c.in-Some.at
     c.in-Some.ensures in
     read
-    (gen_is_removed b c.entries-entries.ensures.value c.remove_gen_record.new.bags.owners c.in-Ok.ensures.found
+    (gen_is_removed b c.bag_entries-entries.ensures c.remove_gen_record.new.bags.owners c.in-Ok.ensures.found
     c.remove_gen_record.ensures)
 
 pub returns-in-Err-clause-was : goal.returns-in-Err-clause-was
 returns-in-Err-clause-was g c =
     was_missing (place_there (held c.self.invariant c.self.view_is) c.args.i c.args.place c.requires)
-    c.entries-entries.ensures.value c.in-Err.ensures.absent
+    c.bag_entries-entries.ensures c.in-Err.ensures.absent
 
 pub returns-in-Err-clause-change : goal.returns-in-Err-clause-change
 returns-in-Err-clause-change g c =
     none_cleared (place_there (held c.self.invariant c.self.view_is) c.args.i c.args.place c.requires)
-    c.entries-entries.ensures.value c.in-Err.ensures.absent
+    c.bag_entries-entries.ensures c.in-Err.ensures.absent

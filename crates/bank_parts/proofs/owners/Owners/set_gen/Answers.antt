@@ -44,14 +44,14 @@ returns-in_default-clause-ok g c =
 
 pub search_entries-requires : goal.search_entries-requires
 search_entries-requires g c =
-    ordered (gens_at c.args.self.now c.args.i c.args.place) c.entries-entries.result.now c.entries-entries.ensures.value
+    ordered (gens_at c.args.self.now c.args.i c.args.place) c.bag_entries-entries.result.now c.bag_entries-entries.ensures
 
 pub set_gen-requires : goal.set_gen-requires
 set_gen-requires g c =
     let b =
     bag_place (held c.self.invariant c.self.view_is) c.args.i c.args.place c.requires.there c.in-Some.at
     c.in-Some.ensures in
-    gen_within b c.entries-entries.ensures.value c.in-Ok.ensures.found
+    gen_within b c.bag_entries-entries.ensures c.in-Ok.ensures.found
 
 pub invariant_of-self-in-Ok : goal.invariant_of-self-in-Ok
 invariant_of-self-in-Ok g c =
@@ -59,14 +59,14 @@ invariant_of-self-in-Ok g c =
     bag_place (held c.self.invariant c.self.view_is) c.args.i c.args.place c.requires.there c.in-Some.at
     c.in-Some.ensures in
     are_read
-    (gen_is_set b c.entries-entries.ensures.value c.args.amount c.set_gen.new.self.owners
-    (gen_found_other b.place c.entries-entries.ensures.value c.in-Ok.ensures.found) c.ranges.operator.fits
+    (gen_is_set b c.bag_entries-entries.ensures c.args.amount c.set_gen.new.self.owners
+    (gen_found_other b.place c.bag_entries-entries.ensures c.in-Ok.ensures.found) c.ranges.operator.fits
     c.ranges.amount.fits c.in-Ok.ensures.found c.set_gen.ensures.owners)
 
 pub returns-in-Ok-clause-was : goal.returns-in-Ok-clause-was
 returns-in-Ok-clause-was g c =
     was_found (place_there (held c.self.invariant c.self.view_is) c.args.i c.args.place c.requires.there)
-    c.entries-entries.ensures.value c.in-Ok.ensures.found
+    c.bag_entries-entries.ensures c.in-Ok.ensures.found
 
 pub returns-in-Ok-clause-ok : goal.returns-in-Ok-clause-ok
 returns-in-Ok-clause-ok g c =
@@ -74,53 +74,53 @@ returns-in-Ok-clause-ok g c =
     bag_place (held c.self.invariant c.self.view_is) c.args.i c.args.place c.requires.there c.in-Some.at
     c.in-Some.ensures in
     read
-    (gen_is_set b c.entries-entries.ensures.value c.args.amount c.set_gen.new.self.owners
-    (gen_found_other b.place c.entries-entries.ensures.value c.in-Ok.ensures.found) c.ranges.operator.fits
+    (gen_is_set b c.bag_entries-entries.ensures c.args.amount c.set_gen.new.self.owners
+    (gen_found_other b.place c.bag_entries-entries.ensures c.in-Ok.ensures.found) c.ranges.operator.fits
     c.ranges.amount.fits c.in-Ok.ensures.found c.set_gen.ensures.owners)
 
 pub returns-in_err-make_room-in-Err-clause-needs_no_memory : goal.returns-in_err-make_room-in-Err-clause-needs_no_memory
 returns-in_err-make_room-in-Err-clause-needs_no_memory g c =
     let p = place_there (held c.self.invariant c.self.view_is) c.args.i c.args.place c.requires.there in
     none_is_set (amount_at c.args.self.now c.args.i c.args.place c.args.operator) _
-    (was_missing p c.entries-entries.ensures.value c.in-Err.ensures.absent)
+    (was_missing p c.bag_entries-entries.ensures c.in-Err.ensures.absent)
 
 pub make_room-requires : goal.make_room-requires
 make_room-requires g c =
     let b =
     bag_place (held c.self.invariant c.self.view_is) c.args.i c.args.place c.requires.there c.in-Some.at
     c.in-Some.ensures in
-    gen_held b c.entries-entries.ensures.value c.args.amount c.ranges.operator.fits c.ranges.amount.fits
+    gen_held b c.bag_entries-entries.ensures c.args.amount c.ranges.operator.fits c.ranges.amount.fits
     c.in-Err.ensures.absent
-    (c.requires.storable (sym (was_missing b.place c.entries-entries.ensures.value c.in-Err.ensures.absent)))
+    (c.requires.storable (sym (was_missing b.place c.bag_entries-entries.ensures c.in-Err.ensures.absent)))
 
 pub put_gens-requires-clause-place : goal.put_gens-requires-clause-place
 put_gens-requires-clause-place g c =
     let b =
     bag_place (held c.self.invariant c.self.view_is) c.args.i c.args.place c.requires.there c.in-Some.at
     c.in-Some.ensures in
-    gen_place b c.entries-entries.ensures.value c.in-Err.ensures.absent c.make_room.ensures.kept
+    gen_place b c.bag_entries-entries.ensures c.in-Err.ensures.absent c.make_room.ensures.kept
 
 pub invariant_of-self-in-Err : goal.invariant_of-self-in-Err
 invariant_of-self-in-Err g c =
     let b =
     bag_place (held c.self.invariant c.self.view_is) c.args.i c.args.place c.requires.there c.in-Some.at
     c.in-Some.ensures in
-    are_read (gen_is_put b c.entries-entries.ensures.value c.args.amount c.put_gens.new.self.owners
+    are_read (gen_is_put b c.bag_entries-entries.ensures c.args.amount c.put_gens.new.self.owners
     (gen_other b.place c.args.operator c.args.amount
-    (c.requires.storable (sym (was_missing b.place c.entries-entries.ensures.value c.in-Err.ensures.absent)))) c.ranges.operator.fits c.ranges.amount.fits
+    (c.requires.storable (sym (was_missing b.place c.bag_entries-entries.ensures c.in-Err.ensures.absent)))) c.ranges.operator.fits c.ranges.amount.fits
     c.in-Err.ensures.absent c.make_room.ensures.kept c.put_gens.ensures.owners)
 
 pub returns-in_ok-make_room-in-Err-clause-was : goal.returns-in_ok-make_room-in-Err-clause-was
 returns-in_ok-make_room-in-Err-clause-was g c =
     was_missing (place_there (held c.self.invariant c.self.view_is) c.args.i c.args.place c.requires.there)
-    c.entries-entries.ensures.value c.in-Err.ensures.absent
+    c.bag_entries-entries.ensures c.in-Err.ensures.absent
 
 pub returns-in_ok-make_room-in-Err-clause-ok : goal.returns-in_ok-make_room-in-Err-clause-ok
 returns-in_ok-make_room-in-Err-clause-ok g c =
     let b =
     bag_place (held c.self.invariant c.self.view_is) c.args.i c.args.place c.requires.there c.in-Some.at
     c.in-Some.ensures in
-    read (gen_is_put b c.entries-entries.ensures.value c.args.amount c.put_gens.new.self.owners
+    read (gen_is_put b c.bag_entries-entries.ensures c.args.amount c.put_gens.new.self.owners
     (gen_other b.place c.args.operator c.args.amount
-    (c.requires.storable (sym (was_missing b.place c.entries-entries.ensures.value c.in-Err.ensures.absent)))) c.ranges.operator.fits c.ranges.amount.fits
+    (c.requires.storable (sym (was_missing b.place c.bag_entries-entries.ensures c.in-Err.ensures.absent)))) c.ranges.operator.fits c.ranges.amount.fits
     c.in-Err.ensures.absent c.make_room.ensures.kept c.put_gens.ensures.owners)

@@ -1,4 +1,4 @@
-use Rattle.std.proofs.Common.{length, insert, refl, ◌∙◌, ap, append-nil, arith}
+use Rattle.std.proofs.Common.{◌++◌, length, insert, refl, ◌∙◌, ap, append-nil, arith}
 use Rattle.flat_records.specs.Runs.{put}
 use Rattle.flat_records.specs.Bags.{Bag, no_bag}
 use Rattle.flat_records.proofs.WholeBags.{changed_inserted, flat-inserted}
@@ -30,7 +30,7 @@ pub returns-clause-bags : goal.returns-clause-bags
 returns-clause-bags c =
     c.insert_records.ensures.bags
     ∙ (changed_inserted c.args.self.now.bags c.insert_empty_bag.new.self.bags c.args.k no_bag
-    (λ (b : Bag). record { gens = put b.gens 0 c.args.gens.now; mods = put b.mods 0 c.args.mods.now })
+    (λ (b : Bag). record { gens = put b.gens 0 (c.args.gens.now ++ c.args.last.now); mods = put b.mods 0 c.args.mods.now })
     c.insert_empty_bag.ensures.bags c.requires.place
     ∙ (λ i. insert c.args.self.now.bags c.args.k
-    (record { gens = append-nil c.args.gens.now i; mods = append-nil c.args.mods.now i })))
+    (record { gens = append-nil (c.args.gens.now ++ c.args.last.now) i; mods = append-nil c.args.mods.now i })))

@@ -1,4 +1,4 @@
-use Rattle.std.proofs.Common.{arith}
+use Rattle.std.proofs.Common.{◌++◌, arith}
 use Rattle.flat_records.proofs.Owners.{read, are_read, held}
 use Rattle.flat_records.proofs.OwnerPlaces.{gap, place_there, place_within, later_raised, bag_put}
 use Rattle.flat_records.proofs.owned.OwnerBags.put_bag.Goals as goal
@@ -27,12 +27,12 @@ pub invariant_of-self : goal.invariant_of-self
 invariant_of-self c =
     are_read
     (bag_put (gap (held c.self.invariant c.self.view_is) c.args.i c.args.k c.requires.place)
-    c.deref.ensures.value c.place-at.ensures (record { gens = c.args.gens.now; mods = c.args.mods.now })
+    c.deref.ensures.value c.place-at.ensures (record { gens = c.args.gens.now ++ c.args.last.now; mods = c.args.mods.now })
     c.raise_from.ensures.list c.put_bag.ensures.bags)
 
 pub returns-clause-owners : goal.returns-clause-owners
 returns-clause-owners c =
     read
     (bag_put (gap (held c.self.invariant c.self.view_is) c.args.i c.args.k c.requires.place)
-    c.deref.ensures.value c.place-at.ensures (record { gens = c.args.gens.now; mods = c.args.mods.now })
+    c.deref.ensures.value c.place-at.ensures (record { gens = c.args.gens.now ++ c.args.last.now; mods = c.args.mods.now })
     c.raise_from.ensures.list c.put_bag.ensures.bags)
