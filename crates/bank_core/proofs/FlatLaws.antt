@@ -7,18 +7,15 @@ use Rattle.std.specs.List.{AllByRecursion}
 use Rattle.generators.specs.Levels.{target_operator}
 use Rattle.generators.specs.declared.level.Level.{Level}
 use Rattle.generators.specs.declared.level.Level.TheVariants as level
-use Rattle.flat_records.specs.Bags.{Tables, bags_in}
-use Rattle.flat_records.specs.Owned as owned
-use Rattle.flat_records.proofs.TableLaws as tables
-use Rattle.flat_records.proofs.Owners.{owners-back}
+use Rattle.flat_records.specs.Bags.{Tables}
 use Rattle.bank_parts.specs.declared.parts.ZoneOwner.{ZoneOwner}
 use Rattle.bank_parts.specs.declared.parts.Parts.{Parts}
-use Rattle.bank_parts.specs.Bagged.{bags_of, IsPlainOwner}
+use Rattle.bank_parts.specs.Bagged.{IsPlainOwner}
 use Rattle.bank_parts.specs.Sound.{IsSound}
-use Rattle.bank_parts.specs.Flat.{owners_in, RepresentOwners}
-use Rattle.bank_parts.specs.FlatLists.{AreFlat, lists_of}
+use Rattle.bank_parts.specs.FlatLists.{AreFlat, lists_of, lists_with, owners_read}
 use Rattle.bank_parts.proofs.SoundLaws.{presets_plain, instruments_plain}
 use Rattle.bank_parts.proofs.ReadLaws.{read}
+use Rattle.bank_parts.proofs.FromFlatLaws.{read_by}
 use Rattle.bank_parts.proofs.FlatListLaws.{first_bags_size}
 use Rattle.bank_core.specs.declared.flat_heads.HeadRecord.{HeadRecord}
 use Rattle.bank_core.specs.declared.flat.Flat.{Flat}
@@ -117,26 +114,48 @@ module _ {H : Type 0} where
   answered at given hs ns t (Some owners) e size are =
       subst (λ rs. AreFlatOf at rs t owners) (sym e) (records_by at hs ns t owners are)
 
+  -- owners are those read from their lists
+  owners_back : (at : Level) (hs : List H) (ns : List ℕ) (t : Tables) (owners : List (ZoneOwner H))
+      → AreFlat at hs (lists_with ns t) owners → AllByRecursion (IsPlainOwner (target_operator at)) owners
+      → owners_read at hs ns t ≡ owners
+  owners_back at hs ns t owners are plain =
+      read (record { heads = are.heads; bags = read_by at hs ns t owners are; plain = plain })
+
+  -- the lists of records are those of the owners read from them
+  pub record Given (at : Level) (hs : List H) (ns : List ℕ) (t : Tables) (owners : List (ZoneOwner H)) : Type 0 where
+    pub same : owners_read at hs ns t ≡ owners
+    pub lists : AreFlat at hs (lists_with ns t) (owners_read at hs ns t)
+    pub plain : AllByRecursion (IsPlainOwner (target_operator at)) (owners_read at hs ns t)
+
+  pub given : (at : Level) (rs : List (HeadRecord H)) (hs : List H) (ns : List ℕ) (t : Tables) (owners : List (ZoneOwner H))
+      → rs ≡ head_records hs ns → length ns ≡ length hs + 1 → AreFlatOf at rs t owners
+      → AllByRecursion (IsPlainOwner (target_operator at)) owners → Given at hs ns t owners
+  given at rs hs ns t owners e size are plain =
+      let lists = lists_by at hs ns t owners size (subst (λ rs. AreFlatOf at rs t owners) e are) in
+      let same = owners_back at hs ns t owners lists plain in
+      record {
+        same = same;
+        lists = subst (AreFlat at hs (lists_with ns t)) (sym same) lists;
+        plain = subst (AllByRecursion (IsPlainOwner (target_operator at))) (sym same) plain;
+      }
+
   -- the presets or instruments with these records
   owners_at : Level → List (HeadRecord H) → Tables → List (ZoneOwner H)
-  owners_at at hs t =
-      owners_in (target_operator at) (heads_of hs) (owned.owners_in (record { begins = numbers_of hs; bags = bags_in t }))
+  owners_at at rs t = owners_read at (heads_of rs) (numbers_of rs) t
 
-  owners_there : (at : Level) (hs : List (HeadRecord H)) (t : Tables) (owners : List (ZoneOwner H))
-      → AllByRecursion (IsPlainOwner (target_operator at)) owners → AreFlatOf at hs t owners
-      → owners_at at hs t ≡ owners
+  owners_there : (at : Level) (rs : List (HeadRecord H)) (t : Tables) (owners : List (ZoneOwner H))
+      → AllByRecursion (IsPlainOwner (target_operator at)) owners → AreFlatOf at rs t owners
+      → owners_at at rs t ≡ owners
   unfolding owners_at
-  owners_there at hs t owners plain are =
-      let op = target_operator at in
+  owners_there at rs t owners plain are =
       let names = map (λ (x : ZoneOwner H). x.head) owners in
       let numbers = (lists_of at owners).first_bags in
-      let own = map (bags_of op) owners in
-      let heads : heads_of hs ≡ names = ap heads_of are.heads ∙ heads-back names numbers (heads_within at owners) in
-      let first_bags : numbers_of hs ≡ numbers = ap numbers_of are.heads ∙ numbers-back names numbers in
-      let bags : bags_in t ≡ owned.all_bags own = tables.read t (owned.all_bags own) are.records in
-      let all : RepresentOwners op names own owners = record { heads = refl; bags = refl; plain = plain } in
-      (λ i. owners_in op (heads i) (owned.owners_in (record { begins = first_bags i; bags = bags i })))
-      ∙ (ap (owners_in op names) (owners-back own) ∙ read all)
+      let heads : heads_of rs ≡ names = ap heads_of are.heads ∙ heads-back names numbers (heads_within at owners) in
+      let first_bags : numbers_of rs ≡ numbers = ap numbers_of are.heads ∙ numbers-back names numbers in
+      let records = are.records in
+      let lists : AreFlat at names (lists_with numbers t) owners =
+      record { heads = refl; flat = λ i. lists_with numbers (records i) } in
+      (λ i. owners_read at (heads i) (first_bags i) t) ∙ owners_back at names numbers t owners lists plain
 
 -- ---- a whole bank
 

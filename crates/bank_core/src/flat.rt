@@ -2,9 +2,6 @@
 ghost use Rattle.std.specs.Prelude.{◌≡◌, List, MatchOption, IfSome};
 ghost use Rattle.std.specs.List.{AllByRecursion};
 ghost use Rattle.generators.specs.Levels.{target_operator};
-ghost use Rattle.generators.specs.declared.level.Level.TheVariants as level;
-ghost use Rattle.sf_base.specs.declared.name.Name20.{Name20 as InstHead};
-ghost use Rattle.bank_parts.specs.declared.parts.Head.{Head as PresetHead};
 ghost use Rattle.bank_parts.specs.declared.parts.ZoneOwner.{ZoneOwner};
 ghost use Rattle.bank_parts.specs.declared.parts.Parts.{Parts as AnyParts};
 ghost use Rattle.bank_parts.specs.Bagged.{IsPlainOwner};
@@ -86,8 +83,10 @@ impl<'a> Bank<'a> {
             inst,
             samples,
         } = flat;
-        let presets = sound_presets(preset_heads, preset);
-        let instruments = sound_instruments(inst_heads, inst);
+        let (preset_heads, preset_bags) = preset_heads.into_lists();
+        let presets = Owners::from_sound_flat(preset_heads, preset_bags, preset);
+        let (inst_heads, inst_bags) = inst_heads.into_lists();
+        let instruments = Owners::from_sound_flat(inst_heads, inst_bags, inst);
         Bank::from_sound_parts(Parts {
             minor,
             texts,
@@ -109,26 +108,4 @@ fn owners_of<H: OwnerHead>(heads: FlatHeads<H>, recs: Recs) -> Option<Owners<H>>
 {
     let (heads, first_bags) = heads.into_lists();
     Owners::from_flat(heads, first_bags, recs)
-}
-
-// The presets with these heads and records, which are those of presets whose maps lack the operator of targets.
-fn sound_presets(heads: FlatHeads<Head>, recs: Recs) -> Owners<Head>
-    ghost owners: { List (ZoneOwner PresetHead) }
-    requires plain { AllByRecursion (IsPlainOwner (target_operator level.Preset)) owners }
-    requires lists { AreFlatOf level.Preset heads recs owners }
-    ensures { result ≡ owners }
-{
-    let (heads, first_bags) = heads.into_lists();
-    Owners::from_sound_flat(heads, first_bags, recs)
-}
-
-// The instruments with these heads and records, which are those of instruments whose maps lack the operator of targets.
-fn sound_instruments(heads: FlatHeads<Name20>, recs: Recs) -> Owners<Name20>
-    ghost owners: { List (ZoneOwner InstHead) }
-    requires plain { AllByRecursion (IsPlainOwner (target_operator level.Inst)) owners }
-    requires lists { AreFlatOf level.Inst heads recs owners }
-    ensures { result ≡ owners }
-{
-    let (heads, first_bags) = heads.into_lists();
-    Owners::from_sound_flat(heads, first_bags, recs)
 }

@@ -1,5 +1,5 @@
 -- The content of the tables, in flat lists.
-use Rattle.std.proofs.Common.{◌≡◌, List, [], ◌∷◌, length, map, Option, Some, None, IsSome, refl, ap, subst, arith}
+use Rattle.std.proofs.Common.{◌≡◌, List, [], ◌∷◌, length, map, Option, Some, None, IsSome, refl, sym, ap, subst, arith}
 use Rattle.sf_base.specs.Fields.{field_at}
 use Rattle.generators.specs.Levels.{target_operator}
 use Rattle.flat_records.specs.Bags as flat
@@ -11,6 +11,7 @@ use Rattle.bank_parts.specs.Sound.{IsSound}
 use Rattle.bank_core.specs.declared.flat.Flat.{Flat}
 use Rattle.bank_core.specs.Heads.{head_records}
 use Rattle.bank_core.specs.Flat.{IsFlatOf}
+use Rattle.bank_core.proofs.FlatLaws.{bank_in, sound_bank_there}
 use Rattle.hydra_records.specs.declared.head.PresetHead.{PresetHead}
 use Rattle.hydra_records.specs.declared.head.InstrumentHead.{InstrumentHead}
 use Rattle.bank_format.specs.Ids.{IFIL}
@@ -94,3 +95,15 @@ is_flat f b e = record {
       { heads = ap (λ (x : Flat). x.inst_heads) e; records = ap (λ (x : Flat). x.inst) e };
   samples = ap (λ (x : Flat). x.samples) e;
 }
+
+-- the lists of a sound bank are those of the bank read from them, which is that bank
+pub record Found (f : Flat) (b : Parts) : Type 0 where
+  pub same : bank_in f ≡ b
+  pub sound : IsSound (bank_in f)
+  pub lists : IsFlatOf f (bank_in f)
+
+pub found : (f : Flat) (b : Parts) → IsSound b → f ≡ flat_bank b → Found f b
+found f b sound e =
+    let lists = is_flat f b e in
+    let same = sound_bank_there f b sound lists in
+    record { same = same; sound = subst IsSound (sym same) sound; lists = subst (IsFlatOf f) (sym same) lists }

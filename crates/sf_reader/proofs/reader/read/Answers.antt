@@ -9,8 +9,9 @@ use Rattle.sf_reader.specs.FlatContent.{FlatContent}
 use Rattle.sf_reader.proofs.ByteLaws.{are_bytes}
 use Rattle.sf_reader.proofs.CheckLaws.{fails_by}
 use Rattle.sf_reader.proofs.ReadLaws.{in_frame, in_lists, in_content, file_holds}
-use Rattle.sf_reader.proofs.FlatLaws.{is_there, is_flat, has_lists, bank_is}
+use Rattle.sf_reader.proofs.FlatLaws.{Found, found}
 use Rattle.sf_reader.proofs.reader.read.Goals as goal
+use Rattle.sf_reader.proofs.reader.read.Goals.{After-read_banks_are_valid}
 
 pub returns-in_err-window-clause-err : goal.returns-in_err-window-clause-err
 unfolding SFBK
@@ -37,13 +38,13 @@ returns-in_err-flat-clause-err c =
     (in_content file e c.in_ok-window.window.now c.in_ok-lists.lists c.in_ok-window.ensures.1 c.in_ok-lists.ensures.1
     c.in_ok-window.ensures.0 c.in_ok-lists.ensures.0 c.in_err-flat.ensures)
 
-pub from_sound_flat-requires-clause-sound : goal.from_sound_flat-requires-clause-sound
+-- the bank of the file, and what has been found before it is made
+bank_found : (c : After-read_banks_are_valid) → Found c.in_ok-flat.flat (content_in (window c.args.file.now)).bank
 unfolding SFBK
-from_sound_flat-requires-clause-sound c = ?
+bank_found c = ?
 
-pub from_sound_flat-requires-clause-lists : goal.from_sound_flat-requires-clause-lists
-unfolding SFBK
-from_sound_flat-requires-clause-lists c = ?
+pub from_sound_flat-requires : goal.from_sound_flat-requires
+from_sound_flat-requires c = ?
 
 pub returns-clause-ok : goal.returns-clause-ok
 unfolding SFBK
