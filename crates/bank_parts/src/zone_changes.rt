@@ -6,6 +6,7 @@ ghost use Rattle.bank_parts.specs.Room.{AreStorable};
 ghost use Rattle.bank_parts.specs.ZoneChanges.{zone_added, zone_removed, zone_moved, target_set, gen_set};
 
 use crate::bag_changes::{insert_zone_bag, put_gen};
+use crate::bag_targets::last_amount;
 use crate::heads::OwnerHead;
 use crate::owners::{Owners, ZonePlace};
 use crate::parts::Zone;
@@ -92,10 +93,11 @@ impl<H: OwnerHead> Owners<H> {
         ensures value { target_at self.old i k ≡ Some result }
         ensures change { self.new ≡ target_set self.old i k target }
     {
-        let was = self.target(i, k);
         let operator = Self::operator();
         let at = self.zone_bag(i, k);
-        let last = self.bags.gens(i, at).len() - 1;
+        let gens = self.bags.gens(i, at);
+        let was = last_amount(gens);
+        let last = gens.len() - 1;
         self.bags.set_gen(i, at, last, (operator, target));
         was
     }
