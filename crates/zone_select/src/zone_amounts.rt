@@ -1,39 +1,26 @@
 //! The generator and modulator amounts of a zone, each its own or else its global zone's.
-ghost use Rattle.std.specs.Prelude.{◌≡◌, [], false, unwrap_or};
+ghost use Rattle.std.specs.Prelude.{◌≡◌, [], None, false, replicate, unwrap_or};
 ghost use Rattle.std.specs.Option.{option_map};
-ghost use Rattle.std.specs.FinMap.{find};
-ghost use Rattle.generators.specs.Gens.{operator_cmp, AreInOrder};
 ghost use Rattle.generators.specs.Ranges.{is_range_operator};
 ghost use Rattle.bank_parts.specs.Owners.{entries_at, mods_at};
-ghost use Rattle.bank_changes.specs.declared.members.Owner.TheVariants as owner;
+ghost use Rattle.bank_parts.specs.declared.owners.ZonePlace.TheVariants as place;
 ghost use Rattle.zone_select.specs.Amounts.{last_of_identity, modulator_of_identity};
-ghost use Rattle.zone_select.specs.At.{zone_settings_in, zone_settings_at};
-ghost use Rattle.zone_select.specs.ZoneSettings.{settings_of};
+ghost use Rattle.zone_select.specs.At.{zone_settings_at};
+ghost use Rattle.zone_select.specs.ZoneSettings.{with_amounts, settings_of};
 
 use bank_core::{Bank, Owner};
 use bank_parts::{OwnerHead, Owners, ZonePlace};
-use generators::search_entries;
 use modulators::Modulator;
-use std::marker::Model;
 
-// What a zone and its global zone set, borrowed from the bank.
+// One above the operators that a valid bank has.
+const OPERATORS: usize = 61;
+
+// The amounts of a zone by operator, its modulators, and those of its global zone.
 #[derive(Drop)]
 pub(crate) struct ZoneAmounts<'b> {
-    own: &'b [(u16, u16)],
-    global: &'b [(u16, u16)],
+    amounts: [Option<u16>; OPERATORS],
     mods: &'b [Modulator],
     inherited: &'b [Modulator],
-}
-
-impl<'b> Model for ZoneAmounts<'b> {
-    ghost use Rattle.generators.specs.Gens.{AreInOrder};
-    ghost use Rattle.zone_select.specs.ZoneSettings.{ZoneEntries};
-
-    ghost Value = { ZoneEntries };
-
-    ghost view = { λ z. record { own = z.own.now; global = z.global.now; mods = z.mods.now; inherited = z.inherited.now } };
-
-    ghost invariant = { λ z. (AreInOrder z.own.now) × (AreInOrder z.global.now) };
 }
 
 impl<'b> ZoneAmounts<'b> {
@@ -48,13 +35,14 @@ impl<'b> ZoneAmounts<'b> {
     }
 
     // The amount of an operator that isn't a range.
+    #[tactic(auto, unfolding(crate::specs::ZoneSettings::settings_of))]
     pub(crate) fn amount(&self, operator: u16) -> Option<u16>
         requires { is_range_operator operator ≡ false }
         ensures { result ≡ (settings_of self.now).settings operator }
     {
-        match amount_in(self.own, operator) {
-            Some(amount) => Some(amount),
-            None => amount_in(self.global, operator),
+        match self.amounts.get(operator as usize) {
+            Some(amount) => *amount,
+            None => None,
         }
     }
 
@@ -71,25 +59,35 @@ impl<'b> ZoneAmounts<'b> {
 }
 
 fn zone_amounts<'b, H: OwnerHead>(owners: &'b Owners<H>, number: u32, zone: u32) -> ZoneAmounts<'b>
-    ensures { settings_of result ≡ zone_settings_in owners.now number zone }
+    ensures amounts { result.amounts ≡ with_amounts (with_amounts (replicate 61 None) (unwrap_or (entries_at owners.now number place.Global) [])) (unwrap_or (entries_at owners.now number (place.Zone zone)) []) }
+    ensures mods { result.mods.now ≡ unwrap_or (mods_at owners.now number (place.Zone zone)) [] }
+    ensures inherited { result.inherited.now ≡ unwrap_or (mods_at owners.now number place.Global) [] }
 {
     let place = ZonePlace::Zone(zone as usize);
+    let mut amounts = [None; OPERATORS];
+    put_amounts(&mut amounts, entries_of(owners, number, ZonePlace::Global));
+    put_amounts(&mut amounts, entries_of(owners, number, place));
     ZoneAmounts {
-        own: entries_of(owners, number, place),
-        global: entries_of(owners, number, ZonePlace::Global),
+        amounts,
         mods: mods_of(owners, number, place),
         inherited: mods_of(owners, number, ZonePlace::Global),
     }
 }
 
+// Sets the amounts of these generators.
+fn put_amounts(amounts: &mut [Option<u16>; OPERATORS], gens: &[(u16, u16)])
+    ensures { amounts.new ≡ with_amounts amounts.old gens.now }
+{
+    for &(operator, amount) in gens {
+        if (operator as usize) < OPERATORS {
+            amounts[operator as usize] = Some(amount);
+        }
+    }
+}
+
 // The generators of a place in the order of a file; none if there is no such place.
-pub(crate) fn entries_of<H: OwnerHead>(
-    owners: &Owners<H>,
-    number: u32,
-    place: ZonePlace,
-) -> &[(u16, u16)]
-    ensures value { result.now ≡ unwrap_or (entries_at owners.now number place) [] }
-    ensures order { AreInOrder result.now }
+fn entries_of<H: OwnerHead>(owners: &Owners<H>, number: u32, place: ZonePlace) -> &[(u16, u16)]
+    ensures { result.now ≡ unwrap_or (entries_at owners.now number place) [] }
 {
     let number = number as usize;
     if !owners.has_place(number, place) {
@@ -107,17 +105,6 @@ fn mods_of<H: OwnerHead>(owners: &Owners<H>, number: u32, place: ZonePlace) -> &
         return &[];
     }
     owners.mods(number, place)
-}
-
-// The amount of an operator among the generators of a place.
-pub(crate) fn amount_in(entries: &[(u16, u16)], operator: u16) -> Option<u16>
-    requires { AreInOrder entries.now }
-    ensures { result ≡ find operator_cmp operator entries.now }
-{
-    match search_entries(entries, operator) {
-        Ok(at) => Some(entries[at].1),
-        Err(_) => None,
-    }
 }
 
 // The last of these modulators with this identity.

@@ -1,7 +1,8 @@
 //! The zones of an owner that contain a note.
 ghost use Rattle.std.specs.Prelude.{◌≡◌, ◌<◌, ◌≤◌, ◌∷◌, ◌+◌, [], false, slice_get, MatchOption, IfSome};
 ghost use Rattle.std.specs.Option.{option_map_or};
-ghost use Rattle.generators.specs.Gens.{AreInOrder};
+ghost use Rattle.std.specs.FinMap.{find};
+ghost use Rattle.generators.specs.Gens.{operator_cmp, AreInOrder};
 ghost use Rattle.script_notes.specs.Notes.{Numbers};
 ghost use Rattle.bank_parts.specs.declared.owners.ZonePlace.TheVariants as place;
 ghost use Rattle.bank_parts.specs.Owners.{HasPlace};
@@ -9,11 +10,10 @@ ghost use Rattle.zone_select.specs.Pairs.{holds_at};
 ghost use Rattle.zone_select.specs.Ranges.{within, range_in};
 ghost use Rattle.zone_select.specs.Remaining.{zones_in, owner_holds, owner_held};
 
-use crate::zone_amounts::amount_in;
 use bank_core::{Bank, Owner};
 use bank_parts::{OwnerHead, Owners, ZonePlace};
-use generators::Range;
 use generators::operators::{KEY_RANGE, VEL_RANGE};
+use generators::{Range, search_entries};
 use script_notes::Note;
 
 // 0 to 127, as an amount.
@@ -63,6 +63,17 @@ fn is_within(own: &[(u16, u16)], global: &[(u16, u16)], operator: u16, number: u
         None => amount_in(global, operator).unwrap_or(WHOLE_RANGE),
     };
     Range::of_amount(range).contains(number)
+}
+
+// The amount of an operator among the generators of a place.
+fn amount_in(entries: &[(u16, u16)], operator: u16) -> Option<u16>
+    requires { AreInOrder entries.now }
+    ensures { result ≡ find operator_cmp operator entries.now }
+{
+    match search_entries(entries, operator) {
+        Ok(at) => Some(entries[at].1),
+        Err(_) => None,
+    }
 }
 
 // The first zone of an owner, from a number on, that contains the note.

@@ -1,6 +1,6 @@
 use Rattle.std.proofs.Common.{sym}
 use Rattle.zone_select.proofs.AmountLaws.{found, missing}
-use Rattle.zone_select.proofs.zone_amounts.amount_in.Goals as goal
+use Rattle.zone_select.proofs.zones.amount_in.Goals as goal
 
 pub returns-in-Ok : goal.returns-in-Ok
 returns-in-Ok c =
