@@ -3,6 +3,7 @@ pub mod Given
 pub mod PairLaws
 pub mod ZoneLaws
 pub mod RemainingLaws
+pub mod AmountLaws
 pub mod ModulatorLaws
 pub mod SelectedPairLaws
 pub mod LinearLaws

@@ -1,25 +1,25 @@
 -- Zones, from the queries of a bank.
-use Rattle.std.proofs.Common.{◌≡◌, ◌≤◌, ◌<◌, ◌⊎◌, inl, inr, get_or, ◌&&◌, ◌↔◌, IsTrue, nat_le, Fits, w32, ℕ, ◌+◌}
+use Rattle.std.proofs.Common.{◌≡◌, ◌≤◌, ◌<◌, ◌&&◌, ◌↔◌, IsTrue, nat_le, Fits, w32, ℕ, ◌+◌}
 use Rattle.std.proofs.Common.{Bool, true, false, List, [], ◌∷◌, length, Option, Some, None, IsSomeAnd, slice_get}
-use Rattle.std.proofs.Common.{unwrap_or, refl, sym, ap, ◌∙◌, arith}
+use Rattle.std.proofs.Common.{unwrap_or, refl, sym, ap, subst, ◌∙◌, arith}
+use Rattle.std.specs.FinMap.{entries, get-entries}
 use Rattle.std.specs.Option.{option_map_or, option_map}
 use Rattle.std.proofs.lemmas.Bool.{leb-true, leb-false}
-use Rattle.std.proofs.lemmas.Option.{get_or_from_slice_get, slice_get_within, slice_get_cases}
+use Rattle.std.proofs.lemmas.Option.{get_or_from_slice_get, slice_get_within, none-some, same_Some}
 use Rattle.std.proofs.lemmas.List.Sums.{get_or-le-sum_by}
 use Rattle.script_notes.specs.Notes.{Numbers}
+use Rattle.bank_parts.specs.declared.owners.ZonePlace.TheVariants as place
 use Rattle.bank_parts.specs.declared.parts.Zone.{Zone}
 use Rattle.bank_parts.specs.declared.parts.ZoneOwner.{ZoneOwner}
 use Rattle.bank_parts.specs.declared.parts.Parts.{Parts}
 use Rattle.bank_parts.specs.Valid.{IsWithin, zone_count, owner_total}
 use Rattle.bank_parts.specs.Sound.{IsSound}
+use Rattle.bank_parts.specs.Owners.{HasPlace, zone_count_at, entries_at}
 use Rattle.bank_changes.specs.declared.members.Owner.{Owner}
 use Rattle.bank_changes.specs.declared.members.Owner.TheVariants as owner
-use Rattle.bank_parts.specs.Owners.{zone_count_at}
 use Rattle.bank_changes.specs.Members.{owner_zone_count}
-use Rattle.bank_changes.specs.Zones.{range_of_zone}
-use Rattle.bank_zone_ranges.specs.declared.axes.Axis.TheVariants.{Key, Vel}
-use Rattle.bank_zone_ranges.specs.Ranges.{low_end, high_end, range_of, range_at}
-use Rattle.zone_select.specs.Ranges.{holds, within}
+use Rattle.bank_zone_ranges.specs.Ranges.{low_end, high_end}
+use Rattle.zone_select.specs.Ranges.{holds, within, range_in}
 use Rattle.zone_select.specs.Pairs.{holds_at, held}
 use Rattle.zone_select.specs.Remaining.{zones_in, owner_holds, owner_held}
 use Rattle.zone_select.proofs.NumberLaws.{numbers, numbers_end, numbers_hit, numbers_miss}
@@ -58,53 +58,64 @@ fits_field n h = omega (arith, h)
 
 -- ---- whether a zone contains the note
 
--- an existing zone, by its two ranges from the queries of a bank
-pub record QueriedZone (n : Numbers) (keys velocities : Option ℕ) (holding : Bool) : Type 0 where
-  pub key : ℕ
-  pub velocity : ℕ
-  pub key_range : keys ≡ Some key
-  pub velocity_range : velocities ≡ Some velocity
-  pub holds : holding ≡ (within key n.key && within velocity n.velocity)
-
-abbrev pub ZoneQueried : Parts → Numbers → Owner → ℕ → Type 0
-ZoneQueried b n o k = QueriedZone n (range_of_zone b o k Key) (range_of_zone b o k Vel) (owner_holds b n o k)
-
-there : (zones : List Zone) (k : ℕ) → k < length zones → (z : Zone) × (slice_get zones k ≡ Some z)
-there zones k h = from (slice_get_cases zones k).1
-  where
-    from : ((x : Zone) × (k < length zones) × (slice_get zones k ≡ Some x) × (get_or zones k x ≡ x))
-        ⊎ ((length zones ≤ k) × (slice_get zones k ≡ None))
-        → (z : Zone) × (slice_get zones k ≡ Some z)
-    from (inl r) = (r.0, r.2)
-    from (inr r) = absurd (let past = r.0 in omega (arith, h, past))
-
-queried_in : {H : Type 0} (owners : List (ZoneOwner H)) (n : Numbers) (i k : ℕ) (o : Option (ZoneOwner H))
-    → slice_get owners i ≡ o → k < option_map_or (λ (x : ZoneOwner H). length x.zones) o 0
-    → QueriedZone n (range_at Key owners i k) (range_at Vel owners i k)
-    (option_map_or (λ (x : ZoneOwner H). holds_at n x.global x.zones k) (slice_get owners i) false)
+-- an existing zone, by its generators and those of its global zone
+pub held_by : {H : Type 0} (owners : List (ZoneOwner H)) (n : Numbers) (i k : ℕ) (own global : List (ℕ × ℕ))
+    → entries_at owners i (place.Zone k) ≡ Some own → entries_at owners i place.Global ≡ Some global
+    → option_map_or (λ (x : ZoneOwner H). holds_at n x.global x.zones k) (slice_get owners i) false
+    ≡ (within (range_in own global 43) n.key && within (range_in own global 44) n.velocity)
 unfolding holds
-queried_in owners n i k None e h = absurd (omega (arith, h))
-queried_in owners n i k (Some x) e h =
-    let z = there x.zones k h in
-    record {
-      key =
-          range_of Key x.global z.0;
-      velocity =
-          range_of Vel x.global z.0;
-      key_range =
-          rw (e, z.1) refl;
-      velocity_range = rw (e, z.1) refl;
-      holds = rw (e, z.1) refl;
-    }
+held_by {H} owners n i k own global e f = at (slice_get owners i) refl
+  where
+    zone : (x : ZoneOwner H) (o : Option Zone) → slice_get owners i ≡ Some x → slice_get x.zones k ≡ o
+        → option_map_or (λ (x : ZoneOwner H). holds_at n x.global x.zones k) (slice_get owners i) false
+        ≡ (within (range_in own global 43) n.key && within (range_in own global 44) n.velocity)
+    zone x None p q = absurd (none-some _ (sym (rw (p, q) refl) ∙ e))
+    zone x (Some z) p q =
+        let same : entries z.gens ≡ own = same_Some _ _ (sym (rw (p, q) refl) ∙ e) in
+        let inherited : entries x.global.gens ≡ global = same_Some _ _ (sym (rw p refl) ∙ f) in
+        rw (p, q, ← same, ← inherited, get-entries z.gens 43, get-entries z.gens 44, get-entries x.global.gens 43, get-entries x.global.gens 44) refl
 
-pub zone_queried : (b : Parts) (n : Numbers) (o : Owner) (k : ℕ) → k < zones_in b o → ZoneQueried b n o k
-zone_queried b n (owner.Preset p) k h =
-    let s = count_in b.presets p _ refl in queried_in b.presets n p k _ refl (omega (arith, h, s))
-zone_queried b n (owner.Inst i) k h =
-    let s = count_in b.instruments i _ refl in queried_in b.instruments n i k _ refl (omega (arith, h, s))
+    at : (o : Option (ZoneOwner H)) → slice_get owners i ≡ o
+        → option_map_or (λ (x : ZoneOwner H). holds_at n x.global x.zones k) (slice_get owners i) false
+        ≡ (within (range_in own global 43) n.key && within (range_in own global 44) n.velocity)
+    at None p = absurd (none-some _ (sym (rw p refl) ∙ f))
+    at (Some x) p = zone x (slice_get x.zones k) p refl
+
+pub holds_then : {H : Type 0} (owners : List (ZoneOwner H)) (n : Numbers) (i k : ℕ) (own global : List (ℕ × ℕ))
+    (q r : Bool) (key velocity : ℕ) → entries_at owners i (place.Zone k) ≡ Some own
+    → entries_at owners i place.Global ≡ Some global → key ≡ n.key → velocity ≡ n.velocity
+    → q ≡ within (range_in own global 43) key → q ≡ true → r ≡ within (range_in own global 44) velocity
+    → r ≡ option_map_or (λ (x : ZoneOwner H). holds_at n x.global x.zones k) (slice_get owners i) false
+holds_then owners n i k own global q r key velocity e f h v p t w =
+    let first : true ≡ within (range_in own global 43) n.key = sym t ∙ p ∙ ap (within (range_in own global 43)) h in
+    w ∙ ap (within (range_in own global 44)) v
+    ∙ ap (λ (x : Bool). x && within (range_in own global 44) n.velocity) first
+    ∙ sym (held_by owners n i k own global e f)
+
+pub holds_else : {H : Type 0} (owners : List (ZoneOwner H)) (n : Numbers) (i k : ℕ) (own global : List (ℕ × ℕ))
+    (q : Bool) (key : ℕ) → entries_at owners i (place.Zone k) ≡ Some own
+    → entries_at owners i place.Global ≡ Some global → key ≡ n.key
+    → q ≡ within (range_in own global 43) key → q ≡ false
+    → q ≡ option_map_or (λ (x : ZoneOwner H). holds_at n x.global x.zones k) (slice_get owners i) false
+holds_else owners n i k own global q key e f h p t =
+    let first : false ≡ within (range_in own global 43) n.key = sym t ∙ p ∙ ap (within (range_in own global 43)) h in
+    t ∙ ap (λ (x : Bool). x && within (range_in own global 44) n.velocity) first
+    ∙ sym (held_by owners n i k own global e f)
+
+-- an owner with a zone exists
+pub has_global : {H : Type 0} (owners : List (ZoneOwner H)) (i k : ℕ) → HasPlace owners i (place.Zone k)
+    → HasPlace owners i place.Global
+has_global {H} owners i k h = at (slice_get owners i) refl
+  where
+    at : (o : Option (ZoneOwner H)) → slice_get owners i ≡ o → i < length owners
+    at None e =
+        absurd
+        (subst
+        (λ (o : Option (ZoneOwner H)). IsSomeAnd (option_map (λ (x : ZoneOwner H). length x.zones) o) (λ n. k < n)) e h)
+    at (Some x) e = slice_get_within owners i x e
 
 -- a range by its ends
-both_ends : (r : Bool) (low high range x : ℕ) → low_end range ≡ low → high_end range ≡ high
+pub both_ends : (r : Bool) (low high range x : ℕ) → low_end range ≡ low → high_end range ≡ high
     → (IsTrue r ↔ ((low ≤ x) × (x ≤ high))) → r ≡ within range x
 both_ends r low high range x l h e = rw (l, h) (from r (nat_le low x) (nat_le x high) refl refl e)
   where
@@ -115,24 +126,6 @@ both_ends r low high range x l h e = rw (l, h) (from r (nat_le low x) (nat_le x 
     from false true true p q e = e.1 (leb-true low x p, leb-true x high q)
     from false true false p q e = refl
     from false false t p q e = refl
-
-same_some : {x y : ℕ} → Some x ≡ Some y → x ≡ y
-same_some e = cc
-
-pub contains_is : (r : Bool) (low high range x : ℕ) (o : Option ℕ) → o ≡ Some range → option_map low_end o ≡ Some low
-    → option_map high_end o ≡ Some high
-    → (IsTrue r ↔ ((low ≤ x) × (x ≤ high))) → r ≡ within range x
-contains_is r low high range x o is l h e =
-    both_ends r low high range x (same_some (sym (ap (option_map low_end) is) ∙ l))
-    (same_some (sym (ap (option_map high_end) is) ∙ h)) e
-
-pub both_hold : (b : Parts) (n : Numbers) (o : Owner) (k : ℕ) (q r : Bool) (t : ZoneQueried b n o k)
-    → q ≡ within t.key n.key → q ≡ true → r ≡ within t.velocity n.velocity → r ≡ owner_holds b n o k
-both_hold b n o k q r t e f g = g ∙ ap (λ (x : Bool). x && within t.velocity n.velocity) (sym f ∙ e) ∙ sym t.holds
-
-pub first_fails : (b : Parts) (n : Numbers) (o : Owner) (k : ℕ) (q : Bool) (t : ZoneQueried b n o k)
-    → q ≡ within t.key n.key → q ≡ false → q ≡ owner_holds b n o k
-first_fails b n o k q t e f = f ∙ ap (λ (x : Bool). x && within t.velocity n.velocity) (sym f ∙ e) ∙ sym t.holds
 
 pub counted : (o : Option ℕ) (k : ℕ) → k < unwrap_or o 0 → IsSomeAnd o (λ count. k < count)
 counted None k h = absurd (omega (arith, h))

@@ -4,32 +4,32 @@ use Rattle.std.specs.Option.{option_or}
 use Rattle.generators.specs.Ranges.{is_range_operator}
 use Rattle.bank_changes.specs.declared.members.Owner.{Owner}
 use Rattle.bank_changes.specs.declared.members.Owner.TheVariants as owner
-use Rattle.bank_changes.specs.declared.members.Place.{Place}
-use Rattle.bank_changes.specs.declared.members.Place.TheVariants as place
-use Rattle.modulators.specs.declared.modulator.Modulator.{Modulator}
-use Rattle.bank_changes.specs.Members.{amount_of, mods_of, target_of}
+use Rattle.bank_changes.specs.Members.{read_of_owner, target_of}
+use Rattle.bank_parts.specs.declared.owners.ZonePlace.TheVariants as place
+use Rattle.bank_parts.specs.declared.parts.ZoneOwner.{ZoneOwner}
+use Rattle.bank_parts.specs.Owners.{amount_at, mods_at}
 use Rattle.bank_parts.specs.declared.parts.Parts.{Parts}
 use Rattle.script_notes.specs.Notes.{Numbers}
-use Rattle.zone_select.specs.declared.amounts.PairAt.{PairAt}
+use Rattle.zone_select.specs.declared.selected_pair.PairAt.{PairAt}
 use Rattle.zone_select.specs.declared.selected_pair.SelectedPairAt.{SelectedPairAt}
 use Rattle.zone_select.specs.ZoneSettings.{ZoneSettings}
 use Rattle.zone_select.specs.Pairs.{SelectedPair}
 use Rattle.zone_select.specs.Remaining.{owner_holds}
 
--- the modulators of a zone or global zone; none if it doesn't exist
-abbrev pub mods_at : Parts → Owner → Place → List Modulator
-mods_at b o at = unwrap_or (mods_of b o at) []
-
--- the settings of zone k of an owner
-abbrev pub zone_settings_at : Parts → Owner → ℕ → ZoneSettings
-zone_settings_at b o k = record {
+-- the settings of zone k of owner i
+abbrev pub zone_settings_in : {H : Type 0} → List (ZoneOwner H) → ℕ → ℕ → ZoneSettings
+zone_settings_in owners i k = record {
   settings =
       λ op.
       cond (is_range_operator op) None
-      (option_or (amount_of b o (place.Zone k) op) (amount_of b o place.Global op));
-  mods = mods_at b o (place.Zone k);
-  inherited = mods_at b o place.Global;
+      (option_or (amount_at owners i (place.Zone k) op) (amount_at owners i place.Global op));
+  mods = unwrap_or (mods_at owners i (place.Zone k)) [];
+  inherited = unwrap_or (mods_at owners i place.Global) [];
 }
+
+-- the settings of zone k of an owner
+abbrev pub zone_settings_at : Parts → Owner → ℕ → ZoneSettings
+zone_settings_at b o k = read_of_owner b o (λ H owners i. zone_settings_in owners i k)
 
 abbrev pub instrument_zone_at : Parts → PairAt → ZoneSettings
 instrument_zone_at b at = zone_settings_at b (owner.Inst at.instrument) at.instrument_zone

@@ -11,6 +11,7 @@ mod parameters;
 mod pitches;
 mod sample_range;
 mod selected_pair;
+mod zone_amounts;
 mod zones;
 
 pub use laws::{linear_modulators_are_summed, pairs_have_voices, selected_by_pairs};

@@ -3,11 +3,10 @@ ghost use Rattle.std.specs.Prelude.{◌≡◌, ◌<◌, ◌≤◌, ◌≤ℤ◌,
 ghost use Rattle.generators.specs.Ranges.{is_range_operator};
 ghost use Rattle.sound_tables.specs.Floor.{floor_div};
 ghost use Rattle.zone_select.specs.Amounts.{linear_part, linear_sources, total, moved};
-ghost use Rattle.zone_select.specs.At.{instrument_zone_at, preset_zone_at};
+ghost use Rattle.zone_select.specs.ZoneSettings.{settings_of};
 
-use crate::amounts::{PairAt, amount, modulator_amount};
+use crate::amounts::{PairAmounts, amount, modulator_amount};
 use crate::pitches::{key, velocity};
-use bank_core::Bank;
 use modulators::{Modulator, linear_value};
 use script_notes::Note;
 
@@ -26,17 +25,10 @@ pub(crate) fn part_of(amount: i32, parts: i32, whole: u32) -> i32
 }
 
 // The contribution to a generator of the linear modulator from one source.
-fn linear_part(
-    bank: &Bank<'_>,
-    at: &PairAt,
-    key: u8,
-    velocity: u8,
-    operator: u16,
-    source: u16,
-) -> i32
+fn linear_part(zones: &PairAmounts<'_>, key: u8, velocity: u8, operator: u16, source: u16) -> i32
     requires key { key ≤ 127 }
     requires velocity { velocity ≤ 127 }
-    ensures value { result ≡ linear_part key velocity (instrument_zone_at bank.now at.now) (preset_zone_at bank.now at.now) operator source }
+    ensures value { result ≡ linear_part key velocity (settings_of zones.now.instrument) (settings_of zones.now.preset) operator source }
     ensures within { (negsuc 65535 ≤ℤ result) × (result ≤ℤ pos 65536) }
 {
     let modulator = Modulator {
@@ -48,7 +40,7 @@ fn linear_part(
     };
     match linear_value(&modulator, key, velocity) {
         Some(value) => {
-            let most = modulator_amount(bank, at, &modulator, 0);
+            let most = modulator_amount(zones, &modulator, 0);
             part_of(most, i32::from(value), 128)
         }
         None => 0,
@@ -56,27 +48,27 @@ fn linear_part(
 }
 
 // The contribution to a generator of all its linear modulators.
-fn linear_parts(bank: &Bank<'_>, at: &PairAt, key: u8, velocity: u8, operator: u16) -> i32
+fn linear_parts(zones: &PairAmounts<'_>, key: u8, velocity: u8, operator: u16) -> i32
     requires key { key ≤ 127 }
     requires velocity { velocity ≤ 127 }
-    ensures value { result ≡ total (map (linear_part key velocity (instrument_zone_at bank.now at.now) (preset_zone_at bank.now at.now) operator) linear_sources) }
+    ensures value { result ≡ total (map (linear_part key velocity (settings_of zones.now.instrument) (settings_of zones.now.preset) operator) linear_sources) }
     ensures within { (negsuc 524287 ≤ℤ result) × (result ≤ℤ pos 524288) }
 {
     let mut sum = 0;
     for source in LINEAR_SOURCES {
-        sum += linear_part(bank, at, key, velocity, operator, source);
+        sum += linear_part(zones, key, velocity, operator, source);
     }
     sum
 }
 
 // The amount of an operator with its linear modulators.
 #[tactic(auto, unfolding(crate::specs::Amounts::moved_amount))]
-pub(crate) fn moved(bank: &Bank<'_>, note: &Note, at: &PairAt, operator: u16) -> i32
+pub(crate) fn moved(zones: &PairAmounts<'_>, note: &Note, operator: u16) -> i32
     requires { is_range_operator operator ≡ false }
-    ensures value { result ≡ moved note.now (instrument_zone_at bank.now at.now) (preset_zone_at bank.now at.now) operator }
+    ensures value { result ≡ moved note.now (settings_of zones.now.instrument) (settings_of zones.now.preset) operator }
     ensures within { (negsuc 589823 ≤ℤ result) × (result ≤ℤ pos 589824) }
 {
-    let key = key(bank, note, at);
-    let velocity = velocity(bank, note, at);
-    amount(bank, at, operator) + linear_parts(bank, at, key, velocity, operator)
+    let key = key(zones, note);
+    let velocity = velocity(zones, note);
+    amount(zones, operator) + linear_parts(zones, key, velocity, operator)
 }

@@ -4,15 +4,17 @@ ghost use Rattle.std.specs.List.{Contains};
 ghost use Rattle.std.specs.Option.{option_map};
 ghost use Rattle.zone_select.specs.Amounts.{parameters_of, mode_of};
 ghost use Rattle.zone_select.specs.At.{instrument_zone_at, preset_zone_at};
+ghost use Rattle.zone_select.specs.ZoneSettings.{settings_of};
 ghost use Rattle.zone_select.specs.Pairs.{pairs, selected_pair, voice_by};
 ghost use Rattle.zone_select.specs.Playable.{IsPlayable};
 
-use crate::amounts::{PairAt, exclusive_class};
+use crate::amounts::{PairAmounts, exclusive_class};
 use crate::amplitude::{attenuation, moved_time, pan, sustain, time};
 use crate::pitches::phase_increment_of;
 use crate::sample_range::{UNTIL_RELEASE, loop_within, mode, sample_range};
-use crate::selected_pair::selected_zones;
-use bank_core::Bank;
+use crate::selected_pair::{PairAt, selected_zones};
+use crate::zone_amounts::ZoneAmounts;
+use bank_core::{Bank, Owner};
 use bank_parts::Sample;
 use generators::operators::{
     ATTACK_VOL_ENV, DECAY_VOL_ENV, DELAY_VOL_ENV, HOLD_VOL_ENV, RELEASE_VOL_ENV,
@@ -87,21 +89,40 @@ pub fn params(bank: &Bank<'_>, note: &Note, pair: (u32, u32)) -> Option<PairPara
     bank.soundness();
     let selected_zones = selected_zones(bank, note, pair)?;
     let sample = bank.sample(selected_zones.sample)?;
+    let zones = pair_amounts(bank, &selected_zones.zones);
+    let mode = mode(&zones);
     Some(PairParameters {
         sample: selected_zones.sample,
-        mode: mode(bank, &selected_zones.zones),
-        voice: parameters_of(bank, note, &selected_zones.zones, sample),
+        mode,
+        voice: parameters_of(&zones, note, sample, mode),
     })
+}
+
+// The amounts of the zones of a pair.
+fn pair_amounts<'b>(bank: &'b Bank<'_>, at: &PairAt) -> PairAmounts<'b>
+    ensures instrument { settings_of result.instrument ≡ instrument_zone_at bank.now at.now }
+    ensures preset { settings_of result.preset ≡ preset_zone_at bank.now at.now }
+{
+    PairAmounts {
+        instrument: ZoneAmounts::of(bank, Owner::Inst(at.instrument), at.instrument_zone),
+        preset: ZoneAmounts::of(bank, Owner::Preset(at.preset), at.preset_zone),
+    }
 }
 
 // The parameters of two zones and their sample.
 #[tactic(auto, using(crate::proofs::SampleRangeLaws::loop_there, crate::proofs::SampleRangeLaws::loop_start_is, crate::proofs::SampleRangeLaws::loop_end_is), unfolding(crate::specs::Amounts::parameters_of))]
-fn parameters_of(bank: &Bank<'_>, note: &Note, at: &PairAt, sample: &Sample<'_>) -> VoiceParameters
-    requires { length sample.now.points < 2 ^ 32 }
-    ensures { result ≡ parameters_of note.now (instrument_zone_at bank.now at.now) (preset_zone_at bank.now at.now) sample.now }
+fn parameters_of(
+    zones: &PairAmounts<'_>,
+    note: &Note,
+    sample: &Sample<'_>,
+    mode: u8,
+) -> VoiceParameters
+    requires points { length sample.now.points < 2 ^ 32 }
+    requires mode { mode ≡ mode_of (settings_of zones.now.instrument) (settings_of zones.now.preset) }
+    ensures { result ≡ parameters_of note.now (settings_of zones.now.instrument) (settings_of zones.now.preset) sample.now }
 {
-    let played = sample_range(bank, at, sample);
-    let looped = loop_within(bank, at, sample, &played);
+    let played = sample_range(zones, sample);
+    let looped = loop_within(zones, sample, &played, mode);
     let (loop_start, loop_end) = looped.unwrap_or((0, 0));
     VoiceParameters {
         start: played.start,
@@ -109,17 +130,17 @@ fn parameters_of(bank: &Bank<'_>, note: &Note, at: &PairAt, sample: &Sample<'_>)
         loop_start,
         loop_end,
         looped: looped.is_some(),
-        until_release: mode(bank, at) == UNTIL_RELEASE,
-        phase_increment: phase_increment_of(bank, note, at, sample),
-        delay: time(bank, at, DELAY_VOL_ENV),
-        attack: moved_time(bank, note, at, ATTACK_VOL_ENV),
-        hold: time(bank, at, HOLD_VOL_ENV),
-        decay: moved_time(bank, note, at, DECAY_VOL_ENV),
-        release: moved_time(bank, note, at, RELEASE_VOL_ENV),
-        sustain: sustain(bank, note, at),
-        attenuation: attenuation(bank, note, at),
-        pan: pan(bank, note, at),
+        until_release: mode == UNTIL_RELEASE,
+        phase_increment: phase_increment_of(zones, note, sample),
+        delay: time(zones, DELAY_VOL_ENV),
+        attack: moved_time(zones, note, ATTACK_VOL_ENV),
+        hold: time(zones, HOLD_VOL_ENV),
+        decay: moved_time(zones, note, DECAY_VOL_ENV),
+        release: moved_time(zones, note, RELEASE_VOL_ENV),
+        sustain: sustain(zones, note),
+        attenuation: attenuation(zones, note),
+        pan: pan(zones, note),
         length: note.length(),
-        class: exclusive_class(bank, at),
+        class: exclusive_class(zones),
     }
 }

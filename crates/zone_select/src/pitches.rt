@@ -2,11 +2,10 @@
 ghost use Rattle.std.specs.Prelude.{◌≡◌, ◌≤◌, ◌≤ℤ◌, ◌+ℤ◌, ◌-ℤ◌, ◌*ℤ◌, pos, negsuc};
 ghost use Rattle.sound_tables.specs.Tables.{phase_increment_of};
 ghost use Rattle.zone_select.specs.Amounts.{midi_value_or, key_of, velocity_of, root_of, cents_of};
-ghost use Rattle.zone_select.specs.At.{instrument_zone_at, preset_zone_at};
+ghost use Rattle.zone_select.specs.ZoneSettings.{settings_of};
 
-use crate::amounts::{PairAt, amount};
+use crate::amounts::{PairAmounts, amount};
 use crate::linear::moved;
-use bank_core::Bank;
 use bank_parts::Sample;
 use generators::operators::{
     COARSE_TUNE, FINE_TUNE, KEYNUM, OVERRIDING_ROOT_KEY, SCALE_TUNING, VELOCITY,
@@ -30,24 +29,24 @@ fn up_to_127(number: i32, other: u8) -> u8
 }
 
 // The key of the voice: the zones' own, else the note's.
-pub(crate) fn key(bank: &Bank<'_>, note: &Note, at: &PairAt) -> u8
-    ensures value { result ≡ key_of note.now (instrument_zone_at bank.now at.now) (preset_zone_at bank.now at.now) }
+pub(crate) fn key(zones: &PairAmounts<'_>, note: &Note) -> u8
+    ensures value { result ≡ key_of note.now (settings_of zones.now.instrument) (settings_of zones.now.preset) }
     ensures within { result ≤ 127 }
 {
-    up_to_127(amount(bank, at, KEYNUM), note.key())
+    up_to_127(amount(zones, KEYNUM), note.key())
 }
 
 // The velocity of the voice: the zones' own, else the note's.
-pub(crate) fn velocity(bank: &Bank<'_>, note: &Note, at: &PairAt) -> u8
-    ensures value { result ≡ velocity_of note.now (instrument_zone_at bank.now at.now) (preset_zone_at bank.now at.now) }
+pub(crate) fn velocity(zones: &PairAmounts<'_>, note: &Note) -> u8
+    ensures value { result ≡ velocity_of note.now (settings_of zones.now.instrument) (settings_of zones.now.preset) }
     ensures within { result ≤ 127 }
 {
-    up_to_127(amount(bank, at, VELOCITY), note.velocity())
+    up_to_127(amount(zones, VELOCITY), note.velocity())
 }
 
 // The root key: that of the zones, else the sample's.
-fn root(bank: &Bank<'_>, at: &PairAt, sample: &Sample<'_>) -> u8
-    ensures value { result ≡ root_of (instrument_zone_at bank.now at.now) (preset_zone_at bank.now at.now) sample.now }
+fn root(zones: &PairAmounts<'_>, sample: &Sample<'_>) -> u8
+    ensures value { result ≡ root_of (settings_of zones.now.instrument) (settings_of zones.now.preset) sample.now }
     ensures within { result ≤ 127 }
 {
     let own = if sample.key <= 127 {
@@ -55,19 +54,14 @@ fn root(bank: &Bank<'_>, at: &PairAt, sample: &Sample<'_>) -> u8
     } else {
         MIDDLE_KEY
     };
-    up_to_127(amount(bank, at, OVERRIDING_ROOT_KEY), own)
+    up_to_127(amount(zones, OVERRIDING_ROOT_KEY), own)
 }
 
 // The phase increment: how far the position advances in a frame, in 65536ths of a point.
-pub(crate) fn phase_increment_of(
-    bank: &Bank<'_>,
-    note: &Note,
-    at: &PairAt,
-    sample: &Sample<'_>,
-) -> u32
-    ensures { result ≡ phase_increment_of (cents_of note.now (instrument_zone_at bank.now at.now) (preset_zone_at bank.now at.now) sample.now) sample.now.rate }
+pub(crate) fn phase_increment_of(zones: &PairAmounts<'_>, note: &Note, sample: &Sample<'_>) -> u32
+    ensures { result ≡ phase_increment_of (cents_of note.now (settings_of zones.now.instrument) (settings_of zones.now.preset) sample.now) sample.now.rate }
 {
-    step(i64::from(cents(bank, note, at, sample)), sample.rate)
+    step(i64::from(cents(zones, note, sample)), sample.rate)
 }
 
 // The product of `tuning` and a number of keys.
@@ -92,13 +86,13 @@ fn interval(tuning: i32, key: u8, root: u8) -> i32
 }
 
 // The pitch relative to the recorded one, in cents.
-fn cents(bank: &Bank<'_>, note: &Note, at: &PairAt, sample: &Sample<'_>) -> i32
-    ensures { result ≡ cents_of note.now (instrument_zone_at bank.now at.now) (preset_zone_at bank.now at.now) sample.now }
+fn cents(zones: &PairAmounts<'_>, note: &Note, sample: &Sample<'_>) -> i32
+    ensures { result ≡ cents_of note.now (settings_of zones.now.instrument) (settings_of zones.now.preset) sample.now }
 {
-    let key = key(bank, note, at);
-    let root = root(bank, at, sample);
-    interval(amount(bank, at, SCALE_TUNING), key, root)
-        + 100 * amount(bank, at, COARSE_TUNE)
-        + moved(bank, note, at, FINE_TUNE)
+    let key = key(zones, note);
+    let root = root(zones, sample);
+    interval(amount(zones, SCALE_TUNING), key, root)
+        + 100 * amount(zones, COARSE_TUNE)
+        + moved(zones, note, FINE_TUNE)
         + i32::from(sample.correction)
 }

@@ -1,12 +1,11 @@
 //! The points of its sample that a voice plays.
-ghost use Rattle.std.specs.Prelude.{◌≡◌, ◌≤◌, ◌<◌, ◌^◌, ◌≤ℤ◌, ◌&&◌, pos, negsuc, false, cond, length, int_le, int_lt, Some, None};
+ghost use Rattle.std.specs.Prelude.{◌≡◌, ◌≤◌, ◌<◌, ◌^◌, ◌≤ℤ◌, ◌&&◌, ◌||◌, ◌==◌, pos, negsuc, false, cond, length, int_le, int_lt, Some, None};
 ghost use Rattle.generators.specs.Ranges.{is_range_operator};
 ghost use Rattle.sound_tables.specs.Floor.{clamped_at_zero};
-ghost use Rattle.zone_select.specs.Amounts.{offset, clamped, start_of, end_of, mode_of, mode_has_loop, loop_of};
-ghost use Rattle.zone_select.specs.At.{instrument_zone_at, preset_zone_at};
+ghost use Rattle.zone_select.specs.Amounts.{offset, clamped, start_of, end_of, mode_of, loop_of};
+ghost use Rattle.zone_select.specs.ZoneSettings.{settings_of};
 
-use crate::amounts::{PairAt, amount};
-use bank_core::Bank;
+use crate::amounts::{PairAmounts, amount};
 use bank_parts::Sample;
 use generators::operators::{
     END_ADDRS_COARSE_OFFSET, END_ADDRS_OFFSET, ENDLOOP_ADDRS_COARSE_OFFSET, ENDLOOP_ADDRS_OFFSET,
@@ -31,13 +30,13 @@ pub(crate) struct SampleRange {
 }
 
 // An offset in points: the fine one plus the coarse one.
-fn offset(bank: &Bank<'_>, at: &PairAt, fine: u16, coarse: u16) -> i64
+fn offset(zones: &PairAmounts<'_>, fine: u16, coarse: u16) -> i64
     requires fine { is_range_operator fine ≡ false }
     requires coarse { is_range_operator coarse ≡ false }
-    ensures value { result ≡ offset (instrument_zone_at bank.now at.now) (preset_zone_at bank.now at.now) fine coarse }
+    ensures value { result ≡ offset (settings_of zones.now.instrument) (settings_of zones.now.preset) fine coarse }
     ensures within { (negsuc 2147549183 ≤ℤ result) × (result ≤ℤ pos 2147549184) }
 {
-    i64::from(amount(bank, at, fine)) + COARSE * i64::from(amount(bank, at, coarse))
+    i64::from(amount(zones, fine)) + COARSE * i64::from(amount(zones, coarse))
 }
 
 // A number, clamped to a range.
@@ -49,14 +48,14 @@ fn clamped(number: i64, low: u32, high: u32) -> u32
 }
 
 // The range of points that the zones play of a sample.
-pub(crate) fn sample_range(bank: &Bank<'_>, at: &PairAt, sample: &Sample<'_>) -> SampleRange
+pub(crate) fn sample_range(zones: &PairAmounts<'_>, sample: &Sample<'_>) -> SampleRange
     requires { length sample.now.points < 2 ^ 32 }
-    ensures start { result.start ≡ start_of (instrument_zone_at bank.now at.now) (preset_zone_at bank.now at.now) sample.now }
-    ensures end { result.end ≡ end_of (instrument_zone_at bank.now at.now) (preset_zone_at bank.now at.now) sample.now }
+    ensures start { result.start ≡ start_of (settings_of zones.now.instrument) (settings_of zones.now.preset) sample.now }
+    ensures end { result.end ≡ end_of (settings_of zones.now.instrument) (settings_of zones.now.preset) sample.now }
 {
     let count = sample.points.len() as u32;
-    let from = offset(bank, at, START_ADDRS_OFFSET, START_ADDRS_COARSE_OFFSET);
-    let to = offset(bank, at, END_ADDRS_OFFSET, END_ADDRS_COARSE_OFFSET);
+    let from = offset(zones, START_ADDRS_OFFSET, START_ADDRS_COARSE_OFFSET);
+    let to = offset(zones, END_ADDRS_OFFSET, END_ADDRS_COARSE_OFFSET);
     let start = clamped(from, 0, count);
     let end = clamped(i64::from(count) + to, start, count);
     SampleRange { start, end }
@@ -64,43 +63,39 @@ pub(crate) fn sample_range(bank: &Bank<'_>, at: &PairAt, sample: &Sample<'_>) ->
 
 // The low two bits of the zones' sample mode.
 #[tactic(auto, using(crate::proofs::LinearLaws::euclid_is_mod))]
-pub(crate) fn mode(bank: &Bank<'_>, at: &PairAt) -> u8
-    ensures value { result ≡ mode_of (instrument_zone_at bank.now at.now) (preset_zone_at bank.now at.now) }
+pub(crate) fn mode(zones: &PairAmounts<'_>) -> u8
+    ensures value { result ≡ mode_of (settings_of zones.now.instrument) (settings_of zones.now.preset) }
     ensures within { result < 4 }
 {
-    amount(bank, at, SAMPLE_MODES).rem_euclid(4) as u8
+    amount(zones, SAMPLE_MODES).rem_euclid(4) as u8
 }
 
-// Whether the zones' sample mode has a loop.
-fn mode_has_loop(bank: &Bank<'_>, at: &PairAt) -> bool
-    ensures { result ≡ mode_has_loop (instrument_zone_at bank.now at.now) (preset_zone_at bank.now at.now) }
+// Whether a sample mode has a loop.
+fn mode_has_loop(mode: u8) -> bool
+    ensures { result ≡ (mode == 1 || mode == 3) }
 {
-    matches!(mode(bank, at), LOOPED | UNTIL_RELEASE)
+    matches!(mode, LOOPED | UNTIL_RELEASE)
 }
 
 // The loop's first point and the one after its last, if the sample mode has a loop, the sample has one, and it lies
 // within the points that are played.
 pub(crate) fn loop_within(
-    bank: &Bank<'_>,
-    at: &PairAt,
+    zones: &PairAmounts<'_>,
     sample: &Sample<'_>,
     played: &SampleRange,
+    mode: u8,
 ) -> Option<(u32, u32)>
-    requires start { played.now.start ≡ start_of (instrument_zone_at bank.now at.now) (preset_zone_at bank.now at.now) sample.now }
-    requires end { played.now.end ≡ end_of (instrument_zone_at bank.now at.now) (preset_zone_at bank.now at.now) sample.now }
-    ensures { result ≡ loop_of (instrument_zone_at bank.now at.now) (preset_zone_at bank.now at.now) sample.now }
+    requires start { played.now.start ≡ start_of (settings_of zones.now.instrument) (settings_of zones.now.preset) sample.now }
+    requires end { played.now.end ≡ end_of (settings_of zones.now.instrument) (settings_of zones.now.preset) sample.now }
+    requires mode { mode ≡ mode_of (settings_of zones.now.instrument) (settings_of zones.now.preset) }
+    ensures { result ≡ loop_of (settings_of zones.now.instrument) (settings_of zones.now.preset) sample.now }
 {
     let (first, after) = sample.looped?;
-    if !mode_has_loop(bank, at) {
+    if !mode_has_loop(mode) {
         return None;
     }
-    let later = offset(
-        bank,
-        at,
-        STARTLOOP_ADDRS_OFFSET,
-        STARTLOOP_ADDRS_COARSE_OFFSET,
-    );
-    let longer = offset(bank, at, ENDLOOP_ADDRS_OFFSET, ENDLOOP_ADDRS_COARSE_OFFSET);
+    let later = offset(zones, STARTLOOP_ADDRS_OFFSET, STARTLOOP_ADDRS_COARSE_OFFSET);
+    let longer = offset(zones, ENDLOOP_ADDRS_OFFSET, ENDLOOP_ADDRS_COARSE_OFFSET);
     ends_within(i64::from(first) + later, i64::from(after) + longer, played)
 }
 

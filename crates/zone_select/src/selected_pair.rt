@@ -4,11 +4,19 @@ ghost use Rattle.std.specs.Option.{option_map};
 ghost use Rattle.zone_select.specs.At.{target_held, selected_pair_at};
 ghost use Rattle.zone_select.specs.Pairs.{selected_pair};
 
-use crate::amounts::PairAt;
 use crate::pairs::first_preset;
 use crate::zones::holds;
 use bank_core::{Bank, Owner};
 use script_notes::Note;
+
+// A zone of a preset and a zone of its instrument, each by its number and its owner's.
+#[derive(Debug, Clone, Copy, PartialEq, Eq)]
+pub(crate) struct PairAt {
+    pub(crate) preset: u32,
+    pub(crate) preset_zone: u32,
+    pub(crate) instrument: u32,
+    pub(crate) instrument_zone: u32,
+}
 
 // Two zones that a note selects, and the number of the instrument zone's sample.
 #[derive(Debug, Clone, Copy, PartialEq, Eq)]

@@ -1,11 +1,23 @@
 //! The zones of an owner that contain a note.
-ghost use Rattle.std.specs.Prelude.{◌≡◌, ◌<◌, ◌≤◌, ◌∷◌, ◌+◌, [], MatchOption, IfSome};
+ghost use Rattle.std.specs.Prelude.{◌≡◌, ◌<◌, ◌≤◌, ◌∷◌, ◌+◌, [], false, slice_get, MatchOption, IfSome};
+ghost use Rattle.std.specs.Option.{option_map_or};
+ghost use Rattle.std.specs.FinMap.{find};
+ghost use Rattle.generators.specs.Gens.{operator_cmp, AreInOrder};
 ghost use Rattle.script_notes.specs.Notes.{Numbers};
+ghost use Rattle.bank_parts.specs.declared.owners.ZonePlace.TheVariants as place;
+ghost use Rattle.bank_parts.specs.Owners.{HasPlace};
+ghost use Rattle.zone_select.specs.Pairs.{holds_at};
+ghost use Rattle.zone_select.specs.Ranges.{within, range_in};
 ghost use Rattle.zone_select.specs.Remaining.{zones_in, owner_holds, owner_held};
 
 use bank_core::{Bank, Owner};
-use bank_zone_ranges::Axis;
+use bank_parts::{OwnerHead, Owners, ZonePlace};
+use generators::operators::{KEY_RANGE, VEL_RANGE};
+use generators::{Range, search_entries};
 use script_notes::Note;
+
+// 0 to 127, as an amount.
+const WHOLE_RANGE: u16 = 32_512;
 
 /// Returns how many zones a preset or an instrument has; 0 if it doesn't exist.
 pub fn zones_in(bank: &Bank<'_>, owner: Owner) -> u32
@@ -24,10 +36,44 @@ pub(crate) fn holds(bank: &Bank<'_>, note: &Note, owner: Owner, zone: u32) -> bo
     requires { zone < zones_in bank.now owner }
     ensures { result ≡ owner_holds bank.now note.now owner zone }
 {
-    bank.zone_range(owner, zone, Axis::Key).contains(note.key())
-        && bank
-            .zone_range(owner, zone, Axis::Vel)
-            .contains(note.velocity())
+    match owner {
+        Owner::Preset(number) => zone_holds(bank.presets(), note, number, zone),
+        Owner::Inst(number) => zone_holds(bank.instruments(), note, number, zone),
+    }
+}
+
+fn zone_holds<H: OwnerHead>(owners: &Owners<H>, note: &Note, number: u32, zone: u32) -> bool
+    requires { HasPlace owners.now number (place.Zone zone) }
+    ensures { result ≡ option_map_or (λ x. holds_at note.now x.global x.zones zone) (slice_get owners.now number) false }
+{
+    let own = owners.entries(number as usize, ZonePlace::Zone(zone as usize));
+    let global = owners.entries(number as usize, ZonePlace::Global);
+    is_within(own, global, KEY_RANGE, note.key())
+        && is_within(own, global, VEL_RANGE, note.velocity())
+}
+
+// Whether the effective range of a zone contains a number, by the generators of the zone and of its global zone.
+fn is_within(own: &[(u16, u16)], global: &[(u16, u16)], operator: u16, number: u8) -> bool
+    requires own { AreInOrder own.now }
+    requires global { AreInOrder global.now }
+    ensures { result ≡ within (range_in own.now global.now operator) number }
+{
+    let range = match amount_in(own, operator) {
+        Some(amount) => amount,
+        None => amount_in(global, operator).unwrap_or(WHOLE_RANGE),
+    };
+    Range::of_amount(range).contains(number)
+}
+
+// The amount of an operator among the generators of a place.
+fn amount_in(entries: &[(u16, u16)], operator: u16) -> Option<u16>
+    requires { AreInOrder entries.now }
+    ensures { result ≡ find operator_cmp operator entries.now }
+{
+    match search_entries(entries, operator) {
+        Ok(at) => Some(entries[at].1),
+        Err(_) => None,
+    }
 }
 
 // The first zone of an owner, from a number on, that contains the note.

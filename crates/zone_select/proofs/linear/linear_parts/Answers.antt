@@ -3,15 +3,15 @@ use Rattle.std.specs.Int.{w32}
 use Rattle.std.specs.List.{fold}
 use Rattle.std.proofs.lemmas.Int.{ints}
 use Rattle.zone_select.specs.Amounts.{linear_part, linear_sources}
-use Rattle.zone_select.specs.At.{instrument_zone_at, preset_zone_at}
 use Rattle.zone_select.proofs.LinearLaws.{one_more, all_summed}
+use Rattle.zone_select.specs.ZoneSettings.{settings_of}
 use Rattle.zone_select.proofs.linear.linear_parts.Goals as goal
 
 pub loop-source-preserved : goal.loop-source-preserved
 loop-source-preserved c =
     let f : ℕ → ℤ =
-    linear_part c.args.key c.args.velocity (instrument_zone_at c.args.bank.now c.args.at.now)
-    (preset_zone_at c.args.bank.now c.args.at.now) c.args.operator in
+    linear_part c.args.key c.args.velocity (settings_of c.args.zones.now.instrument)
+    (settings_of c.args.zones.now.preset) c.args.operator in
     let there = c.loop-source-test.true in
     let i : ℕ = c.loop-source.source-index in
     let items = c.loop-source.invariant.items in
@@ -35,7 +35,7 @@ loop-source-preserved c =
 pub returns-clause-value : goal.returns-clause-value
 returns-clause-value c =
     let f : ℕ → ℤ =
-    linear_part c.args.key c.args.velocity (instrument_zone_at c.args.bank.now c.args.at.now)
-    (preset_zone_at c.args.bank.now c.args.at.now) c.args.operator in
+    linear_part c.args.key c.args.velocity (settings_of c.args.zones.now.instrument)
+    (settings_of c.args.zones.now.preset) c.args.operator in
     let past = c.loop-source-test.false in
     c.loop-source.invariant.added ∙ all_summed f linear_sources c.loop-source.source-index (omega (arith, past))

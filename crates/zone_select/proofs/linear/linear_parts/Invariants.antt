@@ -1,7 +1,7 @@
 use Rattle.std.proofs.Common.{◌≡◌, ◌*◌, pos, ◌+ℤ◌, ◌≤ℤ◌, take}
 use Rattle.std.specs.List.{fold}
 use Rattle.zone_select.specs.Amounts.{linear_part, linear_sources}
-use Rattle.zone_select.specs.At.{instrument_zone_at, preset_zone_at}
+use Rattle.zone_select.specs.ZoneSettings.{settings_of}
 use Rattle.zone_select.proofs.linear.linear_parts.Given as goal
 
 -- the contributions of the sources so far
@@ -11,7 +11,7 @@ invariant-loop-source l = record {
       ≡ fold
       (λ s source.
       s
-      +ℤ linear_part l.key l.velocity (instrument_zone_at l.bank l.at) (preset_zone_at l.bank l.at)
+      +ℤ linear_part l.key l.velocity (settings_of l.zones.instrument) (settings_of l.zones.preset)
       l.operator source)
       (pos 0) (take l.source-index l.source-items);
   items : l.source-items ≡ linear_sources;

@@ -3,15 +3,15 @@ use Rattle.std.specs.Int.{w16, w32}
 use Rattle.std.specs.Option.{is_some}
 use Rattle.std.proofs.lemmas.Int.{to_z-of_z}
 use Rattle.zone_select.specs.Amounts.{parameters_of}
-use Rattle.zone_select.specs.At.{instrument_zone_at, preset_zone_at}
 use Rattle.zone_select.proofs.SampleRangeLaws.{loop_there, loop_start_is, loop_end_is}
+use Rattle.zone_select.specs.ZoneSettings.{settings_of}
 use Rattle.zone_select.proofs.parameters.parameters_of.Goals as goal
 
 pub returns : goal.returns
 unfolding parameters_of
 returns c =
-    let v = instrument_zone_at c.args.bank.now c.args.at.now in
-    let u = preset_zone_at c.args.bank.now c.args.at.now in
+    let v = (settings_of c.args.zones.now.instrument) in
+    let u = (settings_of c.args.zones.now.preset) in
     let s = c.args.sample.now in
     let ends =
     c.unwrap_or-loop_start.ensures
@@ -32,7 +32,7 @@ returns c =
       first,
       after,
       there,
-      c.mode.ensures.value,
+      c.requires.mode,
       c.phase_increment_of.ensures,
       c.time.ensures,
       c.moved_time.ensures,

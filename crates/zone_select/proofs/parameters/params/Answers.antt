@@ -1,19 +1,32 @@
 use Rattle.std.proofs.Common.{Some, sym, ap, ◌∙◌}
 use Rattle.std.specs.Prelude.{is_some}
-use Rattle.zone_select.specs.At.{selected_pair_at}
+use Rattle.zone_select.specs.Amounts.{parameters_of}
+use Rattle.zone_select.specs.At.{instrument_zone_at, selected_pair_at}
+use Rattle.zone_select.specs.ZoneSettings.{ZoneSettings, settings_of}
 use Rattle.zone_select.specs.declared.parameters.VoiceParameters.{VoiceParameters}
 use Rattle.zone_select.proofs.SampleRangeLaws.{points_few, parameters_by, voices_playable}
 use Rattle.zone_select.proofs.PlayedLaws.{there_by, never_lost}
 use Rattle.zone_select.proofs.parameters.params.Goals as goal
 
-pub parameters_of-requires : goal.parameters_of-requires
-parameters_of-requires c =
+pub parameters_of-requires-clause-points : goal.parameters_of-requires-clause-points
+parameters_of-requires-clause-points c =
     points_few c.args.bank.now c.in_ok-selected_zones.selected_zones.sample c.in_ok-sample.sample.now c.soundness.ensures
     (sym c.in_ok-sample.ensures)
 
 pub returns-clause-voice : goal.returns-clause-voice
 returns-clause-voice c =
     ap (λ (v : VoiceParameters). Some v) c.parameters_of.ensures
+    ∙ ap
+    (λ (v : ZoneSettings).
+    Some
+    (parameters_of c.args.note.now v (settings_of c.pair_amounts-zones.result.preset) c.in_ok-sample.sample.now))
+    c.pair_amounts-zones.ensures.instrument
+    ∙ ap
+    (λ (u : ZoneSettings).
+    Some
+    (parameters_of c.args.note.now (instrument_zone_at c.args.bank.now c.in_ok-selected_zones.selected_zones.zones) u
+    c.in_ok-sample.sample.now))
+    c.pair_amounts-zones.ensures.preset
     ∙ parameters_by c.args.bank.now c.args.note.now c.args.pair (selected_pair_at c.args.bank.now c.in_ok-selected_zones.selected_zones)
     c.in_ok-sample.sample.now (sym c.in_ok-selected_zones.ensures) (sym c.in_ok-sample.ensures)
 

@@ -1,8 +1,8 @@
 use Rattle.std.proofs.Common.{◌≡◌, ℤ, ◌-ℤ◌, ◌*ℤ◌, pos, SFits, to_z, of_z, refl, ap, ◌∙◌, rules, arith}
 use Rattle.std.specs.Int.{w8, w32}
 use Rattle.std.proofs.lemmas.Int.{ints, to_z-of_z}
-use Rattle.zone_select.specs.At.{instrument_zone_at, preset_zone_at}
 use Rattle.zone_select.proofs.LinearLaws.{cents_is}
+use Rattle.zone_select.specs.ZoneSettings.{settings_of}
 use Rattle.zone_select.proofs.pitches.cents.Goals as goal
 
 pub overflow_add-result : goal.overflow_add-result
@@ -29,8 +29,8 @@ overflow_add-result-3 c =
 
 pub returns : goal.returns
 returns c =
-    let v = instrument_zone_at c.args.bank.now c.args.at.now in
-    let u = preset_zone_at c.args.bank.now c.args.at.now in
+    let v = (settings_of c.args.zones.now.instrument) in
+    let u = (settings_of c.args.zones.now.preset) in
     let i = c.interval.ensures.within in
     let a = c.amount-2.ensures.within in
     let m = c.moved.ensures.within in

@@ -1,27 +1,31 @@
-use Rattle.std.proofs.Common.{rules, ◌≡◌, ℤ, ◌+ℤ◌, pos, to_z, of_z, sym, ap, ◌∙◌, arith}
+use Rattle.std.proofs.Common.{rules, ◌≡◌, ◌==◌, ◌||◌, Bool, ℕ, ℤ, ◌+ℤ◌, pos, to_z, of_z, sym, ap, ◌∙◌, arith}
 use Rattle.std.specs.Int.{w64}
 use Rattle.std.proofs.lemmas.Int.{ints}
-use Rattle.zone_select.specs.At.{instrument_zone_at, preset_zone_at}
 use Rattle.zone_select.proofs.SampleRangeLaws.{no_loop, not_asked, loop_by}
+use Rattle.zone_select.specs.ZoneSettings.{settings_of}
 use Rattle.zone_select.proofs.sample_range.loop_within.Goals as goal
+
+-- whether a sample mode has a loop
+abbrev mode_loops : ℕ → Bool
+mode_loops mode = mode == 1 || mode == 3
 
 pub returns-in_err-first : goal.returns-in_err-first
 returns-in_err-first c =
     rw
     (sym
-    (no_loop (instrument_zone_at c.args.bank.now c.args.at.now)
-    (preset_zone_at c.args.bank.now c.args.at.now) c.args.sample.now c.in_err-first.was))
+    (no_loop (settings_of c.args.zones.now.instrument)
+    (settings_of c.args.zones.now.preset) c.args.sample.now c.in_err-first.was))
     (search rules)
 
 pub returns-then-not-mode_has_loop : goal.returns-then-not-mode_has_loop
 returns-then-not-mode_has_loop c =
-    not_asked (instrument_zone_at c.args.bank.now c.args.at.now) (preset_zone_at c.args.bank.now c.args.at.now)
-    c.args.sample.now (sym c.mode_has_loop.ensures ∙ c.if-not-mode_has_loop.true)
+    not_asked (settings_of c.args.zones.now.instrument) (settings_of c.args.zones.now.preset)
+    c.args.sample.now (ap mode_loops (sym c.requires.mode) ∙ sym c.mode_has_loop.ensures ∙ c.if-not-mode_has_loop.true)
 
 pub returns : goal.returns
 returns c =
-    let v = instrument_zone_at c.args.bank.now c.args.at.now in
-    let u = preset_zone_at c.args.bank.now c.args.at.now in
+    let v = (settings_of c.args.zones.now.instrument) in
+    let u = (settings_of c.args.zones.now.preset) in
     let later = c.offset-later.ensures.within in
     let longer = c.offset-longer.ensures.within in
     let x : to_z w64 (of_z w64 (to_z w64 (of_z w64 c.from.result) +ℤ to_z w64 (of_z w64 c.offset-later.result)))
@@ -35,7 +39,7 @@ returns c =
     (to_z w64 (of_z w64 (to_z w64 (of_z w64 c.from.result) +ℤ to_z w64 (of_z w64 c.offset-later.result))))
     (to_z w64 (of_z w64 (to_z w64 (of_z w64 c.from-2.result) +ℤ to_z w64 (of_z w64 c.offset-longer.result))))
     c.args.played.now.start c.args.played.now.end c.in_ok-first.was
-    (sym c.mode_has_loop.ensures ∙ c.if-not-mode_has_loop.false)
+    (ap mode_loops (sym c.requires.mode) ∙ sym c.mode_has_loop.ensures ∙ c.if-not-mode_has_loop.false)
     (x ∙ ap (λ (z : ℤ). pos c.in_ok-first.first +ℤ z) c.offset-later.ensures.value)
     (y ∙ ap (λ (z : ℤ). pos c.in_ok-first.after +ℤ z) c.offset-longer.ensures.value) c.requires.start
     c.requires.end
