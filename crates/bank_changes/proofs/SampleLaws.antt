@@ -183,7 +183,7 @@ pushed b i s new (Err x) v e h = h
 -- ---- removing
 
 -- each renumbered link fits 16 bits
-links_fit : (by : Renumbering) (n : ℕ) → ((x : ℕ) → x < n → renumbered by x < 2 ^ 16) → (ss : List Sample)
+pub links_fit : (by : Renumbering) (n : ℕ) → ((x : ℕ) → x < n → renumbered by x < 2 ^ 16) → (ss : List Sample)
     → AllByRecursion (λ (s : Sample). IfLinked (λ x. x < n) s.kind) ss
     → All (λ (s : Sample). IfLinked (λ x. renumbered by x < 2 ^ 16) s.kind) ss
 links_fit by n to ss within =
@@ -357,7 +357,7 @@ module _ (b : Parts) (i j : ℕ) (lt : i < length b.samples) (lu : j < length b.
         points = points k;
       }
 
-  moved_valid : IsValid b → IsValid (sample_moved b i j)
+  pub moved_valid : IsValid b → IsValid (sample_moved b i j)
   moved_valid v =
       let n : ℕ = length b.samples in
       let by = Move i j in
