@@ -8,6 +8,8 @@ use Rattle.generators.specs.Levels.{target_operator}
 use Rattle.generators.specs.declared.level.Level.{Level}
 use Rattle.generators.specs.declared.level.Level.TheVariants as level
 use Rattle.flat_records.specs.Bags.{Tables}
+use Rattle.sf_base.specs.declared.name.Name20.{Name20}
+use Rattle.bank_parts.specs.declared.parts.Head.{Head}
 use Rattle.bank_parts.specs.declared.parts.ZoneOwner.{ZoneOwner}
 use Rattle.bank_parts.specs.declared.parts.Parts.{Parts}
 use Rattle.bank_parts.specs.Bagged.{IsPlainOwner}
@@ -127,7 +129,7 @@ module _ {H : Type 0} where
     pub lists : AreFlat at hs (lists_with ns t) (owners_read at hs ns t)
     pub plain : AllByRecursion (IsPlainOwner (target_operator at)) (owners_read at hs ns t)
 
-  pub given : (at : Level) (rs : List (HeadRecord H)) (hs : List H) (ns : List ℕ) (t : Tables) (owners : List (ZoneOwner H))
+  given : (at : Level) (rs : List (HeadRecord H)) (hs : List H) (ns : List ℕ) (t : Tables) (owners : List (ZoneOwner H))
       → rs ≡ head_records hs ns → length ns ≡ length hs + 1 → AreFlatOf at rs t owners
       → AllByRecursion (IsPlainOwner (target_operator at)) owners → Given at hs ns t owners
   given at rs hs ns t owners e size are plain =
@@ -169,18 +171,29 @@ bank_in f = record {
   samples = f.samples;
 }
 
-pub bank_there : (f : Flat) (b : Parts) → AllByRecursion (IsPlainOwner (target_operator level.Preset)) b.presets
+-- a bank with these lists, and the presets and instruments of b, is b
+pub same_parts : (f : Flat) (b : Parts) (presets : List (ZoneOwner Head)) (instruments : List (ZoneOwner Name20))
+    → IsFlatOf f b → presets ≡ b.presets → instruments ≡ b.instruments
+    → record
+      { minor = f.minor; texts = f.texts; presets = presets; instruments = instruments; samples = f.samples } ≡ b
+same_parts f b presets instruments are same_presets same_instruments =
+    let minor = are.minor in
+    let texts = are.texts in
+    let samples = are.samples in
+    λ i. record {
+      minor = minor i;
+      texts = texts i;
+      presets = same_presets i;
+      instruments = same_instruments i;
+      samples = samples i;
+    }
+
+bank_there : (f : Flat) (b : Parts) → AllByRecursion (IsPlainOwner (target_operator level.Preset)) b.presets
     → AllByRecursion (IsPlainOwner (target_operator level.Inst)) b.instruments → IsFlatOf f b → bank_in f ≡ b
 unfolding bank_in
 bank_there f b plain_presets plain_instruments are =
-    let minor = are.minor in
-    let texts = are.texts in
-    let presets = owners_there level.Preset _ _ b.presets plain_presets are.presets in
-    let instruments = owners_there level.Inst _ _ b.instruments plain_instruments are.instruments in
-    let samples = are.samples in
-    λ i.
-    record
-    { minor = minor i; texts = texts i; presets = presets i; instruments = instruments i; samples = samples i }
+    same_parts f b _ _ are (owners_there level.Preset _ _ b.presets plain_presets are.presets)
+    (owners_there level.Inst _ _ b.instruments plain_instruments are.instruments)
 
 -- no other bank has the same lists
 pub same_bank : (f : Flat) (b c : Parts) → IsSound b
@@ -194,3 +207,15 @@ same_bank f b c s presets_too instruments_too are are_too =
 -- the bank of the lists of a sound bank is that bank
 pub sound_bank_there : (f : Flat) (b : Parts) → IsSound b → IsFlatOf f b → bank_in f ≡ b
 sound_bank_there f b sound are = bank_there f b (presets_plain b sound) (instruments_plain b sound) are
+
+-- ---- as the code reads the lists
+
+pub presets_given : (f : Flat) (b : Parts) (hs : List Head) (ns : List ℕ) → IsSound b → IsFlatOf f b
+    → f.preset_heads ≡ head_records hs ns → length ns ≡ length hs + 1 → Given level.Preset hs ns f.preset b.presets
+presets_given f b hs ns sound are e size =
+    given level.Preset f.preset_heads hs ns f.preset b.presets e size are.presets (presets_plain b sound)
+
+pub instruments_given : (f : Flat) (b : Parts) (hs : List Name20) (ns : List ℕ) → IsSound b → IsFlatOf f b
+    → f.inst_heads ≡ head_records hs ns → length ns ≡ length hs + 1 → Given level.Inst hs ns f.inst b.instruments
+instruments_given f b hs ns sound are e size =
+    given level.Inst f.inst_heads hs ns f.inst b.instruments e size are.instruments (instruments_plain b sound)
