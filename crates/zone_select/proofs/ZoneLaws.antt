@@ -1,10 +1,9 @@
 -- Zones, from the queries of a bank.
-use Rattle.std.proofs.Common.{◌≡◌, ◌≤◌, ◌<◌, ◌&&◌, ◌↔◌, IsTrue, nat_le, Fits, w32, ℕ, ◌+◌}
+use Rattle.std.proofs.Common.{◌≡◌, ◌≤◌, ◌<◌, ◌&&◌, Fits, w32, ℕ, ◌+◌}
 use Rattle.std.proofs.Common.{Bool, true, false, List, [], ◌∷◌, length, Option, Some, None, IsSomeAnd, slice_get}
 use Rattle.std.proofs.Common.{unwrap_or, refl, sym, ap, subst, ◌∙◌, arith}
 use Rattle.std.specs.FinMap.{entries, get-entries}
 use Rattle.std.specs.Option.{option_map_or, option_map}
-use Rattle.std.proofs.lemmas.Bool.{leb-true, leb-false}
 use Rattle.std.proofs.lemmas.Option.{get_or_from_slice_get, slice_get_within, none-some, same_Some}
 use Rattle.std.proofs.lemmas.List.Sums.{get_or-le-sum_by}
 use Rattle.script_notes.specs.Notes.{Numbers}
@@ -18,7 +17,6 @@ use Rattle.bank_parts.specs.Owners.{HasPlace, zone_count_at, entries_at}
 use Rattle.bank_changes.specs.declared.members.Owner.{Owner}
 use Rattle.bank_changes.specs.declared.members.Owner.TheVariants as owner
 use Rattle.bank_changes.specs.Members.{owner_zone_count}
-use Rattle.bank_zone_ranges.specs.Ranges.{low_end, high_end}
 use Rattle.zone_select.specs.Ranges.{holds, within, range_in, global_entries}
 use Rattle.zone_select.specs.Pairs.{holds_at, held}
 use Rattle.zone_select.specs.Remaining.{zones_in, owner_holds, owner_held}
@@ -120,23 +118,6 @@ has_global {H} owners i k h = at (slice_get owners i) refl
         (subst
         (λ (o : Option (ZoneOwner H)). IsSomeAnd (option_map (λ (x : ZoneOwner H). length x.zones) o) (λ n. k < n)) e h)
     at (Some x) e = slice_get_within owners i x e
-
--- a range by its ends
-pub both_ends : (r : Bool) (low high range x : ℕ) → low_end range ≡ low → high_end range ≡ high
-    → (IsTrue r ↔ ((low ≤ x) × (x ≤ high))) → r ≡ within range x
-both_ends r low high range x l h e = rw (l, h) (from r (nat_le low x) (nat_le x high) refl refl e)
-  where
-    from : (r s t : Bool) → nat_le low x ≡ s → nat_le x high ≡ t → (IsTrue r ↔ ((low ≤ x) × (x ≤ high))) → r ≡ (s && t)
-    from true true true p q e = refl
-    from true true false p q e = absurd (let h = (e.0 refl).1 in let k = leb-false x high q in omega (arith, h, k))
-    from true false t p q e = absurd (let h = (e.0 refl).0 in let k = leb-false low x p in omega (arith, h, k))
-    from false true true p q e = e.1 (leb-true low x p, leb-true x high q)
-    from false true false p q e = refl
-    from false false t p q e = refl
-
-pub counted : (o : Option ℕ) (k : ℕ) → k < unwrap_or o 0 → IsSomeAnd o (λ count. k < count)
-counted None k h = absurd (omega (arith, h))
-counted (Some n) k h = h
 
 -- ---- the numbers of the zones that contain the note
 
