@@ -1,5 +1,5 @@
 -- The amounts of a zone, by its generators one after another.
-use Rattle.std.proofs.Common.{◌≡◌, ◌≤◌, ◌<◌, ℕ, true, false, cond, List, [], ◌∷◌, length, get_or, set, replicate}
+use Rattle.std.proofs.Common.{◌≡◌, ◌≤◌, ◌<◌, ℕ, true, false, cond, List, [], ◌∷◌, length, get_or, set}
 use Rattle.std.proofs.Common.{Option, Some, None, slice_get, unwrap_or, refl, sym, ap, subst, ◌∙◌, inl, inr, arith}
 use Rattle.std.proofs.Common.{true≢false, suc}
 use Rattle.std.specs.FinMap.{find, get, entries, get-entries, is_sorted}
@@ -30,7 +30,7 @@ use Rattle.bank_parts.specs.Valid.{IsGenerator, AreGenerators, IsZone, IsOwner}
 use Rattle.bank_changes.proofs.Changes.{all_found}
 use Rattle.zone_select.specs.declared.zone_amounts.ZoneAmounts.{ZoneAmounts}
 use Rattle.zone_select.specs.At.{zone_settings_in}
-use Rattle.zone_select.specs.ZoneSettings.{ZoneSettings, with_amounts, settings_of}
+use Rattle.zone_select.specs.ZoneSettings.{ZoneSettings, no_amounts, with_amounts, settings_of}
 
 -- ---- an operator among generators in order
 
@@ -144,15 +144,14 @@ module _ {H : Type 0} (name_of : H → List ℕ) (at : Level) (targets : ℕ) (o
   above = unwrap_or (entries_at owners i place.Global) []
 
   amounts_are : (op : ℕ)
-      → unwrap_or (slice_get (with_amounts (with_amounts (replicate 61 None) above) own) op) None
+      → unwrap_or (slice_get (with_amounts (with_amounts no_amounts above) own) op) None
       ≡ option_or (amount_at owners i (place.Zone k) op) (amount_at owners i place.Global op)
   unfolding own above
   amounts_are op =
       let unset : Option ℕ = None in
-      let none : List (Option ℕ) = replicate 61 unset in
-      let first = with_amounts none above in
-      let long : length none ≡ 61 = length-replicate 61 unset in
-      let long_first : length first ≡ 61 = length-put none above ∙ long in
+      let first = with_amounts no_amounts above in
+      let long : length no_amounts ≡ 61 = length-replicate 61 unset in
+      let long_first : length first ≡ 61 = length-put no_amounts above ∙ long in
       let long_both : length (with_amounts first own) ≡ 61 = length-put first own ∙ long_first in
       let own_is = amount_is (gens_at owners i (place.Zone k)) op in
       let above_is = amount_is (gens_at owners i place.Global) op in
@@ -160,7 +159,7 @@ module _ {H : Type 0} (name_of : H → List ℕ) (at : Level) (targets : ℕ) (o
         | inl l ↦ unwrap_or-slice_get (with_amounts first own) op None
             ∙ put_is first own op (in_order (gens_at owners i (place.Zone k))) (omega (arith, l, long_first))
             ∙ ap (option_or (find operator_cmp op own))
-            (put_is none above op (in_order (gens_at owners i place.Global)) (omega (arith, l, long))
+            (put_is no_amounts above op (in_order (gens_at owners i place.Global)) (omega (arith, l, long))
             ∙ ap (option_or (find operator_cmp op above)) (get_or-replicate 61 op unset unset l)
             ∙ or_none (find operator_cmp op above))
             ∙ (λ j. option_or (own_is j) (above_is j))
@@ -174,7 +173,7 @@ module _ {H : Type 0} (name_of : H → List ℕ) (at : Level) (targets : ℕ) (o
 
   pub settings_are : (z : ZoneAmounts)
       → z.amounts
-      ≡ with_amounts (with_amounts (replicate 61 None) (unwrap_or (entries_at owners i place.Global) []))
+      ≡ with_amounts (with_amounts no_amounts (unwrap_or (entries_at owners i place.Global) []))
       (unwrap_or (entries_at owners i (place.Zone k)) [])
       → z.mods.now ≡ unwrap_or (mods_at owners i (place.Zone k)) []
       → z.inherited.now ≡ unwrap_or (mods_at owners i place.Global) []

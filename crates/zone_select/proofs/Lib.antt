@@ -4,7 +4,6 @@ pub mod PairLaws
 pub mod ZoneLaws
 pub mod RemainingLaws
 pub mod AmountLaws
-pub mod ModulatorLaws
 pub mod SelectedPairLaws
 pub mod LinearLaws
 pub mod SampleRangeLaws

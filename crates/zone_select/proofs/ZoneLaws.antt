@@ -1,10 +1,9 @@
 -- Zones, from the queries of a bank.
-use Rattle.std.proofs.Common.{◌≡◌, ◌≤◌, ◌<◌, ◌&&◌, ◌↔◌, IsTrue, nat_le, Fits, w32, ℕ, ◌+◌}
+use Rattle.std.proofs.Common.{◌≡◌, ◌≤◌, ◌<◌, ◌&&◌, Fits, w32, ℕ, ◌+◌}
 use Rattle.std.proofs.Common.{Bool, true, false, List, [], ◌∷◌, length, Option, Some, None, IsSomeAnd, slice_get}
 use Rattle.std.proofs.Common.{unwrap_or, refl, sym, ap, subst, ◌∙◌, arith}
 use Rattle.std.specs.FinMap.{entries, get-entries}
 use Rattle.std.specs.Option.{option_map_or, option_map}
-use Rattle.std.proofs.lemmas.Bool.{leb-true, leb-false}
 use Rattle.std.proofs.lemmas.Option.{get_or_from_slice_get, slice_get_within, none-some, same_Some}
 use Rattle.std.proofs.lemmas.List.Sums.{get_or-le-sum_by}
 use Rattle.script_notes.specs.Notes.{Numbers}
@@ -18,8 +17,7 @@ use Rattle.bank_parts.specs.Owners.{HasPlace, zone_count_at, entries_at}
 use Rattle.bank_changes.specs.declared.members.Owner.{Owner}
 use Rattle.bank_changes.specs.declared.members.Owner.TheVariants as owner
 use Rattle.bank_changes.specs.Members.{owner_zone_count}
-use Rattle.bank_zone_ranges.specs.Ranges.{low_end, high_end}
-use Rattle.zone_select.specs.Ranges.{holds, within, range_in}
+use Rattle.zone_select.specs.Ranges.{holds, within, range_in, global_entries}
 use Rattle.zone_select.specs.Pairs.{holds_at, held}
 use Rattle.zone_select.specs.Remaining.{zones_in, owner_holds, owner_held}
 use Rattle.zone_select.proofs.NumberLaws.{numbers, numbers_end, numbers_hit, numbers_miss}
@@ -58,49 +56,56 @@ fits_field n h = omega (arith, h)
 
 -- ---- whether a zone contains the note
 
--- an existing zone, by its generators and those of its global zone
-pub held_by : {H : Type 0} (owners : List (ZoneOwner H)) (n : Numbers) (i k : ℕ) (own global : List (ℕ × ℕ))
-    → entries_at owners i (place.Zone k) ≡ Some own → entries_at owners i place.Global ≡ Some global
-    → option_map_or (λ (x : ZoneOwner H). holds_at n x.global x.zones k) (slice_get owners i) false
-    ≡ (within (range_in own global 43) n.key && within (range_in own global 44) n.velocity)
-unfolding holds
-held_by {H} owners n i k own global e f = at (slice_get owners i) refl
-  where
-    zone : (x : ZoneOwner H) (o : Option Zone) → slice_get owners i ≡ Some x → slice_get x.zones k ≡ o
-        → option_map_or (λ (x : ZoneOwner H). holds_at n x.global x.zones k) (slice_get owners i) false
-        ≡ (within (range_in own global 43) n.key && within (range_in own global 44) n.velocity)
-    zone x None p q = absurd (none-some _ (sym (rw (p, q) refl) ∙ e))
-    zone x (Some z) p q =
-        let same : entries z.gens ≡ own = same_Some _ _ (sym (rw (p, q) refl) ∙ e) in
-        let inherited : entries x.global.gens ≡ global = same_Some _ _ (sym (rw p refl) ∙ f) in
-        rw (p, q, ← same, ← inherited, get-entries z.gens 43, get-entries z.gens 44, get-entries x.global.gens 43, get-entries x.global.gens 44) refl
+-- an existing zone, by its generators
+module _ {H : Type 0} (owners : List (ZoneOwner H)) (n : Numbers) (i k : ℕ) (own : List (ℕ × ℕ))
+    (e : entries_at owners i (place.Zone k) ≡ Some own) where
+  abbrev HeldBy : Type 0
+  HeldBy =
+      option_map_or (λ (x : ZoneOwner H). holds_at n x.global x.zones k) (slice_get owners i) false
+      ≡ (within (range_in own (global_entries owners i) 43) n.key
+      && within (range_in own (global_entries owners i) 44) n.velocity)
 
-    at : (o : Option (ZoneOwner H)) → slice_get owners i ≡ o
-        → option_map_or (λ (x : ZoneOwner H). holds_at n x.global x.zones k) (slice_get owners i) false
-        ≡ (within (range_in own global 43) n.key && within (range_in own global 44) n.velocity)
-    at None p = absurd (none-some _ (sym (rw p refl) ∙ f))
-    at (Some x) p = zone x (slice_get x.zones k) p refl
+  held_by : HeldBy
+  unfolding holds
+  held_by = at (slice_get owners i) refl
+    where
+      zone : (x : ZoneOwner H) (o : Option Zone) → slice_get owners i ≡ Some x → slice_get x.zones k ≡ o → HeldBy
+      zone x None p q = absurd (none-some _ (sym (rw (p, q) refl) ∙ e))
+      zone x (Some z) p q =
+          let same : entries z.gens ≡ own = same_Some _ _ (sym (rw (p, q) refl) ∙ e) in
+          rw (
+            p,
+            q,
+            ← same,
+            get-entries z.gens 43,
+            get-entries z.gens 44,
+            get-entries x.global.gens 43,
+            get-entries x.global.gens 44,
+          )
+          refl
 
-pub holds_then : {H : Type 0} (owners : List (ZoneOwner H)) (n : Numbers) (i k : ℕ) (own global : List (ℕ × ℕ))
-    (q r : Bool) (key velocity : ℕ) → entries_at owners i (place.Zone k) ≡ Some own
-    → entries_at owners i place.Global ≡ Some global → key ≡ n.key → velocity ≡ n.velocity
-    → q ≡ within (range_in own global 43) key → q ≡ true → r ≡ within (range_in own global 44) velocity
-    → r ≡ option_map_or (λ (x : ZoneOwner H). holds_at n x.global x.zones k) (slice_get owners i) false
-holds_then owners n i k own global q r key velocity e f h v p t w =
-    let first : true ≡ within (range_in own global 43) n.key = sym t ∙ p ∙ ap (within (range_in own global 43)) h in
-    w ∙ ap (within (range_in own global 44)) v
-    ∙ ap (λ (x : Bool). x && within (range_in own global 44) n.velocity) first
-    ∙ sym (held_by owners n i k own global e f)
+      at : (o : Option (ZoneOwner H)) → slice_get owners i ≡ o → HeldBy
+      at None p = absurd (none-some _ (sym (rw p refl) ∙ e))
+      at (Some x) p = zone x (slice_get x.zones k) p refl
 
-pub holds_else : {H : Type 0} (owners : List (ZoneOwner H)) (n : Numbers) (i k : ℕ) (own global : List (ℕ × ℕ))
-    (q : Bool) (key : ℕ) → entries_at owners i (place.Zone k) ≡ Some own
-    → entries_at owners i place.Global ≡ Some global → key ≡ n.key
-    → q ≡ within (range_in own global 43) key → q ≡ false
-    → q ≡ option_map_or (λ (x : ZoneOwner H). holds_at n x.global x.zones k) (slice_get owners i) false
-holds_else owners n i k own global q key e f h p t =
-    let first : false ≡ within (range_in own global 43) n.key = sym t ∙ p ∙ ap (within (range_in own global 43)) h in
-    t ∙ ap (λ (x : Bool). x && within (range_in own global 44) n.velocity) first
-    ∙ sym (held_by owners n i k own global e f)
+  module _ (q : Bool) (key : ℕ) (h : key ≡ n.key) (is : q ≡ within (range_in own (global_entries owners i) 43) key)
+    where
+      first : q ≡ within (range_in own (global_entries owners i) 43) n.key
+      first = is ∙ ap (within (range_in own (global_entries owners i) 43)) h
+
+      pub holds_then : (r : Bool) (velocity : ℕ) → velocity ≡ n.velocity → q ≡ true
+          → r ≡ within (range_in own (global_entries owners i) 44) velocity
+          → r ≡ option_map_or (λ (x : ZoneOwner H). holds_at n x.global x.zones k) (slice_get owners i) false
+      holds_then r velocity v t w =
+          w ∙ ap (within (range_in own (global_entries owners i) 44)) v
+          ∙ ap (λ (x : Bool). x && within (range_in own (global_entries owners i) 44) n.velocity) (sym t ∙ first)
+          ∙ sym held_by
+
+      pub holds_else : q ≡ false
+          → q ≡ option_map_or (λ (x : ZoneOwner H). holds_at n x.global x.zones k) (slice_get owners i) false
+      holds_else t =
+          t ∙ ap (λ (x : Bool). x && within (range_in own (global_entries owners i) 44) n.velocity) (sym t ∙ first)
+          ∙ sym held_by
 
 -- an owner with a zone exists
 pub has_global : {H : Type 0} (owners : List (ZoneOwner H)) (i k : ℕ) → HasPlace owners i (place.Zone k)
@@ -113,23 +118,6 @@ has_global {H} owners i k h = at (slice_get owners i) refl
         (subst
         (λ (o : Option (ZoneOwner H)). IsSomeAnd (option_map (λ (x : ZoneOwner H). length x.zones) o) (λ n. k < n)) e h)
     at (Some x) e = slice_get_within owners i x e
-
--- a range by its ends
-pub both_ends : (r : Bool) (low high range x : ℕ) → low_end range ≡ low → high_end range ≡ high
-    → (IsTrue r ↔ ((low ≤ x) × (x ≤ high))) → r ≡ within range x
-both_ends r low high range x l h e = rw (l, h) (from r (nat_le low x) (nat_le x high) refl refl e)
-  where
-    from : (r s t : Bool) → nat_le low x ≡ s → nat_le x high ≡ t → (IsTrue r ↔ ((low ≤ x) × (x ≤ high))) → r ≡ (s && t)
-    from true true true p q e = refl
-    from true true false p q e = absurd (let h = (e.0 refl).1 in let k = leb-false x high q in omega (arith, h, k))
-    from true false t p q e = absurd (let h = (e.0 refl).0 in let k = leb-false low x p in omega (arith, h, k))
-    from false true true p q e = e.1 (leb-true low x p, leb-true x high q)
-    from false true false p q e = refl
-    from false false t p q e = refl
-
-pub counted : (o : Option ℕ) (k : ℕ) → k < unwrap_or o 0 → IsSomeAnd o (λ count. k < count)
-counted None k h = absurd (omega (arith, h))
-counted (Some n) k h = h
 
 -- ---- the numbers of the zones that contain the note
 

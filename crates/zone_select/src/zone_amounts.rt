@@ -1,12 +1,12 @@
 //! The generator and modulator amounts of a zone, each its own or else its global zone's.
-ghost use Rattle.std.specs.Prelude.{◌≡◌, [], None, false, replicate, unwrap_or};
+ghost use Rattle.std.specs.Prelude.{◌≡◌, [], false, unwrap_or};
 ghost use Rattle.std.specs.Option.{option_map};
 ghost use Rattle.generators.specs.Ranges.{is_range_operator};
 ghost use Rattle.bank_parts.specs.Owners.{entries_at, mods_at};
 ghost use Rattle.bank_parts.specs.declared.owners.ZonePlace.TheVariants as place;
 ghost use Rattle.zone_select.specs.Amounts.{last_of_identity, modulator_of_identity};
 ghost use Rattle.zone_select.specs.At.{zone_settings_at};
-ghost use Rattle.zone_select.specs.ZoneSettings.{with_amounts, settings_of};
+ghost use Rattle.zone_select.specs.ZoneSettings.{no_amounts, with_amounts, settings_of};
 
 use bank_core::{Bank, Owner};
 use bank_parts::{OwnerHead, Owners, ZonePlace};
@@ -59,7 +59,7 @@ impl<'b> ZoneAmounts<'b> {
 }
 
 fn zone_amounts<'b, H: OwnerHead>(owners: &'b Owners<H>, number: u32, zone: u32) -> ZoneAmounts<'b>
-    ensures amounts { result.amounts ≡ with_amounts (with_amounts (replicate 61 None) (unwrap_or (entries_at owners.now number place.Global) [])) (unwrap_or (entries_at owners.now number (place.Zone zone)) []) }
+    ensures amounts { result.amounts ≡ with_amounts (with_amounts no_amounts (unwrap_or (entries_at owners.now number place.Global) [])) (unwrap_or (entries_at owners.now number (place.Zone zone)) []) }
     ensures mods { result.mods.now ≡ unwrap_or (mods_at owners.now number (place.Zone zone)) [] }
     ensures inherited { result.inherited.now ≡ unwrap_or (mods_at owners.now number place.Global) [] }
 {

@@ -1,5 +1,5 @@
 //! The zones of an owner that contain a note.
-ghost use Rattle.std.specs.Prelude.{◌≡◌, ◌<◌, ◌≤◌, ◌∷◌, ◌+◌, [], false, slice_get, MatchOption, IfSome};
+ghost use Rattle.std.specs.Prelude.{◌≡◌, ◌<◌, ◌≤◌, ◌∷◌, ◌+◌, [], false, length, slice_get, MatchOption, IfSome};
 ghost use Rattle.std.specs.Option.{option_map_or};
 ghost use Rattle.std.specs.FinMap.{find};
 ghost use Rattle.generators.specs.Gens.{operator_cmp, AreInOrder};
@@ -7,7 +7,7 @@ ghost use Rattle.script_notes.specs.Notes.{Numbers};
 ghost use Rattle.bank_parts.specs.declared.owners.ZonePlace.TheVariants as place;
 ghost use Rattle.bank_parts.specs.Owners.{HasPlace};
 ghost use Rattle.zone_select.specs.Pairs.{holds_at};
-ghost use Rattle.zone_select.specs.Ranges.{within, range_in};
+ghost use Rattle.zone_select.specs.Ranges.{within, range_in, global_entries};
 ghost use Rattle.zone_select.specs.Remaining.{zones_in, owner_holds, owner_held};
 
 use bank_core::{Bank, Owner};
@@ -47,22 +47,30 @@ fn zone_holds<H: OwnerHead>(owners: &Owners<H>, note: &Note, number: u32, zone: 
     ensures { result ≡ option_map_or (λ x. holds_at note.now x.global x.zones zone) (slice_get owners.now number) false }
 {
     let own = owners.entries(number as usize, ZonePlace::Zone(zone as usize));
-    let global = owners.entries(number as usize, ZonePlace::Global);
-    is_within(own, global, KEY_RANGE, note.key())
-        && is_within(own, global, VEL_RANGE, note.velocity())
+    is_within(owners, number, own, KEY_RANGE, note.key())
+        && is_within(owners, number, own, VEL_RANGE, note.velocity())
 }
 
-// Whether the effective range of a zone contains a number, by the generators of the zone and of its global zone.
-fn is_within(own: &[(u16, u16)], global: &[(u16, u16)], operator: u16, number: u8) -> bool
+// Whether the effective range of a zone contains a number, by the zone's generators.
+fn is_within<H: OwnerHead>(
+    owners: &Owners<H>,
+    number: u32,
+    own: &[(u16, u16)],
+    operator: u16,
+    value: u8,
+) -> bool
+    requires owner { number < length owners.now }
     requires own { AreInOrder own.now }
-    requires global { AreInOrder global.now }
-    ensures { result ≡ within (range_in own.now global.now operator) number }
+    ensures { result ≡ within (range_in own.now (global_entries owners.now number) operator) value }
 {
     let range = match amount_in(own, operator) {
         Some(amount) => amount,
-        None => amount_in(global, operator).unwrap_or(WHOLE_RANGE),
+        None => {
+            let global = owners.entries(number as usize, ZonePlace::Global);
+            amount_in(global, operator).unwrap_or(WHOLE_RANGE)
+        }
     };
-    Range::of_amount(range).contains(number)
+    Range::of_amount(range).contains(value)
 }
 
 // The amount of an operator among the generators of a place.
