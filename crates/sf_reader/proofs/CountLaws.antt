@@ -1,17 +1,16 @@
 -- Upper bounds on what is dropped or repaired, so that the counts fit in 64 bits.
-use Rattle.std.proofs.Common.{◌≡◌, ◌≤◌, ◌+◌, ◌-◌, ◌*◌, ◌==◌, ℕ, zero, suc, Bool, true, false, cond, List, [], ◌∷◌}
+use Rattle.std.proofs.Common.{◌≡◌, ◌≤◌, ◌+◌, ◌-◌, ◌*◌, ℕ, zero, suc, Bool, true, false, cond, List, [], ◌∷◌}
 use Rattle.std.proofs.Common.{length, take, drop, map, subst, sym, ap, arith}
 use Rattle.std.specs.Prelude.{sum_by, count_by, filter, not}
-use Rattle.std.specs.List.{AllByRecursion, slice_range, list_any}
+use Rattle.std.specs.List.{AllByRecursion, slice_range}
 use Rattle.std.proofs.lemmas.List.{length-take, length-drop, length-map}
 use Rattle.std.proofs.lemmas.List.Sums.{sum_by-cons, count_by-le-length, length-filter}
-use Rattle.generators.specs.Levels.{is_allowed}
 use Rattle.generators.specs.declared.level.Level.{Level}
 use Rattle.modulators.specs.declared.modulator.Modulator.{Modulator}
 use Rattle.hydra_records.specs.declared.zone.Bag.{Bag}
 use Rattle.hydra_records.specs.declared.zone.Generator.{Generator}
 use Rattle.bank_format.specs.Windows.{windows, windows_from, zip_with}
-use Rattle.bank_format.specs.Zones.{Bagged, has_target, is_target, before_target, allowed_in, last_of_each, kept}
+use Rattle.bank_format.specs.Zones.{Bagged, has_target, kept}
 use Rattle.bank_format.specs.Zones.{needs_repair, dropped, counted_bags, ignored, gens_dropped, repaired_range_count}
 use Rattle.bank_format.specs.Reading.{bagged, bags_in}
 use Rattle.sf_reader.specs.declared.zones.ZoneCounts.{ZoneCounts}

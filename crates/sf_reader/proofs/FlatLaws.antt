@@ -1,5 +1,5 @@
 -- The content of the tables, in flat lists.
-use Rattle.std.proofs.Common.{◌≡◌, List, [], ◌∷◌, length, map, Option, Some, None, IsSome, refl, sym, ap, subst, arith}
+use Rattle.std.proofs.Common.{◌≡◌, List, [], ◌∷◌, length, map, refl, sym, ap, subst, arith}
 use Rattle.sf_base.specs.Fields.{field_at}
 use Rattle.generators.specs.Levels.{target_operator}
 use Rattle.flat_records.specs.Bags as flat

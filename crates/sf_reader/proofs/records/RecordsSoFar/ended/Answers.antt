@@ -1,4 +1,3 @@
-use Rattle.std.proofs.Common.{refl}
 use Rattle.sf_reader.proofs.BagAppends.{terminals}
 use Rattle.sf_reader.proofs.records.RecordsSoFar.ended.Goals as goal
 
