@@ -9,6 +9,7 @@ pub mod ZoneLaws
 pub mod ZoneChangeLaws
 pub mod SplitLaws
 pub mod SampleLaws
+pub mod SampleMoveLaws
 pub mod PointLaws
 pub mod InstrumentLaws
 pub mod PresetLaws

@@ -357,7 +357,7 @@ module _ (b : Parts) (i j : ℕ) (lt : i < length b.samples) (lu : j < length b.
         points = points k;
       }
 
-  moved_valid : IsValid b → IsValid (sample_moved b i j)
+  pub moved_valid : IsValid b → IsValid (sample_moved b i j)
   moved_valid v =
       let n : ℕ = length b.samples in
       let by = Move i j in

@@ -1,0 +1,6 @@
+use Rattle.std.proofs.Common.{take}
+use Rattle.bank_changes.specs.SampleMoves.{IsOrder}
+use Rattle.bank_changes.proofs.sample_moves.first_order.Given as goal
+
+abbrev pub invariant-loop-index : goal.invariant-loop-index
+invariant-loop-index l = IsOrder l.samples l.order.items (take l.index l.samples)
