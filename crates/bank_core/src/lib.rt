@@ -16,7 +16,7 @@ mod zone_changes;
 mod zones;
 
 pub use bank::Bank;
-pub use bank_changes::{List, Owner, Place};
+pub use bank_changes::{List, Owner, Place, SampleMove};
 pub use bank_parts::{
     GlobalZone, Head, InfoId, Instrument, Kind, Owners, Parts, Preset, Sample, Texts, Zone,
     ZoneOwner, ZonePlace,

@@ -1,13 +1,17 @@
 //! The raw changes of the samples of a bank, and whether a sample is in use.
-ghost use Rattle.std.specs.Prelude.{◌≡◌, ◌<◌, ◌≤◌, Some, length, slice_get, IfSome, OnOk, OnErr, IfErr};
+ghost use Rattle.std.specs.Prelude.{◌≡◌, ◌<◌, ◌≤◌, Some, length, slice_get, IfSome, IfOk, OnOk, OnErr, IfErr};
 ghost use Rattle.bank_parts.specs.Sound.{IsSound};
 ghost use Rattle.bank_changes.specs.Samples.{sample_renamed, sample_added, sample_removed, sample_moved, sample_in_use};
+ghost use Rattle.bank_changes.specs.SampleMoves.{AreMoves, samples_moved, moved_names};
 
 use crate::bank::Bank;
-use bank_changes::{add_sample, move_sample, remove_sample, rename_sample};
+use bank_changes::{
+    SampleMove, add_sample, move_sample, move_samples, remove_sample, rename_sample,
+};
 use bank_parts::Sample;
-use sf_base::Name20;
 use sf_base::limits::ZERO_POINTS;
+use sf_base::{Name20, OutOfMemory};
+use std::alloc::Global;
 
 impl<'a> Bank<'a> {
     /// Renames a sample and returns the old name. Allocates nothing.
@@ -58,6 +62,22 @@ impl<'a> Bank<'a> {
         ensures { self.new ≡ sample_moved self.old from to }
     {
         move_sample(&mut self.parts, from, to);
+    }
+
+    /// Moves samples in order, and returns the name of each before its move; the others keep their order, and targets
+    /// and links follow. It moves only indexes of samples, and traverses the samples once. A failed allocation changes
+    /// nothing.
+    pub fn move_samples(
+        &mut self,
+        alloc: Global,
+        moves: &[SampleMove],
+    ) -> Result<Vec<Name20>, OutOfMemory>
+        requires { AreMoves (length self.old.samples) moves.now }
+        ensures change { OnOk result (self.new ≡ samples_moved self.old moves.now) }
+        ensures names { IfOk result (λ names. names.items ≡ moved_names self.old moves.now) }
+        ensures err { OnErr result (self.new ≡ self.old) }
+    {
+        move_samples(&mut self.parts, alloc, moves)
     }
 
     /// Whether some zone targets the sample, or another sample is linked to it.
