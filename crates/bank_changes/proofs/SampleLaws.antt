@@ -183,7 +183,7 @@ pushed b i s new (Err x) v e h = h
 -- ---- removing
 
 -- each renumbered link fits 16 bits
-pub links_fit : (by : Renumbering) (n : ℕ) → ((x : ℕ) → x < n → renumbered by x < 2 ^ 16) → (ss : List Sample)
+links_fit : (by : Renumbering) (n : ℕ) → ((x : ℕ) → x < n → renumbered by x < 2 ^ 16) → (ss : List Sample)
     → AllByRecursion (λ (s : Sample). IfLinked (λ x. x < n) s.kind) ss
     → All (λ (s : Sample). IfLinked (λ x. renumbered by x < 2 ^ 16) s.kind) ss
 links_fit by n to ss within =

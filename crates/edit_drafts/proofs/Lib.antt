@@ -1,1 +1,2 @@
 pub mod DraftLaws
+pub mod MoveLaws

@@ -1,10 +1,12 @@
 //! A draft: a first bank, the edits so far, and the bank to which they lead.
-ghost use Rattle.std.specs.Prelude.{◌≡◌, [], IfOk};
+ghost use Rattle.std.specs.Prelude.{◌≡◌, [], IfOk, OnOk, length};
+ghost use Rattle.bank_changes.specs.SampleMoves.{AreMoves};
 ghost use Rattle.script_of_bank.specs.LeadsTo.{Leads};
-ghost use Rattle.edit_drafts.specs.Drafts.{IsStepResult};
+ghost use Rattle.edit_drafts.specs.Drafts.{IsStepResult, AreMovesResult};
 
 use crate::applied_steps::{Stop, apply_step};
-use bank_core::Bank;
+use crate::sample_moves::{apply_moves, sample_move};
+use bank_core::{Bank, SampleMove};
 use edit_forms::{Edit, Step};
 use sf_base::OutOfMemory;
 use std::alloc::Global;
@@ -63,14 +65,51 @@ impl<'d, 'a> Draft<'d, 'a> {
         self.edits
     }
 
-    /// Applies steps in order, up to the first one that fails.
+    /// Applies steps in order, up to the first one that fails. Moves of samples that follow one another are applied
+    /// together.
     pub fn edit_all(&mut self, alloc: Global, steps: Vec<Step<'a>>) -> Result<(), Stop>
         ensures { self.new.first ≡ self.old.first }
     {
+        let mut moves = Vec::new(alloc);
         for step in steps {
-            self.edit(alloc, step)?;
+            self.gather_or_edit(alloc, &mut moves, step)?;
+        }
+        self.move_samples(alloc, &moves)
+    }
+
+    // Adds a move of a sample to the moves that are to be applied together. Any other step is applied, after the moves
+    // so far.
+    fn gather_or_edit(
+        &mut self,
+        alloc: Global,
+        moves: &mut Vec<SampleMove>,
+        step: Step<'a>,
+    ) -> Result<(), Stop>
+        requires { AreMoves (length self.old.bank.samples) moves.old.items }
+        ensures first { self.new.first ≡ self.old.first }
+        ensures moves { OnOk result (AreMoves (length self.new.bank.samples) moves.new.items) }
+    {
+        let Some(change) = sample_move(&self.bank, &step) else {
+            self.move_samples(alloc, moves)?;
+            moves.clear();
+            return self.edit(alloc, step);
+        };
+        if moves.push(change).is_err() {
+            return Err(Stop::OutOfMemory);
         }
         Ok(())
+    }
+
+    // Applies moves of samples together. If that fails, nothing changes.
+    fn move_samples(&mut self, alloc: Global, moves: &[SampleMove]) -> Result<(), Stop>
+        requires { AreMoves (length self.old.bank.samples) moves.now }
+        ensures first { self.new.first ≡ self.old.first }
+        ensures done { AreMovesResult self.old.bank self.new.bank self.old.edits self.new.edits moves.now result }
+    {
+        if moves.is_empty() {
+            return Ok(());
+        }
+        apply_moves(alloc, &mut self.bank, &mut self.edits, moves)
     }
 
     /// Applies one step. If it fails, nothing changes.

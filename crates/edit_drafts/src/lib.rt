@@ -3,6 +3,7 @@
 
 mod applied_steps;
 mod draft;
+mod sample_moves;
 
 pub use applied_steps::Stop;
 pub use draft::Draft;

@@ -65,7 +65,7 @@ pub record Going (first now : Parts) (edits rest : List Edit) (kept : EditCommen
 pub going_start : (b : Parts) (edits : List Edit) (kept : EditComments) → Holds kept [] → Going b b edits edits kept
 going_start b edits kept h = record { done = []; holds = h; comments = refl; bank = refl; accepted = λ a. a }
 
-next : (edits : List Edit) (i : ℕ) (e : Edit) → i < length edits → e ≡ get_or edits i e
+pub next : (edits : List Edit) (i : ℕ) (e : Edit) → i < length edits → e ≡ get_or edits i e
     → drop i edits ≡ e ∷ drop (i + 1) edits
 next edits i e lt is =
     drop-cons edits i e lt ∙ ap (λ (x : Edit). x ∷ drop (suc i) edits) (sym is)

@@ -6,3 +6,4 @@ pub mod NameLaws
 pub mod CommentLaws
 pub mod LineLaws
 pub mod AlongLaws
+pub mod MoveLaws

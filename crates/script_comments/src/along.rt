@@ -1,22 +1,25 @@
 //! The comments of edits that are applied one after another.
-ghost use Rattle.std.specs.Prelude.{◌≡◌, ◌++◌, ◌∷◌, [], ℕ, List, None, length, drop, IfOk, IfErr, OnOk};
+ghost use Rattle.std.specs.Prelude.{◌≡◌, ◌++◌, ◌∷◌, [], ℕ, List, None, length, map, drop, IfSome, IfOk, IfErr, OnOk};
+ghost use Rattle.bank_changes.specs.SampleMoves.{AreMoves, IsMove};
 ghost use Rattle.bank_edits.specs.Runs.{AllAccepted, after_all};
 ghost use Rattle.edit_refusals.specs.Edits.{raw, refusal};
 ghost use Rattle.edit_refusals.specs.declared.refusal.Refusal.TheVariants as refusals;
 ghost use Rattle.script_comments.specs.Comments.{comment_of};
-ghost use Rattle.script_comments.specs.Along.{comments_of, pieces, comments_in, Holds};
+ghost use Rattle.script_comments.specs.Along.{comments_of, pieces, comments_in, Holds, move_edit, name_comment};
 ghost use Rattle.script_comments.specs.Lines as lines;
 
 use crate::comment::put_comment;
+use crate::lead::Lead;
 use crate::lines::put_commented;
-use bank_core::Bank;
+use crate::names::put_name;
+use bank_core::{Bank, SampleMove};
 use bank_edits::apply;
 use base_numbered_lists::NumberedList;
 use base_outputs::Output;
 use base_texts::{Text, write_text};
-use edit_forms::{Edit, Step};
+use edit_forms::{Edit, SampleStep, Step};
 use edit_refusals::Refusal;
-use sf_base::OutOfMemory;
+use sf_base::{Name20, OutOfMemory};
 use std::alloc::Global;
 use std::io::Write;
 
@@ -32,6 +35,20 @@ impl Text for EditComment<'_, '_, '_> {
 
     fn put<W: Write>(&self, output: &mut Output<'_, W>) {
         put_comment(self.bank, self.edit, output);
+    }
+}
+
+// The comment of an edit whose only name this is.
+#[derive(Clone, Copy)]
+struct NameComment {
+    name: Name20,
+}
+
+impl Text for NameComment {
+    ghost bytes = { λ comment. name_comment comment.name };
+
+    fn put<W: Write>(&self, output: &mut Output<'_, W>) {
+        put_name(self.name, Lead::first(false), output);
     }
 }
 
@@ -96,10 +113,82 @@ pub fn comments_along<'a>(
         bytes: Vec::new(alloc),
         lengths: Vec::new(alloc),
     };
+    let mut moves = Vec::new(alloc);
     for edit in edits {
-        add_and_apply(alloc, &mut comments, bank, edit)?;
+        match sample_move(bank, edit) {
+            Some(change) => gather(&mut moves, change)?,
+            None => {
+                add_moves(alloc, &mut comments, bank, &moves)?;
+                moves.clear();
+                add_and_apply(alloc, &mut comments, bank, edit)?;
+            }
+        }
     }
+    add_moves(alloc, &mut comments, bank, &moves)?;
     Ok(comments)
+}
+
+// The move of an edit that moves a sample of the bank to the number of another.
+fn sample_move(bank: &Bank<'_>, edit: &Edit<'_>) -> Option<SampleMove>
+    ensures { IfSome result (λ m. (edit.now ≡ move_edit m) × IsMove (length bank.now.samples) m) }
+{
+    let Edit::One(Step::Sample(SampleStep::MoveSample { from, to, .. })) = edit else {
+        return None;
+    };
+    let count = bank.samples().len();
+    if (*from as usize) < count && (*to as usize) < count {
+        Some(SampleMove {
+            from: *from,
+            to: *to,
+        })
+    } else {
+        None
+    }
+}
+
+// Adds a move to those that are applied together.
+fn gather(moves: &mut Vec<SampleMove>, change: SampleMove) -> Result<(), Refusal>
+    ensures gathered { OnOk result (moves.new.items ≡ moves.old.items ++ change ∷ []) }
+    ensures memory { IfErr result (λ why. why ≡ refusals.OutOfMemory) }
+{
+    match moves.push(change) {
+        Ok(()) => Ok(()),
+        Err(_) => Err(Refusal::OutOfMemory),
+    }
+}
+
+// Adds the comments of moves that follow one another, and applies the moves together.
+fn add_moves(
+    alloc: Global,
+    comments: &mut EditComments,
+    bank: &mut Bank<'_>,
+    moves: &[SampleMove],
+) -> Result<(), Refusal>
+    requires { AreMoves (length bank.old.samples) moves.now }
+    ensures added { OnOk result ((cs : List (List ℕ)) → Holds comments.old cs → Holds comments.new (cs ++ comments_of bank.old (map move_edit moves.now))) }
+    ensures done { OnOk result (bank.new ≡ after_all bank.old (map move_edit moves.now)) }
+    ensures memory { IfErr result (λ why. why ≡ refusals.OutOfMemory) }
+{
+    if moves.is_empty() {
+        return Ok(());
+    }
+    let Ok(names) = bank.move_samples(alloc, moves) else {
+        return Err(Refusal::OutOfMemory);
+    };
+    match add_names(comments, &names) {
+        Ok(()) => Ok(()),
+        Err(_) => Err(Refusal::OutOfMemory),
+    }
+}
+
+// Adds a comment of each name.
+fn add_names(comments: &mut EditComments, names: &[Name20]) -> Result<(), OutOfMemory>
+    ensures { OnOk result ((cs : List (List ℕ)) → Holds comments.old cs → Holds comments.new (cs ++ map name_comment names.now)) }
+{
+    for name in names {
+        add_comment(comments, &NameComment { name: *name })?;
+    }
+    Ok(())
 }
 
 // Adds the comment of an edit, and applies a copy of the edit.
@@ -113,36 +202,28 @@ fn add_and_apply<'a>(
     ensures done { OnOk result (bank.new ≡ raw bank.old edit.now) }
     ensures refused { refusal bank.old edit.now ≡ None → IfErr result (λ why. why ≡ refusals.OutOfMemory) }
 {
-    let Ok(()) = add_comment(comments, bank, edit) else {
+    let Ok(()) = add_comment(comments, &EditComment { bank, edit }) else {
         return Err(Refusal::OutOfMemory);
     };
     apply_copy(alloc, bank, edit)
 }
 
-// Adds the comment of an edit of the bank.
-fn add_comment(
-    comments: &mut EditComments,
-    bank: &Bank<'_>,
-    edit: &Edit<'_>,
-) -> Result<(), OutOfMemory>
-    ensures { OnOk result ((cs : List (List ℕ)) → Holds comments.old cs → Holds comments.new (cs ++ comment_of bank.now edit.now ∷ [])) }
+// Adds a comment.
+fn add_comment<T: Text>(comments: &mut EditComments, comment: &T) -> Result<(), OutOfMemory>
+    ensures { OnOk result ((cs : List (List ℕ)) → Holds comments.old cs → Holds comments.new (cs ++ T.bytes comment.now ∷ [])) }
 {
-    let length = append_comment(&mut comments.bytes, bank, edit)?;
+    let length = append_comment(&mut comments.bytes, comment)?;
     comments.lengths.push(length)?;
     Ok(())
 }
 
-// Appends the bytes of the comment, and returns their number.
-fn append_comment(
-    bytes: &mut Vec<u8>,
-    bank: &Bank<'_>,
-    edit: &Edit<'_>,
-) -> Result<usize, OutOfMemory>
-    ensures bytes { OnOk result (bytes.new.items ≡ bytes.old.items ++ comment_of bank.now edit.now) }
-    ensures length { IfOk result (λ n. n ≡ length (comment_of bank.now edit.now)) }
+// Appends the bytes of a comment, and returns their number.
+fn append_comment<T: Text>(bytes: &mut Vec<u8>, comment: &T) -> Result<usize, OutOfMemory>
+    ensures bytes { OnOk result (bytes.new.items ≡ bytes.old.items ++ T.bytes comment.now) }
+    ensures length { IfOk result (λ n. n ≡ length (T.bytes comment.now)) }
 {
     let before = bytes.len();
-    let Ok(()) = write_text(&EditComment { bank, edit }, bytes) else {
+    let Ok(()) = write_text(comment, bytes) else {
         return Err(OutOfMemory);
     };
     Ok(bytes.len() - before)

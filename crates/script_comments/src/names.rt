@@ -4,7 +4,7 @@ ghost use Rattle.std.specs.List.{flat_map};
 ghost use Rattle.bank_changes.specs.Members.{level_of};
 ghost use Rattle.script_comments.specs.Putting.{PutsItems};
 ghost use Rattle.script_comments.specs.Names as names;
-ghost use Rattle.script_comments.specs.Names.{each_of, named, numbered, named_operator, numbered_operator};
+ghost use Rattle.script_comments.specs.Names.{each_of, name_item, named, numbered, named_operator, numbered_operator};
 
 use crate::lead::{Lead, put_item};
 use bank_core::Bank;
@@ -65,13 +65,17 @@ pub(crate) fn put_named<W: Write>(
     ensures { PutsItems W.contents output.old output.new lead result (named bank.now member) }
 {
     match member.name(bank) {
-        Some(name) => put_item(
-            lead,
-            &[Piece::Name(BorrowedBytes::new(name.bytes()))],
-            output,
-        ),
+        Some(name) => put_name(name, lead, output),
         None => lead,
     }
+}
+
+// Puts a name.
+pub(crate) fn put_name<W: Write>(name: Name20, lead: Lead, output: &mut Output<'_, W>) -> Lead
+    ensures { PutsItems W.contents output.old output.new lead result (name_item name ∷ []) }
+{
+    let name = Piece::Name(BorrowedBytes::new(name.bytes()));
+    put_item(lead, &[name], output)
 }
 
 // Puts the number and the name of a member, if there is one.

@@ -1,4 +1,4 @@
-use Rattle.std.proofs.Common.{◌≡◌, ◌≤◌, ◌+◌, ◌-◌, drop, length}
+use Rattle.std.proofs.Common.{◌≡◌, ◌≤◌, drop, length}
 use Rattle.std.specs.Prelude.{vec_len, vec_capacity}
 use Rattle.bank_changes.proofs.SampleMoveLaws.{IsMovedSoFar}
 use Rattle.bank_changes.proofs.sample_moves.move_in_turn.Given as goal

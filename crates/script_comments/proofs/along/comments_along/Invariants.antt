@@ -1,7 +1,8 @@
 use Rattle.std.proofs.Common.{drop}
-use Rattle.script_comments.proofs.AlongLaws.{Going}
+use Rattle.script_comments.proofs.MoveLaws.{Gathered}
 use Rattle.script_comments.proofs.along.comments_along.Given as goal
 
--- the comments of the edits so far are kept
+-- the comments of the edits so far are kept, except those of the gathered moves
 abbrev pub invariant-loop-edit : goal.invariant-loop-edit
-invariant-loop-edit l = Going l.fn.bank l.bank l.edits (drop l.edit-index l.edits) l.comments
+invariant-loop-edit l =
+    Gathered l.fn.bank l.bank l.edits (drop l.edit-index l.edits) l.comments l.moves.items
