@@ -3,6 +3,7 @@ use Rattle.std.specs.Prelude.{◌≡◌, List, ◌++◌}
 use Rattle.std.specs.List.{filter}
 use Rattle.bank_parts.specs.declared.parts.Parts.{Parts}
 use Rattle.show_findings.specs.declared.finding.Finding.{Finding}
+use Rattle.show_findings.specs.declared.findings.TheConstants.{SILENT_KEYS, OUTSIDE_RANGE}
 use Rattle.show_findings.specs.Kinds.{is_hidden_preset, is_unselectable_zone, is_unused_instrument, is_unused_sample}
 use Rattle.show_findings.specs.Kinds.{is_overridden_generator, is_one_sided_link, is_short_loop, is_clicking_loop}
 use Rattle.show_findings.specs.Kinds.{is_unusual_rate}
@@ -39,8 +40,8 @@ unused_findings b = hidden_presets b ++ (unselectable_zones b ++ (unused_instrum
 pub record AddsZoneFindings (b : Parts) (old new : List Finding) : Type 0 where
   pub keys : List Finding
   pub outside : List Finding
-  pub are_keys : OfKind 4 keys
-  pub are_outside : OfKind 6 outside
+  pub are_keys : OfKind SILENT_KEYS keys
+  pub are_outside : OfKind OUTSIDE_RANGE outside
   pub is : new ≡ old ++ (keys ++ (overridden_generators b ++ outside))
 
 -- those of single samples

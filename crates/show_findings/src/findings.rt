@@ -17,6 +17,11 @@ use bank_core::Bank;
 use sf_base::OutOfMemory;
 use std::alloc::Global;
 
+// Indexes of kinds, in the order of their declaration.
+const SILENT_KEYS: u8 = 4;
+const OUTSIDE_RANGE: u8 = 6;
+const EQUAL_SAMPLE: u8 = 14;
+
 /// Returns all findings of a bank, grouped by kind in the order of [`Finding`], and ascending within a kind. It reads
 /// the points of each sample once.
 pub fn findings_of(alloc: Global, bank: &Bank<'_>) -> Result<Vec<Finding>, OutOfMemory>
@@ -52,10 +57,10 @@ fn push_zone_findings(
     ensures { OnOk result (AddsZoneFindings bank.now found.old.items found.new.items) }
 {
     let keys = silent_keys(alloc, bank)?;
-    push_of_kind(4, keys.as_slice(), found)?;
+    push_of_kind(SILENT_KEYS, keys.as_slice(), found)?;
     push_overridden_generators(alloc, bank, found)?;
     let outside = outside_ranges(alloc, bank)?;
-    push_of_kind(6, outside.as_slice(), found)
+    push_of_kind(OUTSIDE_RANGE, outside.as_slice(), found)
 }
 
 fn push_equal_samples(
@@ -64,10 +69,10 @@ fn push_equal_samples(
     facts: &[PointFacts],
     found: &mut Vec<Finding>,
 ) -> Result<(), OutOfMemory>
-    ensures { OnOk result (AddsKind 14 found.old.items found.new.items) }
+    ensures { OnOk result (AddsKind EQUAL_SAMPLE found.old.items found.new.items) }
 {
     let equal = equal_samples(alloc, bank, facts)?;
-    push_of_kind(14, equal.as_slice(), found)
+    push_of_kind(EQUAL_SAMPLE, equal.as_slice(), found)
 }
 
 // Appends those of one kind, which all of them are. The test makes it a clause that no others are added.
@@ -92,9 +97,9 @@ fn kind_of(finding: Finding) -> u8
         Finding::UnselectableZone { .. } => 1,
         Finding::UnusedInstrument { .. } => 2,
         Finding::UnusedSample { .. } => 3,
-        Finding::SilentKeys { .. } => 4,
+        Finding::SilentKeys { .. } => SILENT_KEYS,
         Finding::OverriddenGenerator { .. } => 5,
-        Finding::OutsideRange { .. } => 6,
+        Finding::OutsideRange { .. } => OUTSIDE_RANGE,
         Finding::OneSidedLink { .. } => 7,
         Finding::ShortLoop { .. } => 8,
         Finding::ClickingLoop { .. } => 9,
@@ -102,6 +107,6 @@ fn kind_of(finding: Finding) -> u8
         Finding::ClippedSample { .. } => 11,
         Finding::SilentSample { .. } => 12,
         Finding::OffsetSample { .. } => 13,
-        Finding::EqualSample { .. } => 14,
+        Finding::EqualSample { .. } => EQUAL_SAMPLE,
     }
 }
