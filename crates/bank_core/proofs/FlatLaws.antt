@@ -175,7 +175,7 @@ bank_in f = record {
 pub same_parts : (f : Flat) (b : Parts) (presets : List (ZoneOwner Head)) (instruments : List (ZoneOwner Name20))
     → IsFlatOf f b → presets ≡ b.presets → instruments ≡ b.instruments
     → record
-      { minor = f.minor; texts = f.texts; presets = presets; instruments = instruments; samples = f.samples } ≡ b
+    { minor = f.minor; texts = f.texts; presets = presets; instruments = instruments; samples = f.samples } ≡ b
 same_parts f b presets instruments are same_presets same_instruments =
     let minor = are.minor in
     let texts = are.texts in

@@ -11,3 +11,4 @@ pub mod StepLaw
 pub mod SequenceLaw
 pub mod Law
 pub mod RunLaw
+pub mod MoveLaws

@@ -20,3 +20,4 @@ pub mod GroupChanges
 pub mod Undoing
 pub mod Undone
 pub mod Runs
+pub mod MoveEdits

@@ -19,11 +19,9 @@ use Rattle.edit_refusals.proofs.Moves.{tests_move}
 use Rattle.bank_edits.specs.Runs.{AllAccepted, after_all}
 use Rattle.script_of_bank.specs.LeadsTo.{Leads}
 use Rattle.script_of_bank.proofs.SequenceLaws.{after-then, is_accepted-then}
-use Rattle.edit_drafts.specs.Drafts.{move_edit, AreMovesResult}
-
-pub moves_after : (b : Parts) (ms : List SampleMove) → after_all b (map move_edit ms) ≡ samples_moved b ms
-moves_after b [] = refl
-moves_after b (m ∷ ms) = moves_after (sample_moved b m.from m.to) ms
+use Rattle.bank_edits.specs.MoveEdits.{move_edit}
+use Rattle.bank_edits.proofs.MoveLaws.{moves_after}
+use Rattle.edit_drafts.specs.Drafts.{AreMovesResult}
 
 -- a sound bank accepts each move in turn
 pub moves_accepted : (b : Parts) (ms : List SampleMove) → IsSound b → AreMoves (length b.samples) ms

@@ -3,14 +3,13 @@ use Rattle.std.specs.Prelude.{◌≡◌, List, [], ◌∷◌, ◌++◌, map, Res
 use Rattle.bank_parts.specs.declared.parts.Parts.{Parts}
 use Rattle.bank_changes.specs.declared.sample_moves.SampleMove.{SampleMove}
 use Rattle.bank_changes.specs.SampleMoves.{samples_moved}
-use Rattle.edit_forms.specs.declared.samples.SampleStep.TheVariants.{MoveSample}
 use Rattle.edit_forms.specs.declared.step.Step.{Step}
-use Rattle.edit_forms.specs.declared.step.Step.TheVariants as steps
 use Rattle.edit_forms.specs.declared.edit.Edit.{Edit}
 use Rattle.edit_forms.specs.declared.edit.Edit.TheVariants.{One}
 use Rattle.edit_refusals.specs.Edits.{raw}
 use Rattle.bank_edits.specs.Undone.{IsAccepted}
 use Rattle.bank_edits.specs.Runs.{AllAccepted}
+use Rattle.bank_edits.specs.MoveEdits.{move_edit}
 
 -- a first bank, edits, and the bank to which they lead
 pub record Drafted : Type 0 where
@@ -33,10 +32,6 @@ pub record IsNoStep (old new : Parts) (was now : List Edit) : Type 0 where
 abbrev pub IsStepResult : {Why : Type 0} → Parts → Parts → List Edit → List Edit → Step → Result (Unit {0}) Why → Type 0
 IsStepResult old new was now s (Ok done) = IsDoneStep old new was now s
 IsStepResult old new was now s (Err why) = IsNoStep old new was now
-
--- the edit of a move of a sample
-abbrev pub move_edit : SampleMove → Edit
-move_edit m = One (steps.Sample (MoveSample m.from m.to))
 
 -- the moves are accepted in order by the bank, and appended to the list of edits
 pub record AreDoneMoves (old new : Parts) (was now : List Edit) (moves : List SampleMove) : Type 0 where

@@ -5,8 +5,9 @@ ghost use Rattle.script_of_bank.specs.LeadsTo.{Leads};
 ghost use Rattle.edit_drafts.specs.Drafts.{IsStepResult, AreMovesResult};
 
 use crate::applied_steps::{Stop, apply_step};
-use crate::sample_moves::{apply_moves, sample_move};
+use crate::sample_moves::apply_moves;
 use bank_core::{Bank, SampleMove};
+use bank_edits::sample_move;
 use edit_forms::{Edit, Step};
 use sf_base::OutOfMemory;
 use std::alloc::Global;

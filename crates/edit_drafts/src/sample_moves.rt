@@ -1,33 +1,14 @@
 //! Moves of samples that are applied together.
-ghost use Rattle.std.specs.Prelude.{◌≡◌, ◌++◌, ◌∷◌, [], IfSome, OnOk, OnErr, length, map, take};
-ghost use Rattle.bank_changes.specs.SampleMoves.{AreMoves, IsMove};
-ghost use Rattle.edit_forms.specs.declared.samples.SampleStep.TheVariants.{MoveSample};
-ghost use Rattle.edit_forms.specs.declared.step.Step.TheVariants as steps;
-ghost use Rattle.edit_drafts.specs.Drafts.{move_edit, AreMovesResult};
+ghost use Rattle.std.specs.Prelude.{◌≡◌, ◌++◌, ◌∷◌, [], OnOk, OnErr, length, map, take};
+ghost use Rattle.bank_changes.specs.SampleMoves.{AreMoves};
+ghost use Rattle.bank_edits.specs.MoveEdits.{move_edit};
+ghost use Rattle.edit_drafts.specs.Drafts.{AreMovesResult};
 
 use crate::applied_steps::Stop;
 use bank_core::{Bank, SampleMove};
 use edit_forms::{Edit, SampleStep, Step};
 use sf_base::OutOfMemory;
 use std::alloc::Global;
-
-/// The move of a step that moves a sample of the bank to the number of another.
-pub(crate) fn sample_move(bank: &Bank<'_>, step: &Step<'_>) -> Option<SampleMove>
-    ensures { IfSome result (λ m. (step.now ≡ steps.Sample (MoveSample m.from m.to)) × IsMove (length bank.now.samples) m) }
-{
-    let Step::Sample(SampleStep::MoveSample { from, to, .. }) = step else {
-        return None;
-    };
-    let count = bank.samples().len();
-    if (*from as usize) < count && (*to as usize) < count {
-        Some(SampleMove {
-            from: *from,
-            to: *to,
-        })
-    } else {
-        None
-    }
-}
 
 /// Applies moves of samples together, and appends their edits to the list of edits; on an error, neither is changed.
 pub(crate) fn apply_moves<'a>(

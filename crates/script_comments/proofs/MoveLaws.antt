@@ -16,12 +16,9 @@ use Rattle.edit_refusals.specs.declared.refusal.Refusal.TheVariants.{OutOfMemory
 use Rattle.bank_edits.specs.Runs.{AllAccepted, after_all}
 use Rattle.script_comments.specs.declared.along.EditComments.{EditComments}
 use Rattle.script_comments.specs.Comments.{comment_of}
-use Rattle.script_comments.specs.Along.{comments_of, Holds, move_edit, name_comment}
+use Rattle.bank_edits.specs.MoveEdits.{move_edit}
+use Rattle.script_comments.specs.Along.{comments_of, Holds, name_comment}
 use Rattle.script_comments.proofs.AlongLaws.{Going, next}
-
-pub moves_after : (b : Parts) (ms : List SampleMove) → after_all b (map move_edit ms) ≡ samples_moved b ms
-moves_after b [] = refl
-moves_after b (m ∷ ms) = moves_after (sample_moved b m.from m.to) ms
 
 -- the comment of a move is the name of the moved sample
 comment_is : (b : Parts) (m : SampleMove) → m.from < length b.samples

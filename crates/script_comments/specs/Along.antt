@@ -4,11 +4,7 @@ use Rattle.std.specs.Option.{option_map}
 use Rattle.std.specs.List.{flat_map, AllByRecursion}
 use Rattle.bank_parts.specs.declared.parts.Parts.{Parts}
 use Rattle.bank_parts.specs.Sound.{IsSound}
-use Rattle.bank_changes.specs.declared.sample_moves.SampleMove.{SampleMove}
-use Rattle.edit_forms.specs.declared.samples.SampleStep.TheVariants.{MoveSample}
-use Rattle.edit_forms.specs.declared.step.Step.TheVariants as steps
 use Rattle.edit_forms.specs.declared.edit.Edit.{Edit}
-use Rattle.edit_forms.specs.declared.edit.Edit.TheVariants.{One}
 use Rattle.edit_refusals.specs.Edits.{raw}
 use Rattle.bank_edits.specs.Runs.{AllAccepted, after_all}
 use Rattle.script_comments.specs.declared.along.EditComments.{EditComments}
@@ -21,10 +17,6 @@ use Rattle.script_comments.specs.Lines.{IsComment}
 abbrev pub comments_of : Parts → List Edit → List (List ℕ)
 comments_of b [] = []
 comments_of b (e ∷ es) = comment_of b e ∷ comments_of (raw b e) es
-
--- the edit of a move of a sample
-abbrev pub move_edit : SampleMove → Edit
-move_edit m = One (steps.Sample (MoveSample m.from m.to))
 
 -- the comment of an edit whose only name this is
 abbrev pub name_comment : List ℕ → List ℕ

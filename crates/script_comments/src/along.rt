@@ -1,11 +1,12 @@
 //! The comments of edits that are applied one after another.
 ghost use Rattle.std.specs.Prelude.{◌≡◌, ◌++◌, ◌∷◌, [], ℕ, List, None, length, map, drop, IfSome, IfOk, IfErr, OnOk};
 ghost use Rattle.bank_changes.specs.SampleMoves.{AreMoves, IsMove};
+ghost use Rattle.bank_edits.specs.MoveEdits.{move_edit};
 ghost use Rattle.bank_edits.specs.Runs.{AllAccepted, after_all};
 ghost use Rattle.edit_refusals.specs.Edits.{raw, refusal};
 ghost use Rattle.edit_refusals.specs.declared.refusal.Refusal.TheVariants as refusals;
 ghost use Rattle.script_comments.specs.Comments.{comment_of};
-ghost use Rattle.script_comments.specs.Along.{comments_of, pieces, comments_in, Holds, move_edit, name_comment};
+ghost use Rattle.script_comments.specs.Along.{comments_of, pieces, comments_in, Holds, name_comment};
 ghost use Rattle.script_comments.specs.Lines as lines;
 
 use crate::comment::put_comment;
@@ -13,11 +14,11 @@ use crate::lead::Lead;
 use crate::lines::put_commented;
 use crate::names::put_name;
 use bank_core::{Bank, SampleMove};
-use bank_edits::apply;
+use bank_edits::{apply, sample_move};
 use base_numbered_lists::NumberedList;
 use base_outputs::Output;
 use base_texts::{Text, write_text};
-use edit_forms::{Edit, SampleStep, Step};
+use edit_forms::{Edit, Step};
 use edit_refusals::Refusal;
 use sf_base::{Name20, OutOfMemory};
 use std::alloc::Global;
@@ -115,7 +116,7 @@ pub fn comments_along<'a>(
     };
     let mut moves = Vec::new(alloc);
     for edit in edits {
-        match sample_move(bank, edit) {
+        match move_of(bank, edit) {
             Some(change) => gather(&mut moves, change)?,
             None => {
                 add_moves(alloc, &mut comments, bank, &moves)?;
@@ -128,21 +129,13 @@ pub fn comments_along<'a>(
     Ok(comments)
 }
 
-// The move of an edit that moves a sample of the bank to the number of another.
-fn sample_move(bank: &Bank<'_>, edit: &Edit<'_>) -> Option<SampleMove>
+// The move of an edit that is a move of a sample of the bank.
+fn move_of(bank: &Bank<'_>, edit: &Edit<'_>) -> Option<SampleMove>
     ensures { IfSome result (λ m. (edit.now ≡ move_edit m) × IsMove (length bank.now.samples) m) }
 {
-    let Edit::One(Step::Sample(SampleStep::MoveSample { from, to, .. })) = edit else {
-        return None;
-    };
-    let count = bank.samples().len();
-    if (*from as usize) < count && (*to as usize) < count {
-        Some(SampleMove {
-            from: *from,
-            to: *to,
-        })
-    } else {
-        None
+    match edit {
+        Edit::One(step) => sample_move(bank, step),
+        Edit::Group(_) => None,
     }
 }
 

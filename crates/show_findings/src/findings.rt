@@ -19,7 +19,9 @@ use std::alloc::Global;
 
 // Indexes of kinds, in the order of their declaration.
 const SILENT_KEYS: u8 = 4;
+
 const OUTSIDE_RANGE: u8 = 6;
+
 const EQUAL_SAMPLE: u8 = 14;
 
 /// Returns all findings of a bank, grouped by kind in the order of [`Finding`], and ascending within a kind. It reads

@@ -1,5 +1,5 @@
 use Rattle.std.proofs.Common.{◌≡◌, ◌++◌, map, take}
-use Rattle.edit_drafts.specs.Drafts.{move_edit}
+use Rattle.bank_edits.specs.MoveEdits.{move_edit}
 use Rattle.edit_drafts.proofs.sample_moves.push_moves.Given as goal
 
 abbrev pub invariant-loop-change : goal.invariant-loop-change

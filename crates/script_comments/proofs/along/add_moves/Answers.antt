@@ -1,6 +1,7 @@
 use Rattle.std.proofs.Common.{sym, ap, subst, ◌∙◌, ◌++◌, List, ℕ, map}
 use Rattle.script_comments.specs.Along.{Holds, name_comment}
-use Rattle.script_comments.proofs.MoveLaws.{comments_are, moves_after}
+use Rattle.bank_edits.proofs.MoveLaws.{moves_after}
+use Rattle.script_comments.proofs.MoveLaws.{comments_are}
 use Rattle.script_comments.proofs.along.add_moves.Goals as goal
 
 pub returns-in-Ok-add_names-clause-added : goal.returns-in-Ok-add_names-clause-added

@@ -37,7 +37,7 @@ loop-edit-preserved c =
     let e = c.edit-item.result in
     let kept = c.loop-edit.comments in
     let rest = drop (i + 1) edits in
-    elim c.match-sample_move.branch [
+    elim c.match-move_of.branch [
       | in-Some+in_ok-gather-in-Some w ↦
           gathered_as w.bank-is w.comments-is (λ k. (w.moves-is k).items)
           (gathered_more first c.loop-edit.bank edits i e kept c.loop-edit.moves.items w.gather.new.moves.items

@@ -54,10 +54,11 @@ bank_found c =
     record {
       valid = c.read_banks_are_valid.ensures.valid file bytes holds.0;
       fits = c.read_banks_are_valid.ensures.fits file bytes;
-    } in
-    ( holds.0,
+    } in (
+      holds.0,
       found c.in_ok-flat.flat (content_in (window file)).bank sound (ap (λ (k : FlatContent). k.bank) content),
-      ap (λ (k : FlatContent). k.counts) content )
+      ap (λ (k : FlatContent). k.counts) content,
+    )
 
 pub from_sound_flat-requires : goal.from_sound_flat-requires
 from_sound_flat-requires c =

@@ -39,12 +39,12 @@ from_sound_flat-instruments-requires-clause-plain g c =
 
 is_bank : (g : Over) (c : After-from_sound_flat-instruments g)
     → record {
-        minor = c.args.flat.minor;
-        texts = c.args.flat.texts;
-        presets = c.from_sound_flat-presets.result;
-        instruments = c.from_sound_flat-instruments.result;
-        samples = c.args.flat.samples;
-      }
+      minor = c.args.flat.minor;
+      texts = c.args.flat.texts;
+      presets = c.from_sound_flat-presets.result;
+      instruments = c.from_sound_flat-instruments.result;
+      samples = c.args.flat.samples;
+    }
     ≡ g.bank
 is_bank g c =
     let flat = c.args.flat in
