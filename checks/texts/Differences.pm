@@ -53,8 +53,33 @@ sub wrong_of_row {
     return $wrong // back_and_forth($from, 'b', 'a', 'b') // is_expected($expected);
 }
 
+# The script of a hundred samples, of which some are linked, and of an instrument with a zone for each.
+sub many_samples {
+    my @lines = map { sprintf 'add-sample %d "s%02d" 44100 60 0 mono noloop x%04x', $_, $_, 257 * ($_ + 1) } 0 .. 99;
+    push @lines, map { 'set-kind ' . 7 * $_ . ' left ' . (99 - 3 * $_) } 0 .. 9;
+    return join "\n", @lines, 'add-inst 0 "i" ' . join ' ', map { "{ $_ }" } 0 .. 99;
+}
+
+# Moves of samples, the same in each run.
+sub some_moves {
+    my ($count) = @_;
+    return join "\n", map { 'move-sample ' . (37 * $_ * $_ + 11) % 100 . ' ' . (53 * $_ + 29) % 100 } 1 .. $count;
+}
+
+# Differences with few and many moves of samples, which are made one by one or together.
+sub try_moves {
+    for my $count (20, 90, 400) {
+        my $wrong = make_other('empty', many_samples()) // done(canon('b', 'a'));
+        $wrong //= make_other('a', some_moves($count)) // back_and_forth('a', 'b', 'a', 'b');
+        report_case("$count samples moved", $wrong // is_expected('at most ' . ($count < 99 ? $count : 99)));
+    }
+    my $wrong = make_other('a', some_moves(90) . "\nrename-sample 50 \"other\"") // back_and_forth('a', 'b', 'a', 'b');
+    report_case('samples moved and one renamed', $wrong // is_expected('at most 91'));
+}
+
 sub try_differences {
     my ($here) = @_;
+    try_moves();
     for (Rows::rows_of("$here/differences")) {
         my ($from, $edits, $expected) = @$_;
         report_case("diff $from, " . ($edits || 'nothing'), wrong_of_row($from, $edits, $expected));
