@@ -1,15 +1,16 @@
--- Renumbering of targets: of each generator with their operator, in all bags.
-use Rattle.std.proofs.Common.{if◌then◌else◌, ◌≡◌, ◌<◌, ◌^◌, ◌==◌, ◌+◌, ℕ, Bool, true, false, true≢false, List, []}
-use Rattle.std.proofs.Common.{◌∷◌, ◌++◌, length, map, refl, sym, subst, ◌∙◌, ap}
+-- Renumbering of targets: of the last generator of each bag that is a zone's.
+use Rattle.std.proofs.Common.{if◌then◌else◌, ◌≡◌, ◌<◌, ◌^◌, ◌==◌, ◌+◌, ◌-◌, ℕ, Bool, true, false, true≢false, List, []}
+use Rattle.std.proofs.Common.{◌∷◌, ◌++◌, length, map, take, drop, zero, suc, arith, refl, sym, subst, ◌∙◌, ap}
 use Rattle.std.specs.Prelude.{All}
 use Rattle.std.specs.List.{AllByRecursion}
 use Rattle.std.specs.FinMap.{entries, len}
-use Rattle.std.proofs.lemmas.List.{map-append}
+use Rattle.std.proofs.lemmas.List.{drop_all, map-append, take-append-drop}
 use Rattle.std.proofs.lemmas.List.Elements.{All-from_recursion, recursion_from_All}
 use Rattle.base_numbered_lists.specs.declared.renumbering.Renumbering.{Renumbering}
 use Rattle.base_numbered_lists.specs.Renumbered.{renumbered}
 use Rattle.flat_records.specs.Bags.{Bag, gens_in}
-use Rattle.flat_records.specs.Renumbered.{gen_renumbered, bag_renumbered, CanRenumber}
+use Rattle.flat_records.specs.Renumbered.{gen_renumbered, last_renumbered, bag_renumbered, CanRenumber}
+use Rattle.flat_records.proofs.RenumberLaws.{last_alone}
 use Rattle.flat_records.specs.Owned.{all_bags}
 use Rattle.bank_parts.specs.declared.parts.GlobalZone.{GlobalZone}
 use Rattle.bank_parts.specs.declared.parts.Zone.{Zone}
@@ -37,23 +38,33 @@ module _ (op : ℕ) (by : Renumbering) where
   target_follows : (target : ℕ) → gen_renumbered op by (op, target) ≡ (op, renumbered by target)
   target_follows target = rw (same_op op) refl
 
-  zone_follows : (z : Zone) → IsPlain op z.gens
-      → bag_renumbered op by (zone_bag op z) ≡ zone_bag op (zone_renumbered by z)
-  zone_follows z p =
-      let gens = map-append (gen_renumbered op by) (entries z.gens) ((op, z.target) ∷ [])
-      ∙ (λ i. others_stay (entries z.gens) (others op z.gens p) i ++ target_follows z.target i ∷ []) in
+  zone_follows : (z : Zone) → bag_renumbered op by (zone_bag op z) ≡ zone_bag op (zone_renumbered by z)
+  zone_follows z =
+      let gens = last_alone op by (entries z.gens) (op, z.target)
+      ∙ (λ i. entries z.gens ++ target_follows z.target i ∷ []) in
       λ i. record { gens = gens i; mods = z.mods }
 
-  zones_follow : (zones : List Zone) → AllByRecursion (λ (z : Zone). IsPlain op z.gens) zones
+  zones_follow : (zones : List Zone)
       → map (bag_renumbered op by) (map (zone_bag op) zones) ≡ map (zone_bag op) (map (zone_renumbered by) zones)
-  zones_follow [] p = refl
-  zones_follow (z ∷ zs) p = λ i. zone_follows z p.0 i ∷ zones_follow zs p.1 i
+  zones_follow [] = refl
+  zones_follow (z ∷ zs) = λ i. zone_follows z i ∷ zones_follow zs i
+
+  others_after : (n : ℕ) (es : List (ℕ × ℕ)) → AllByRecursion (λ e. (e.0 == op) ≡ false) es
+      → AllByRecursion (λ e. (e.0 == op) ≡ false) (drop n es)
+  others_after n [] h = subst (AllByRecursion (λ e. (e.0 == op) ≡ false)) (sym (drop_all n [] (omega arith))) tt
+  others_after zero (e ∷ es) h = h
+  others_after (suc n) (e ∷ es) h = others_after n es h.1
+
+  last_stays : (es : List (ℕ × ℕ)) → AllByRecursion (λ e. (e.0 == op) ≡ false) es → last_renumbered op by es ≡ es
+  last_stays es h =
+      let n = length es - 1 in
+      (λ i. take n es ++ others_stay (drop n es) (others_after n es h) i) ∙ take-append-drop n es
 
   global_stays : (c : Bool) (g : GlobalZone) → IsPlain op g.gens
       → map (bag_renumbered op by) (if c then [] else (global_bag g ∷ [])) ≡ (if c then [] else (global_bag g ∷ []))
   global_stays true g p = refl
   global_stays false g p =
-      let gens = others_stay (entries g.gens) (others op g.gens p) in
+      let gens = last_stays (entries g.gens) (others op g.gens p) in
       λ i. record { gens = gens i; mods = g.mods } ∷ []
 
   module _ {H : Type 0} where
@@ -64,7 +75,7 @@ module _ (op : ℕ) (by : Renumbering) where
         ∙
         (λ i.
         global_stays (len x.global.gens + length x.global.mods == 0) x.global p.global i
-        ++ zones_follow x.zones p.zones i)
+        ++ zones_follow x.zones i)
 
     owners_follow : (owners : List (ZoneOwner H)) → AllByRecursion (IsPlainOwner op) owners
         → map (λ bags. map (bag_renumbered op by) bags) (map (bags_of op) owners)

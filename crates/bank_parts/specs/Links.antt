@@ -1,5 +1,5 @@
 -- The link of a sample to another sample.
-use Rattle.std.specs.Prelude.{◌≡◌, ℕ, ◌==◌, Bool, true, false, refl}
+use Rattle.std.specs.Prelude.{◌≡◌, ℕ, ◌==◌, Bool, true, false, Option, Some, None, refl}
 use Rattle.bank_parts.specs.declared.parts.Kind.{Kind}
 use Rattle.bank_parts.specs.declared.parts.Kind.TheVariants.{Mono, Right, Left, Linked}
 
@@ -9,6 +9,20 @@ IfLinked P Mono = Unit {0}
 IfLinked P (Right link) = P link
 IfLinked P (Left link) = P link
 IfLinked P (Linked link) = P link
+
+-- the number of the linked sample, if there is one
+abbrev pub link_of : Kind → Option ℕ
+link_of Mono = None
+link_of (Right link) = Some link
+link_of (Left link) = Some link
+link_of (Linked link) = Some link
+
+-- the same kind with another link, if it has one
+abbrev pub with_link : ℕ → Kind → Kind
+with_link number Mono = Mono
+with_link number (Right link) = Right number
+with_link number (Left link) = Left number
+with_link number (Linked link) = Linked number
 
 -- the sample is linked
 abbrev pub has_link : Kind → Bool

@@ -15,12 +15,9 @@ impl<'a> Renumber for Sample<'a> {
     ghost with_new_numbers = { sample_renumbered };
 
     fn renumber(&mut self, by: Renumbering) {
-        self.kind = match self.kind {
-            Kind::Mono => Kind::Mono,
-            Kind::Right(link) => Kind::Right(by.number_after(link)),
-            Kind::Left(link) => Kind::Left(by.number_after(link)),
-            Kind::Linked(link) => Kind::Linked(by.number_after(link)),
-        };
+        if let Some(link) = self.kind.link() {
+            self.kind = self.kind.with_link(by.number_after(link));
+        }
     }
 }
 
