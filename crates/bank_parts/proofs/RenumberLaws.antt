@@ -1,16 +1,16 @@
--- Renumbering of targets: of the last generator of each bag that is a zone's.
+-- Renumbering of targets: of each generator with their operator, in all bags.
 use Rattle.std.proofs.Common.{if◌then◌else◌, ◌≡◌, ◌<◌, ◌^◌, ◌==◌, ◌+◌, ◌-◌, ℕ, Bool, true, false, true≢false, List, []}
-use Rattle.std.proofs.Common.{◌∷◌, ◌++◌, length, map, take, drop, zero, suc, arith, refl, sym, subst, ◌∙◌, ap}
+use Rattle.std.proofs.Common.{◌∷◌, ◌++◌, length, length-append, arith, map, take, refl, sym, subst, ◌∙◌, ap}
 use Rattle.std.specs.Prelude.{All}
 use Rattle.std.specs.List.{AllByRecursion}
 use Rattle.std.specs.FinMap.{entries, len}
-use Rattle.std.proofs.lemmas.List.{drop_all, map-append, take-append-drop}
-use Rattle.std.proofs.lemmas.List.Elements.{All-from_recursion, recursion_from_All}
+use Rattle.std.proofs.lemmas.List.{map-append, take_at}
+use Rattle.std.proofs.lemmas.List.Elements.{All-from_recursion, All-same, All-take, recursion_from_All}
 use Rattle.base_numbered_lists.specs.declared.renumbering.Renumbering.{Renumbering}
 use Rattle.base_numbered_lists.specs.Renumbered.{renumbered}
 use Rattle.flat_records.specs.Bags.{Bag, gens_in}
-use Rattle.flat_records.specs.Renumbered.{gen_renumbered, last_renumbered, bag_renumbered, CanRenumber}
-use Rattle.flat_records.proofs.RenumberLaws.{last_alone}
+use Rattle.flat_records.specs.Renumbered.{gen_renumbered, bag_renumbered, CanRenumber, IsOnlyLast}
+use Rattle.flat_records.proofs.RenumberLaws.{others_stay}
 use Rattle.flat_records.specs.Owned.{all_bags}
 use Rattle.bank_parts.specs.declared.parts.GlobalZone.{GlobalZone}
 use Rattle.bank_parts.specs.declared.parts.Zone.{Zone}
@@ -28,43 +28,26 @@ all_join P (x ∷ xs) ys p q = (p.0, all_join P xs ys p.1 q)
 module _ (op : ℕ) (by : Renumbering) where
   -- ---- the renumbered owners
 
-  other_stays : (e : ℕ × ℕ) → (e.0 == op) ≡ false → gen_renumbered op by e ≡ e
-  other_stays e h = rw h refl
-
-  others_stay : (es : List (ℕ × ℕ)) → AllByRecursion (λ e. (e.0 == op) ≡ false) es → map (gen_renumbered op by) es ≡ es
-  others_stay [] h = refl
-  others_stay (e ∷ es) h = λ i. other_stays e h.0 i ∷ others_stay es h.1 i
-
   target_follows : (target : ℕ) → gen_renumbered op by (op, target) ≡ (op, renumbered by target)
   target_follows target = rw (same_op op) refl
 
-  zone_follows : (z : Zone) → bag_renumbered op by (zone_bag op z) ≡ zone_bag op (zone_renumbered by z)
-  zone_follows z =
-      let gens = last_alone op by (entries z.gens) (op, z.target)
-      ∙ (λ i. entries z.gens ++ target_follows z.target i ∷ []) in
+  zone_follows : (z : Zone) → IsPlain op z.gens
+      → bag_renumbered op by (zone_bag op z) ≡ zone_bag op (zone_renumbered by z)
+  zone_follows z p =
+      let gens = map-append (gen_renumbered op by) (entries z.gens) ((op, z.target) ∷ [])
+      ∙ (λ i. others_stay op by (entries z.gens) (others op z.gens p) i ++ target_follows z.target i ∷ []) in
       λ i. record { gens = gens i; mods = z.mods }
 
-  zones_follow : (zones : List Zone)
+  zones_follow : (zones : List Zone) → AllByRecursion (λ (z : Zone). IsPlain op z.gens) zones
       → map (bag_renumbered op by) (map (zone_bag op) zones) ≡ map (zone_bag op) (map (zone_renumbered by) zones)
-  zones_follow [] = refl
-  zones_follow (z ∷ zs) = λ i. zone_follows z i ∷ zones_follow zs i
-
-  others_after : (n : ℕ) (es : List (ℕ × ℕ)) → AllByRecursion (λ e. (e.0 == op) ≡ false) es
-      → AllByRecursion (λ e. (e.0 == op) ≡ false) (drop n es)
-  others_after n [] h = subst (AllByRecursion (λ e. (e.0 == op) ≡ false)) (sym (drop_all n [] (omega arith))) tt
-  others_after zero (e ∷ es) h = h
-  others_after (suc n) (e ∷ es) h = others_after n es h.1
-
-  last_stays : (es : List (ℕ × ℕ)) → AllByRecursion (λ e. (e.0 == op) ≡ false) es → last_renumbered op by es ≡ es
-  last_stays es h =
-      let n = length es - 1 in
-      (λ i. take n es ++ others_stay (drop n es) (others_after n es h) i) ∙ take-append-drop n es
+  zones_follow [] p = refl
+  zones_follow (z ∷ zs) p = λ i. zone_follows z p.0 i ∷ zones_follow zs p.1 i
 
   global_stays : (c : Bool) (g : GlobalZone) → IsPlain op g.gens
       → map (bag_renumbered op by) (if c then [] else (global_bag g ∷ [])) ≡ (if c then [] else (global_bag g ∷ []))
   global_stays true g p = refl
   global_stays false g p =
-      let gens = last_stays (entries g.gens) (others op g.gens p) in
+      let gens = others_stay op by (entries g.gens) (others op g.gens p) in
       λ i. record { gens = gens i; mods = g.mods } ∷ []
 
   module _ {H : Type 0} where
@@ -75,7 +58,7 @@ module _ (op : ℕ) (by : Renumbering) where
         ∙
         (λ i.
         global_stays (len x.global.gens + length x.global.mods == 0) x.global p.global i
-        ++ zones_follow x.zones i)
+        ++ zones_follow x.zones p.zones i)
 
     owners_follow : (owners : List (ZoneOwner H)) → AllByRecursion (IsPlainOwner op) owners
         → map (λ bags. map (bag_renumbered op by) bags) (map (bags_of op) owners)
@@ -151,3 +134,45 @@ module _ (op : ℕ) (by : Renumbering) where
       subst (λ bags. All (CanRenumber op by) (gens_in (all_bags bags))) (sym a.bags)
       (All-from_recursion (CanRenumber op by) (gens_in (all_bags (map (bags_of op) owners)))
       (owners_can owners a.plain (recursion_from_All (CanRenumberOwner by) owners can)))
+
+  -- ---- that targets are last
+
+  zone_last : (z : Zone) → IsPlain op z.gens → IsOnlyLast op (zone_bag op z)
+  zone_last z p =
+      let gens = entries z.gens ++ (op, z.target) ∷ [] in
+      let n : length (entries z.gens) ≡ length gens - 1 =
+      omega (arith, length-append (entries z.gens) ((op, z.target) ∷ [])) in
+      All-same (λ e. (e.0 == op) ≡ false) (take (length gens - 1) gens) (entries z.gens)
+      (take_at (entries z.gens) ((op, z.target) ∷ []) (length gens - 1) n)
+      (All-from_recursion (λ e. (e.0 == op) ≡ false) (entries z.gens) (others op z.gens p))
+
+  zones_last : (zones : List Zone) → AllByRecursion (λ (z : Zone). IsPlain op z.gens) zones
+      → AllByRecursion (IsOnlyLast op) (map (zone_bag op) zones)
+  zones_last [] p = tt
+  zones_last (z ∷ zs) p = (zone_last z p.0, zones_last zs p.1)
+
+  global_last : (c : Bool) (g : GlobalZone) → IsPlain op g.gens
+      → AllByRecursion (IsOnlyLast op) (if c then [] else (global_bag g ∷ []))
+  global_last true g p = tt
+  global_last false g p =
+      let n = length (entries g.gens) - 1 in (
+        All-take (λ e. (e.0 == op) ≡ false) n (entries g.gens)
+            (All-from_recursion (λ e. (e.0 == op) ≡ false) (entries g.gens) (others op g.gens p)),
+        tt,
+      )
+
+  owners_last : {H : Type 0} (owners : List (ZoneOwner H)) → AllByRecursion (IsPlainOwner op) owners
+      → AllByRecursion (IsOnlyLast op) (all_bags (map (bags_of op) owners))
+  owners_last [] p = tt
+  owners_last (x ∷ xs) p =
+      let own = p.0 in
+      let all =
+      all_join (IsOnlyLast op) (global_bags x.global) (map (zone_bag op) x.zones)
+      (global_last (len x.global.gens + length x.global.mods == 0) x.global own.global) (zones_last x.zones own.zones) in
+      all_join (IsOnlyLast op) (bags_of op x) (all_bags (map (bags_of op) xs)) all (owners_last xs p.1)
+
+  pub last_follow : {H : Type 0} {heads : List H} {bags : List (List Bag)} {owners : List (ZoneOwner H)}
+      → RepresentOwners op heads bags owners → All (IsOnlyLast op) (all_bags bags)
+  last_follow {owners = owners} a =
+      subst (λ bags. All (IsOnlyLast op) (all_bags bags)) (sym a.bags)
+      (All-from_recursion (IsOnlyLast op) (all_bags (map (bags_of op) owners)) (owners_last owners a.plain))

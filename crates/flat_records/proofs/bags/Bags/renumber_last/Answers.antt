@@ -1,5 +1,5 @@
 use Rattle.std.proofs.Common.{◌∙◌}
-use Rattle.flat_records.proofs.RenumberLaws.{none_stays, other_stays, target_set}
+use Rattle.flat_records.proofs.RenumberLaws.{none_stays, last_stays, target_set}
 use Rattle.flat_records.proofs.bags.Bags.renumber_last.Goals as goal
 
 pub returns-in_default-clause-bags : goal.returns-in_default-clause-bags
@@ -15,5 +15,5 @@ returns-then-last-operator-clause-bags c =
 
 pub returns-else-last-operator-clause-bags : goal.returns-else-last-operator-clause-bags
 returns-else-last-operator-clause-bags c =
-    other_stays c.args.operator c.args.by c.args.self.now.bags c.args.k c.requires c.gens.result.now c.gens.ensures
+    last_stays c.args.operator c.args.by c.args.self.now.bags c.args.k c.requires c.gens.result.now c.gens.ensures
     c.in-Some.others.now c.in-Some.field-0-0.now c.in-Some.ensures.cases.0 c.if-last-operator.false

@@ -1,6 +1,6 @@
 use Rattle.std.proofs.Common.{◌≡◌, ◌++◌, map, take, drop}
 use Rattle.flat_records.specs.Renumbered.{bag_renumbered}
-use Rattle.flat_records.proofs.bags.Bags.renumber.Given as goal
+use Rattle.flat_records.proofs.bags.Bags.renumber_last_of_each.Given as goal
 
 abbrev pub invariant-loop-k : goal.invariant-loop-k
 invariant-loop-k l =
