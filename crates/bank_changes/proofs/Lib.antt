@@ -10,6 +10,7 @@ pub mod ZoneChangeLaws
 pub mod SplitLaws
 pub mod SampleLaws
 pub mod SampleMoveLaws
+pub mod SampleNumberLaws
 pub mod PointLaws
 pub mod InstrumentLaws
 pub mod PresetLaws

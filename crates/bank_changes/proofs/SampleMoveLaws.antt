@@ -1,5 +1,5 @@
 -- Several moves of samples: as moves of the list, and then renumberings.
-use Rattle.std.proofs.Common.{◌≡◌, ◌++◌, ◌∷◌, [], ◌<◌, ◌≤◌, ◌+◌, ◌^◌, suc, ℕ, List, length, map, take, drop, get_or}
+use Rattle.std.proofs.Common.{◌≡◌, ◌++◌, ◌∷◌, [], ◌<◌, ◌≤◌, ◌+◌, suc, ℕ, List, length, map, take, drop, get_or}
 use Rattle.std.proofs.Common.{slice_get, Option, Some, None, refl, sym, ◌∙◌, ap, subst, arith, append_assoc, drop-cons}
 use Rattle.std.proofs.Math.Seq.{take-append_seam}
 use Rattle.std.proofs.lemmas.List.{drop_all, append-nil, map_more, map_push, length-map}
@@ -9,26 +9,19 @@ use Rattle.std.specs.Prelude.{All, IfSome}
 use Rattle.std.specs.List.{AllByRecursion}
 use Rattle.std.specs.Option.{option_map_or}
 use Rattle.base_numbered_lists.specs.declared.renumbering.Renumbering.TheVariants.{Move}
-use Rattle.base_numbered_lists.specs.Renumbered.{renumbered}
 use Rattle.base_numbered_lists.specs.Moved.{moved}
 use Rattle.base_numbered_lists.proofs.Lists.{slice_get-found, slice_get-within, slice_get-map, length-moved, map-moved}
-use Rattle.base_numbered_lists.proofs.Numbers.{move_below}
-use Rattle.generators.specs.declared.level.Level.TheVariants as level
 use Rattle.bank_parts.specs.declared.parts.Sample.{Sample}
 use Rattle.bank_parts.specs.declared.parts.Parts.{Parts}
-use Rattle.bank_parts.specs.Links.{IfLinked}
 use Rattle.bank_parts.specs.Renumbered.{sample_renumbered, samples_renumbered}
 use Rattle.bank_parts.specs.Sound.{IsSound}
-use Rattle.bank_parts.specs.Valid.{IsSample, IsValid}
+use Rattle.bank_parts.specs.Valid.{IsValid}
 use Rattle.bank_validity.specs.Limits.{totals_of}
 use Rattle.bank_changes.specs.declared.sample_moves.SampleMove.{SampleMove}
 use Rattle.bank_changes.specs.Samples.{sample_moved}
 use Rattle.bank_changes.specs.SampleMoves.{IsMove, AreMoves, samples_moved, name_at, moved_names, list_moved, names_along}
-use Rattle.bank_changes.specs.SampleMoves.{IsOrder, renumbered_along, RefersBelow}
-use Rattle.bank_changes.proofs.Everywhere.{all_weaker}
+use Rattle.bank_changes.specs.SampleMoves.{IsOrder}
 use Rattle.bank_changes.proofs.Moves.{all_moved}
-use Rattle.bank_changes.proofs.OwnerReferences.{owners_within}
-use Rattle.bank_changes.proofs.References.{samples_valid, instruments_valid}
 use Rattle.bank_changes.proofs.SampleLaws.{length-sample_moved, moved_sound, moved_valid, totals-moved}
 
 -- ---- lists
@@ -92,6 +85,11 @@ names_are b (m ∷ ms) h =
 
 -- ---- renumbering after all moves of the list
 
+-- targets and links are renumbered for each move
+abbrev pub renumbered_along : Parts → List SampleMove → Parts
+renumbered_along b [] = b
+renumbered_along b (m ∷ ms) = renumbered_along (samples_renumbered (Move m.from m.to) b) ms
+
 pub moves_are : (b : Parts) (ms : List SampleMove) → AreMoves (length b.samples) ms
     → renumbered_along (let t : Parts = record b { samples = list_moved b.samples ms } in t) ms ≡ samples_moved b ms
 moves_are b [] h = refl
@@ -103,58 +101,10 @@ moves_are b (m ∷ ms) h =
     (map-list_moved (sample_renumbered (Move m.from m.to)) (moved b.samples m.from m.to) ms (stay ms size h.1))
     ∙ moves_are next ms (stay ms sent h.1)
 
--- ---- a bank whose numbers are below n
-
-pub refers-moved : (b : Parts) (n : ℕ) (m : SampleMove) → IsMove n m → RefersBelow n b
-    → RefersBelow n (samples_renumbered (Move m.from m.to) b)
-refers-moved b n m h r =
-    let by = Move m.from m.to in
-    let to : (x : ℕ) → x < n → renumbered by x < n = λ x lt. move_below m.from m.to x n h.from h.to lt in
-    record {
-      instruments =
-          instruments_valid (λ x. x < n) by n n to b.instruments r.instruments
-          (owners_within (λ name. name) level.Inst n b.instruments r.instruments);
-      samples =
-          samples_valid (λ x. x < n) by n n to b.samples r.samples
-          (all_weaker (IsSample n) (λ (s : Sample). IfLinked (λ x. x < n) s.kind) (λ s k. k.kind) b.samples r.samples);
-    }
-
--- ---- the loop that renumbers
+-- ---- the next move
 
 next : {X : Type 0} (xs : List X) (i : ℕ) (d : X) → i < length xs → drop i xs ≡ get_or xs i d ∷ drop (i + 1) xs
 next xs i d lt = drop-cons xs i d lt ∙ (let a : i + 1 ≡ suc i = omega arith in rw a refl)
-
--- the moves so far are followed, and the rest is within the bank
-pub record IsFollowed (first now : Parts) (all rest : List SampleMove) : Type 0 where
-  pub few : length now.samples ≤ 2 ^ 16
-  pub refers : RefersBelow (length now.samples) now
-  pub within : AreMoves (length now.samples) rest
-  pub same : renumbered_along first all ≡ renumbered_along now rest
-
-pub next_followed : (first now : Parts) (all : List SampleMove) (i : ℕ) (d : SampleMove)
-    → IsFollowed first now all (drop i all) → i < length all
-    → IsFollowed first now all (get_or all i d ∷ drop (i + 1) all)
-next_followed first now all i d f lt = subst (IsFollowed first now all) (next all i d lt) f
-
-pub followed_on : (first now later : Parts) (all rest : List SampleMove) (m : SampleMove)
-    → IsFollowed first now all (m ∷ rest) → later ≡ samples_renumbered (Move m.from m.to) now
-    → IsFollowed first later all rest
-followed_on first now later all rest m f change =
-    let size = length-map now.samples (sample_renumbered (Move m.from m.to)) in
-    subst (λ (b : Parts). IsFollowed first b all rest) (sym change)
-    (record {
-      few = subst (λ n. n ≤ 2 ^ 16) (sym size) f.few;
-      refers =
-          subst (λ n. RefersBelow n (samples_renumbered (Move m.from m.to) now)) (sym size)
-          (refers-moved now (length now.samples) m f.within.0 f.refers);
-      within = stay rest size f.within.1;
-      same = f.same;
-    })
-
-pub followed_end : (first now : Parts) (all : List SampleMove) (i : ℕ) → IsFollowed first now all (drop i all)
-    → length all ≤ i → now ≡ renumbered_along first all
-followed_end first now all i f over =
-    sym (f.same ∙ ap (λ rest. renumbered_along now rest) (drop_all i all over))
 
 -- ---- orders
 
@@ -312,34 +262,12 @@ named_end ss order names all i f over =
 
 -- ---- the whole bank
 
-module _ (b : Parts) (ms : List SampleMove) (arranged : List Sample) where
-  pub arranged_few : IsValid b → AreMoves (length b.samples) ms → arranged ≡ list_moved b.samples ms
-      → length arranged ≤ 2 ^ 16
-  arranged_few v h is =
-      let size : length arranged ≡ length b.samples = ap length is ∙ length-list_moved b.samples ms h in
-      let few = v.limits.samples in
-      omega (arith, size, few)
-
-  pub arranged_within : AreMoves (length b.samples) ms → arranged ≡ list_moved b.samples ms
-      → AreMoves (length arranged) ms
-  arranged_within h is = stay ms (ap length is ∙ length-list_moved b.samples ms h) h
-
-  pub arranged_refers : IsValid b → AreMoves (length b.samples) ms → arranged ≡ list_moved b.samples ms
-      → RefersBelow (length arranged) (let t : Parts = record b { samples = arranged } in t)
-  arranged_refers v h is =
-      let n : ℕ = length b.samples in
-      subst (λ k. RefersBelow k (let t : Parts = record b { samples = arranged } in t))
-      (sym (ap length is ∙ length-list_moved b.samples ms h))
-      (record {
-        instruments = v.instruments;
-        samples = subst (AllByRecursion (IsSample n)) (sym is) (all_list_moved (IsSample n) b.samples ms h v.samples);
-      })
-
-  pub arranged_moved : AreMoves (length b.samples) ms → arranged ≡ list_moved b.samples ms
-      → renumbered_along (let t : Parts = record b { samples = arranged } in t) ms ≡ samples_moved b ms
-  arranged_moved h is =
-      ap (λ (ss : List Sample). renumbered_along (let t : Parts = record b { samples = ss } in t) ms) is
-      ∙ moves_are b ms h
+pub arranged_moved : (b : Parts) (ms : List SampleMove) (arranged : List Sample) → AreMoves (length b.samples) ms
+    → arranged ≡ list_moved b.samples ms
+    → renumbered_along (let t : Parts = record b { samples = arranged } in t) ms ≡ samples_moved b ms
+arranged_moved b ms arranged h is =
+    ap (λ (ss : List Sample). renumbered_along (let t : Parts = record b { samples = ss } in t) ms) is
+    ∙ moves_are b ms h
 
 pub samples_moved_sound : (b : Parts) (ms : List SampleMove) → AreMoves (length b.samples) ms → IsSound b
     → IsSound (samples_moved b ms)

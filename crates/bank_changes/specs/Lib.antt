@@ -4,6 +4,7 @@ pub use Rattle.bank_parts.specs.Sound
 pub mod Members
 pub mod Samples
 pub mod SampleMoves
+pub mod SampleNumbers
 pub mod Points
 pub mod Instruments
 pub mod Presets

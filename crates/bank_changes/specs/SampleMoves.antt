@@ -2,12 +2,9 @@
 use Rattle.std.specs.Prelude.{◌≡◌, ◌<◌, ℕ, List, [], ◌∷◌, Some, map, slice_get}
 use Rattle.std.specs.List.{AllByRecursion}
 use Rattle.std.specs.Option.{option_map_or}
-use Rattle.base_numbered_lists.specs.declared.renumbering.Renumbering.TheVariants.{Move}
 use Rattle.base_numbered_lists.specs.Moved.{moved}
 use Rattle.bank_parts.specs.declared.parts.Sample.{Sample}
 use Rattle.bank_parts.specs.declared.parts.Parts.{Parts}
-use Rattle.bank_parts.specs.Valid.{IsInstrument, IsSample}
-use Rattle.bank_parts.specs.Renumbered.{samples_renumbered}
 use Rattle.bank_changes.specs.declared.sample_moves.SampleMove.{SampleMove}
 use Rattle.bank_changes.specs.Samples.{sample_moved}
 
@@ -48,15 +45,3 @@ names_along ss (m ∷ ms) = name_at ss m.from ∷ names_along (moved ss m.from m
 -- the members of a list at these indexes are the arranged ones
 abbrev pub IsOrder : {X : Type 0} → List X → List ℕ → List X → Type 0
 IsOrder xs indexes arranged = map (slice_get xs) indexes ≡ map Some arranged
-
--- ---- the numbers alone
-
--- targets and links are renumbered for each move
-abbrev pub renumbered_along : Parts → List SampleMove → Parts
-renumbered_along b [] = b
-renumbered_along b (m ∷ ms) = renumbered_along (samples_renumbered (Move m.from m.to) b) ms
-
--- each target and link to a sample is below n
-pub record RefersBelow (n : ℕ) (b : Parts) : Type 0 where
-  pub instruments : AllByRecursion (IsInstrument n) b.instruments
-  pub samples : AllByRecursion (IsSample n) b.samples

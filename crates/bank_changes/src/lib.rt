@@ -7,6 +7,7 @@ mod members;
 mod points;
 mod presets;
 mod sample_moves;
+mod sample_numbers;
 mod samples;
 mod settings;
 mod texts;

@@ -1,16 +1,15 @@
 //! Several moves of samples, one after another, for the cost of one pass over the samples.
 ghost use Rattle.std.specs.Prelude.{◌≡◌, ◌<◌, ◌≤◌, ◌+◌, ◌^◌, ◌++◌, ◌∷◌, [], All, IfOk, IfSome, OnOk, OnErr, length, slice_get, vec_len, vec_capacity};
 ghost use Rattle.base_numbered_lists.specs.Moved.{moved};
-ghost use Rattle.base_numbered_lists.specs.declared.renumbering.Renumbering.TheVariants.{Move};
 ghost use Rattle.bank_parts.specs.Valid.{IsValid};
-ghost use Rattle.bank_parts.specs.Renumbered.{samples_renumbered};
 ghost use Rattle.bank_changes.specs.Samples.{sample_moved};
-ghost use Rattle.bank_changes.specs.SampleMoves.{samples_moved, moved_names, names_along, list_moved, renumbered_along, AreMoves, IsOrder, RefersBelow};
+ghost use Rattle.bank_changes.specs.SampleMoves.{samples_moved, moved_names, names_along, list_moved, AreMoves, IsOrder};
 
+use crate::sample_numbers::{numbers_after, renumber_links, renumber_targets};
 use crate::samples::move_sample;
 use bank_linked_members::LinkedMembers;
 use bank_parts::{Parts, Sample, TryClone};
-use base_numbered_lists::{Renumber, Renumbering, move_within};
+use base_numbered_lists::move_within;
 use sf_base::{Name20, OutOfMemory};
 use std::alloc::Global;
 
@@ -27,7 +26,8 @@ const MANY_MOVES: usize = 32;
 /// Moves samples in order, and returns the name of each before its move; the others keep their order, and targets and
 /// links follow. A failed allocation changes nothing.
 ///
-/// If they are many, only indexes are moved, and then each sample is put where its index is.
+/// If they are many, only indexes are moved, and then each sample is put where its index is, and each target and link
+/// is renumbered once.
 pub fn move_samples(
     parts: &mut Parts<'_>,
     alloc: Global,
@@ -42,9 +42,11 @@ pub fn move_samples(
     if moves.len() < MANY_MOVES {
         return move_in_turn(parts, alloc, moves);
     }
-    let (names, samples) = arranged_samples(alloc, parts.samples.as_slice(), moves)?;
+    let numbers = numbers_after(alloc, parts.samples.len(), moves)?;
+    let (names, mut samples) = arranged_samples(alloc, parts.samples.as_slice(), moves)?;
+    renumber_links(&mut samples, &numbers);
     parts.samples = LinkedMembers::from_vec(samples);
-    renumber_along(parts, moves);
+    renumber_targets(&mut parts.instruments, &numbers);
     Ok(names)
 }
 
@@ -171,32 +173,4 @@ fn copies_in_order<'a>(
         copies.push(samples[*index as usize].try_clone(alloc)?)?;
     }
     Ok(copies)
-}
-
-// Renumbers targets and links for each move.
-fn renumber_along(parts: &mut Parts<'_>, moves: &[SampleMove])
-    requires few { length parts.old.samples ≤ 2 ^ 16 }
-    requires refers { RefersBelow (length parts.old.samples) parts.old }
-    requires within { AreMoves (length parts.old.samples) moves.now }
-    ensures { parts.new ≡ renumbered_along parts.old moves.now }
-{
-    for change in moves {
-        renumber_for(parts, *change);
-    }
-}
-
-// Renumbers targets and links for a move.
-fn renumber_for(parts: &mut Parts<'_>, change: SampleMove)
-    requires few { length parts.old.samples ≤ 2 ^ 16 }
-    requires refers { RefersBelow (length parts.old.samples) parts.old }
-    requires from { change.from < length parts.old.samples }
-    requires to { change.to < length parts.old.samples }
-    ensures { parts.new ≡ samples_renumbered (Move change.from change.to) parts.old }
-{
-    let by = Renumbering::Move {
-        from: change.from,
-        to: change.to,
-    };
-    parts.samples.renumber(by);
-    parts.instruments.renumber(by);
 }
