@@ -2,3 +2,4 @@ pub mod Lists
 pub mod Numbers
 mod Rotated
 pub mod Following
+pub mod Changing

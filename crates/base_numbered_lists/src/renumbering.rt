@@ -1,6 +1,7 @@
 //! The numbers of a list's members after an insertion, a removal or a move.
 ghost use Rattle.std.specs.Prelude.{◌≡◌, ◌<◌, ◌^◌, map, All};
 ghost use Rattle.base_numbered_lists.specs.Renumbered.{renumbered};
+ghost use Rattle.base_numbered_lists.specs.declared.renumbering.Renumbering.TheVariants as kinds;
 
 /// A change of a list that gives its members new numbers, counted from 0.
 #[derive(Debug, Clone, Copy, PartialEq, Eq)]
@@ -14,22 +15,41 @@ pub enum Renumbering {
     Move { from: u32, to: u32 },
 }
 
+// Above all numbers of 16 bits.
+const NO_NUMBER: u32 = u32::MAX;
+
 impl Renumbering {
     /// The new number of the member that had this one. It must fit into 16 bits.
     pub fn number_after(self, number: u16) -> u16
         requires { renumbered self number < 2 ^ 16 }
         ensures { result ≡ renumbered self number }
     {
-        let old = u32::from(number);
-        match self {
-            Renumbering::Insertion { at } if at <= old => number + 1,
-            Renumbering::Removal { at } if at < old => number - 1,
-            Renumbering::Move { from, to } if old == from => to as u16,
-            Renumbering::Move { from, to } if from < old && old <= to => number - 1,
-            Renumbering::Move { from, to } if to <= old && old < from => number + 1,
-            _ => number,
+        // In a loop over numbers, the compiler computes these once.
+        let (removed, inserted, moved) = match self {
+            Renumbering::Insertion { at } => (NO_NUMBER, at, at),
+            Renumbering::Removal { at } => (at, NO_NUMBER, at),
+            Renumbering::Move { from, to } => (from, to, to),
+        };
+        if removed == u32::from(number) {
+            return moved as u16;
         }
+        after_insertion(inserted, after_removal(removed, number))
     }
+}
+
+// Both add a test's result in place of a branch, which a list's numbers, in no order, would mispredict.
+
+fn after_insertion(at: u32, number: u16) -> u16
+    requires { renumbered (kinds.Insertion at) number < 2 ^ 16 }
+    ensures { result ≡ renumbered (kinds.Insertion at) number }
+{
+    number + u16::from(at <= u32::from(number))
+}
+
+fn after_removal(at: u32, number: u16) -> u16
+    ensures { result ≡ renumbered (kinds.Removal at) number }
+{
+    number - u16::from(at < u32::from(number))
 }
 
 /// A type with numbers of a list's members, which can be renumbered after a change of the list.
