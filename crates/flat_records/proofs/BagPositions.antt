@@ -1,10 +1,11 @@
 -- An index in a bag, and the records there.
 use Rattle.std.proofs.Common.{◌-◌, take, ◌≡◌, ℕ, ◌<◌, ◌≤◌, ◌+◌, ◌^◌, suc, List, [], ◌∷◌, ◌++◌, length, All}
-use Rattle.std.proofs.Common.{slice_get, subst, Option, Some, None, refl, sym, ◌∙◌, ap, drop, get_or, length-append}
+use Rattle.std.proofs.Common.{slice_get, subst, Some, refl, sym, ◌∙◌, ap, drop, get_or, length-append}
 use Rattle.std.proofs.Common.{arith}
 use Rattle.std.specs.Option.{IfSome, IsSomeAnd}
 use Rattle.std.proofs.lemmas.List.{get_or_default, take_at, drop_at}
 use Rattle.std.proofs.lemmas.List.Elements.{All-drop}
+use Rattle.base_numbered_lists.proofs.Changing.{found}
 use Rattle.base_numbered_lists.proofs.Lists.{slice_get-found}
 use Rattle.flat_records.specs.Runs.{starts}
 use Rattle.flat_records.specs.Bags.{Bag, past_bag, gens_in, mods_in, no_modulator, Tables}
@@ -18,10 +19,6 @@ pub record Spot (t : Tables) (bags : List Bag) (k : ℕ) (P : Bag → Type 0) : 
   pub there : slice_get bags k ≡ Some bag
   pub holds : P bag
   pub begin : Begin t bags k bag
-
-pub found : {X : Type 0} (P : X → Type 0) (o : Option X) → IsSomeAnd o P → (x : X) × (o ≡ Some x) × P x
-found P None h = absurd h
-found P (Some x) h = (x, refl, h)
 
 pub spot : {t : Tables} {bags : List Bag} → AreOf t bags → (k : ℕ) (P : Bag → Type 0)
     → IsSomeAnd (slice_get bags k) P → Spot t bags k P

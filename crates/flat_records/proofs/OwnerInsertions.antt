@@ -12,7 +12,7 @@ use Rattle.base_numbered_lists.proofs.Lists.{moved-found, remove-insert, slice_g
 use Rattle.base_numbered_lists.proofs.Lists.{changed-found, slice_set_same}
 use Rattle.flat_records.specs.Runs.{starts}
 use Rattle.flat_records.specs.Bags.{Bag}
-use Rattle.flat_records.proofs.BagPositions.{found}
+use Rattle.base_numbered_lists.proofs.Changing.{found}
 use Rattle.flat_records.proofs.Starts.{starts-put, starts-cut}
 use Rattle.flat_records.proofs.TableLaws.{among, removed}
 use Rattle.flat_records.specs.Owned.{Flat, past_owner, all_bags, flat_of, bag_at}

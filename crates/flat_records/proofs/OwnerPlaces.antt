@@ -11,7 +11,7 @@ use Rattle.base_numbered_lists.specs.Moved.{changed}
 use Rattle.base_numbered_lists.proofs.Lists.{changed-found, length-changed, slice_get-found, slice_get-within}
 use Rattle.flat_records.specs.Runs.{starts, changed_from}
 use Rattle.flat_records.specs.Bags.{Bag}
-use Rattle.flat_records.proofs.BagPositions.{found}
+use Rattle.base_numbered_lists.proofs.Changing.{found}
 use Rattle.flat_records.proofs.Starts.{end, drop-past, All-starts, All-starts_back}
 use Rattle.flat_records.specs.Owned.{Flat, past_owner, all_bags, bag_at, bag_changed}
 use Rattle.flat_records.proofs.Owners.{AreOf, Begin, begin, owners-end, bags_kept, bags_put, bags_cut}

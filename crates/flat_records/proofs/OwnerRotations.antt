@@ -9,7 +9,7 @@ use Rattle.base_numbered_lists.specs.Moved.{moved, changed}
 use Rattle.base_numbered_lists.proofs.Lists.{slice_get-found, moved-found, length-moved}
 use Rattle.flat_records.specs.Runs.{starts, exchanged, changed_exchanged, AreAdjacentRanges}
 use Rattle.flat_records.specs.Bags.{Bag}
-use Rattle.flat_records.proofs.BagPositions.{found}
+use Rattle.base_numbered_lists.proofs.Changing.{found}
 use Rattle.flat_records.proofs.Starts.{end, length-starts, starts-exchanged, All-begins, All-begins_back}
 use Rattle.flat_records.proofs.FourRuns.{four_runs}
 use Rattle.flat_records.proofs.Exchanges.{quarters, exchanged-parts}

@@ -1,95 +1,21 @@
--- Bags whose targets are renumbered: in one pass over all generators, or bag by bag.
-use Rattle.std.proofs.Common.{◌≡◌, ◌<◌, ◌≤◌, ◌==◌, ℕ, ◌+◌, ◌-◌, suc, zero, List, [], ◌∷◌, ◌++◌, length, map, take, drop}
-use Rattle.std.proofs.Common.{All, true, false, slice_get, set, append-nil, Option, Some, refl, sym, subst, ◌∙◌, ap}
-use Rattle.std.proofs.Common.{length-append, arith}
+-- Bags whose targets are renumbered, one after another.
+use Rattle.std.proofs.Common.{◌≡◌, ◌<◌, ◌≤◌, ◌==◌, ℕ, ◌+◌, ◌-◌, get_or, suc, zero, List, [], ◌∷◌, ◌++◌, length, map, take, drop}
+use Rattle.std.proofs.Common.{All, false, slice_get, set, Option, Some, refl, sym, subst, ◌∙◌, ap}
+use Rattle.std.proofs.Common.{arith}
 use Rattle.std.specs.List.{AllByRecursion}
 use Rattle.std.specs.Option.{IfSome, IsSomeAnd}
-use Rattle.std.proofs.lemmas.Bool.Decides.{nat_tests}
-use Rattle.std.proofs.lemmas.List.{length-map, map-append, take_at, drop_at, set_at, take_all, drop_all, nil_from_length}
-use Rattle.std.proofs.lemmas.List.Edits.{map_over_more}
-use Rattle.std.proofs.lemmas.List.Elements.{All-take, All-drop, All-same, All-get_or, recursion_from_All}
+use Rattle.std.proofs.lemmas.List.{take_at, drop_at, nil_from_length, get_or_default, get_or-append-add, get_or_append_left}
+use Rattle.std.proofs.lemmas.List.Elements.{All-tail, All-take, All-drop, All-same, All-get_or}
 use Rattle.std.proofs.lemmas.Option.{get_or_from_slice_get, slice_get_within}
 use Rattle.base_numbered_lists.specs.declared.renumbering.Renumbering.{Renumbering}
-use Rattle.base_numbered_lists.specs.Renumbered.{renumbered}
 use Rattle.base_numbered_lists.specs.Moved.{changed}
 use Rattle.base_numbered_lists.proofs.Lists.{changed-found, slice_get-found, slice_set_same}
-use Rattle.flat_records.specs.Runs.{starts}
-use Rattle.flat_records.specs.Bags.{Bag, past_bag, gens_in, mods_in, no_modulator, with_gens, Tables}
+use Rattle.flat_records.specs.Bags.{Bag, gens_in, with_gens, Tables, tables_of, bags_in, bags_of_records, AreRead}
+use Rattle.modulators.specs.declared.modulator.Modulator.{Modulator}
+use Rattle.flat_records.proofs.TableLaws.{AreOf, gen_set}
+use Rattle.flat_records.proofs.BagPositions.{Spot, spot, Part, inside, gens_part}
 use Rattle.flat_records.specs.Renumbered.{gen_renumbered, bag_renumbered, CanRenumber, IsOnlyLast, CanRenumberBag}
-use Rattle.flat_records.proofs.TableLaws.{AreOf}
-use Rattle.flat_records.proofs.BagPositions.{found}
-
--- ---- one pass
-
-module _ (op : ℕ) (by : Renumbering) where
-  starts_stay : (at : ℕ × ℕ) (bags : List Bag)
-      → starts past_bag at (map (bag_renumbered op by) bags) ≡ starts past_bag at bags
-  starts_stay at [] = refl
-  starts_stay at (b ∷ bs) =
-      let size = length-map b.gens (gen_renumbered op by) in
-      ap (λ n. at ∷ starts past_bag (at.0 + n, at.1 + length b.mods) (map (bag_renumbered op by) bs)) size
-      ∙ ap (λ ms. at ∷ ms) (starts_stay (past_bag at b) bs)
-
-  gens_follow : (bags : List Bag)
-      → gens_in (map (bag_renumbered op by) bags) ≡ map (gen_renumbered op by) (gens_in bags)
-  gens_follow [] = refl
-  gens_follow (b ∷ bs) =
-      ap (λ es. map (gen_renumbered op by) b.gens ++ es) (gens_follow bs)
-      ∙ sym (map-append (gen_renumbered op by) b.gens (gens_in bs))
-
-  mods_stay : (bags : List Bag) → mods_in (map (bag_renumbered op by) bags) ≡ mods_in bags
-  mods_stay [] = refl
-  mods_stay (b ∷ bs) = ap (λ ms. b.mods ++ ms) (mods_stay bs)
-
-  -- All generators except the terminal are renumbered.
-  pub before_last : (gens : List (ℕ × ℕ)) (bags : List Bag) → gens ≡ gens_in bags ++ (0, 0) ∷ []
-      → take (length gens - 1) gens ≡ gens_in bags
-  before_last gens bags e =
-      let n : length (gens_in bags) ≡ length gens - 1 =
-      omega (arith, ap (λ (es : List (ℕ × ℕ)). length es) e, length-append (gens_in bags) ((0, 0) ∷ [])) in
-      ap (λ es. take (length gens - 1) es) e ∙ take_at (gens_in bags) ((0, 0) ∷ []) (length gens - 1) n
-
-  last : (gens : List (ℕ × ℕ)) (bags : List Bag) → gens ≡ gens_in bags ++ (0, 0) ∷ []
-      → drop (length gens - 1) gens ≡ (0, 0) ∷ []
-  last gens bags e =
-      let n : length (gens_in bags) ≡ length gens - 1 =
-      omega (arith, ap (λ (es : List (ℕ × ℕ)). length es) e, length-append (gens_in bags) ((0, 0) ∷ [])) in
-      ap (λ es. drop (length gens - 1) es) e ∙ drop_at (gens_in bags) ((0, 0) ∷ []) (length gens - 1) n
-
-  pub renumbered_tables : {t : Tables} {bags : List Bag} → AreOf t bags → {new : List (ℕ × ℕ)}
-      → new ≡ map (gen_renumbered op by) (take (length t.gens - 1) t.gens) ++ drop (length t.gens - 1) t.gens
-      → AreOf (record { bags = t.bags; gens = new; mods = t.mods }) (map (bag_renumbered op by) bags)
-  renumbered_tables {t} {bags} a {new} n =
-      let own : t.gens ≡ gens_in bags ++ (0, 0) ∷ [] = ap (λ (t : Tables). t.gens) a.same in
-      let indexes : t.bags ≡ starts past_bag (0, 0) (map (bag_renumbered op by) bags) =
-      ap (λ (t : Tables). t.bags) a.same ∙ sym (starts_stay (0, 0) bags) in
-      let gens : new ≡ gens_in (map (bag_renumbered op by) bags) ++ (0, 0) ∷ [] =
-      n
-      ∙
-      ((λ i. map (gen_renumbered op by) (before_last t.gens bags own i) ++ last t.gens bags own i)
-      ∙ ap (λ es. es ++ (0, 0) ∷ []) (sym (gens_follow bags)))
-      in
-      let mods = ap (λ (t : Tables). t.mods) a.same ∙ ap (λ ms. ms ++ no_modulator ∷ []) (sym (mods_stay bags)) in
-      record { same = λ i. record { bags = indexes i; gens = gens i; mods = mods i } }
-
--- ---- one member after another
-
-module _ {X : Type 0} (f : X → X) where
-  next_same : (xs : List X) (k : ℕ) → slice_get (map f (take k xs) ++ drop k xs) k ≡ slice_get xs k
-  next_same [] zero = refl
-  next_same [] (suc k) = refl
-  next_same (x ∷ xs) zero = refl
-  next_same (x ∷ xs) (suc k) = next_same xs k
-
-  next_changed : (xs ys : List X) (k : ℕ) (x : X) → ys ≡ map f (take k xs) ++ drop k xs → slice_get xs k ≡ Some x
-      → changed ys k f ≡ map f (take (k + 1) xs) ++ drop (k + 1) xs
-  next_changed xs ys k x done e =
-      let there = ap (λ zs. slice_get zs k) done ∙ (next_same xs k ∙ e) in
-      changed-found ys k f x there
-      ∙ map_over_more f xs ys k x (slice_get_within xs k x e) done (sym (get_or_from_slice_get ys k x x there))
-
-  pub all_done : (xs : List X) (k : ℕ) → length xs ≤ k → map f (take k xs) ++ drop k xs ≡ map f xs
-  all_done xs k h = rw (take_all k xs h, drop_all k xs h) (append-nil (map f xs))
+use Rattle.base_numbered_lists.proofs.Changing.{next_same}
 
 -- ---- one bag
 
@@ -127,89 +53,123 @@ module _ (op : ℕ) (by : Renumbering) where
       subst (λ (o : Option Bag). IsSomeAnd o Can) (sym there)
       (record { numbers = numbers_can xs k b can e; last = last_can xs k b last e })
 
-  pub next_done : (xs ys : List Bag) (k : ℕ) → ys ≡ map (bag_renumbered op by) (take k xs) ++ drop k xs
-      → k < length xs
-      → changed ys k (bag_renumbered op by) ≡ map (bag_renumbered op by) (take (k + 1) xs) ++ drop (k + 1) xs
-  next_done xs ys k done h =
-      let (b, e) = slice_get-found xs k h in next_changed (bag_renumbered op by) xs ys k b done e
-
-  -- ---- its last generator
-
-  differs : (n : ℕ) → (n ≡ op → ⊥) → (n == op) ≡ false
-  differs n h = grind (arith, nat_tests, h)
-
-  same_op : (op == op) ≡ true
-  same_op = grind (arith, nat_tests)
-
-  pub other_stays : (e : ℕ × ℕ) → (e.0 == op) ≡ false → gen_renumbered op by e ≡ e
-  other_stays e h = rw h refl
-
   pub others_stay : (es : List (ℕ × ℕ)) → AllByRecursion (λ e. (e.0 == op) ≡ false) es
       → map (gen_renumbered op by) es ≡ es
   others_stay [] h = refl
-  others_stay (e ∷ es) h = λ i. other_stays e h.0 i ∷ others_stay es h.1 i
+  others_stay (e ∷ es) h =
+      let same : gen_renumbered op by e ≡ e = rw h.0 refl in λ i. same i ∷ others_stay es h.1 i
 
-  last_alone : (others : List (ℕ × ℕ)) (e : ℕ × ℕ) → All (λ e. (e.0 == op) ≡ false) others
-      → map (gen_renumbered op by) (others ++ e ∷ []) ≡ others ++ gen_renumbered op by e ∷ []
-  last_alone others e h =
-      map-append (gen_renumbered op by) others (e ∷ [])
-      ∙ ap (λ es. es ++ gen_renumbered op by e ∷ [])
-      (others_stay others (recursion_from_All (λ e. (e.0 == op) ≡ false) others h))
+  -- The last one renumbered, and no other.
+  last_alone : (es : List (ℕ × ℕ)) (n : ℕ) (d : ℕ × ℕ) → length es ≡ suc n → All (λ e. (e.0 == op) ≡ false) (take n es)
+      → set es n (gen_renumbered op by (get_or es n d)) ≡ map (gen_renumbered op by) es
+  last_alone [] n d size others = absurd (omega arith)
+  last_alone (e ∷ []) zero d size others = refl
+  last_alone (e ∷ []) (suc n) d size others = absurd (omega arith)
+  last_alone (e ∷ (f ∷ es)) zero d size others = absurd (omega arith)
+  last_alone (e ∷ (f ∷ es)) (suc n) d size others =
+      let first : gen_renumbered op by e ≡ e = rw (others zero (0, 0) (omega arith)) refl in
+      let rest =
+      last_alone (f ∷ es) n d (omega arith) (All-tail (λ e. (e.0 == op) ≡ false) e (take n (f ∷ es)) others) in
+      λ i. sym first i ∷ rest i
 
-  last_follows : (others : List (ℕ × ℕ)) (e : ℕ × ℕ) → All (λ e. (e.0 == op) ≡ false) others → e.0 ≡ op → (new : ℕ)
-      → new ≡ renumbered by e.1
-      → set (others ++ e ∷ []) (length others) (op, new) ≡ map (gen_renumbered op by) (others ++ e ∷ [])
-  last_follows others e h same new value =
-      let follows : gen_renumbered op by e ≡ (op, new) = rw (same, same_op, value) refl in
-      set_at others e [] (op, new) (length others) refl
-      ∙ sym (last_alone others e h ∙ ap (λ x. others ++ x ∷ []) follows)
+  -- ---- bag k among the records
 
-  -- ---- bag k, whose generators these are
+  module _ (t : Tables) (are : AreRead t) (k : ℕ) (there : IsSomeAnd (slice_get (bags_in t) k) Can) where
+    of_bags : AreOf t (bags_in t)
+    of_bags = record { same = are }
 
-  module _ (bags : List Bag) (k : ℕ) (there : IsSomeAnd (slice_get bags k) Can) (gens : List (ℕ × ℕ))
-      (own : IfSome (slice_get bags k) (λ (b : Bag). gens ≡ b.gens)) where
-    stays : map (gen_renumbered op by) gens ≡ gens → bags ≡ changed bags k (bag_renumbered op by)
-    stays same =
-        let (b, at, can) = found Can (slice_get bags k) there in
-        let own_gens : gens ≡ b.gens = subst (λ (o : Option Bag). IfSome o (λ (b : Bag). gens ≡ b.gens)) at own in
-        let kept : bag_renumbered op by b ≡ b =
-        ap (λ es. with_gens es b) ((λ i. map (gen_renumbered op by) (sym own_gens i)) ∙ (same ∙ own_gens)) in
-        sym
-        (changed-found bags k (bag_renumbered op by) b at ∙ (ap (λ c. set bags k c) kept ∙ slice_set_same bags k b at))
+    bag : Spot t (bags_in t) k Can
+    bag = spot of_bags k Can there
 
-    -- The generators before the last one.
-    others_differ : (others : List (ℕ × ℕ)) (e : ℕ × ℕ) → gens ≡ others ++ e ∷ []
-        → All (λ e. (e.0 == op) ≡ false) others
-    others_differ others e whole =
-        let (b, at, can) = found Can (slice_get bags k) there in
-        let own_gens : gens ≡ b.gens = subst (λ (o : Option Bag). IfSome o (λ (b : Bag). gens ≡ b.gens)) at own in
-        let whole : b.gens ≡ others ++ e ∷ [] = sym own_gens ∙ whole in
-        let n : length others ≡ length b.gens - 1 =
-        omega (arith, ap (λ (es : List (ℕ × ℕ)). length es) whole, length-append others (e ∷ [])) in
-        All-same (λ e. (e.0 == op) ≡ false) others (take (length b.gens - 1) b.gens)
-        (sym (ap (take (length b.gens - 1)) whole ∙ take_at others (e ∷ []) (length b.gens - 1) n)) can.last
+    abbrev start : ℕ
+    start = (get_or t.bags k (0, 0)).0
 
-    pub none_stays : length gens ≡ 0 → bags ≡ changed bags k (bag_renumbered op by)
-    none_stays size =
-        stays (subst (λ es. map (gen_renumbered op by) es ≡ es) (sym (nil_from_length gens size)) refl)
+    abbrev end : ℕ
+    end = (get_or t.bags (k + 1) (0, 0)).0
 
-    pub last_stays : (others : List (ℕ × ℕ)) (e : ℕ × ℕ) → gens ≡ others ++ e ∷ [] → (e.0 ≡ op → ⊥)
-        → bags ≡ changed bags k (bag_renumbered op by)
-    last_stays others e whole other =
-        stays
-        (subst (λ es. map (gen_renumbered op by) es ≡ es) (sym whole)
-        (last_alone others e (others_differ others e whole)
-        ∙ ap (λ x. others ++ x ∷ []) (other_stays e (differs e.0 other))))
+    pub index_there : k + 1 < length t.bags
+    index_there = bag.begin.more
 
-    pub target_set : (others : List (ℕ × ℕ)) (e : ℕ × ℕ) → gens ≡ others ++ e ∷ [] → e.0 ≡ op → (new : ℕ)
-        → new ≡ renumbered by e.1
-        → changed bags k (λ (b : Bag). with_gens (set b.gens (length others) (op, new)) b)
-        ≡ changed bags k (bag_renumbered op by)
-    target_set others e whole same new value =
-        let (b, at, can) = found Can (slice_get bags k) there in
-        let own_gens : gens ≡ b.gens = subst (λ (o : Option Bag). IfSome o (λ (b : Bag). gens ≡ b.gens)) at own in
-        let follows : set b.gens (length others) (op, new) ≡ map (gen_renumbered op by) b.gens =
-        subst (λ es. set es (length others) (op, new) ≡ map (gen_renumbered op by) es) (sym whole ∙ own_gens)
-        (last_follows others e (others_differ others e whole) same new value) in
-        changed-found bags k (λ (b : Bag). with_gens (set b.gens (length others) (op, new)) b) b at
-        ∙ (ap (λ es. set bags k (with_gens es b)) follows ∙ sym (changed-found bags k (bag_renumbered op by) b at))
+    ends : end ≡ start + length bag.bag.gens
+    ends = ap (λ (m : ℕ × ℕ). m.0) bag.begin.next
+
+    own : get_or t.bags k (0, 0) ≡ get_or t.bags k (get_or t.bags k (0, 0))
+    own =
+        let more = index_there in
+        sym (get_or_default t.bags k (get_or t.bags k (0, 0)) (0, 0) (omega arith))
+
+    gens : Part t.gens bag.bag.gens start
+    gens = gens_part bag {at = get_or t.bags k (0, 0)} own
+
+    pub last_there : start < end → end - 1 < length t.gens
+    last_there some = let e = ends in let within = inside gens in omega (arith, e, within)
+
+    last_read : start < end → get_or t.gens (end - 1) (0, 0) ≡ get_or bag.bag.gens (length bag.bag.gens - 1) (0, 0)
+    last_read some =
+        let e = ends in
+        let place : end - 1 ≡ start + (length bag.bag.gens - 1) = omega arith in
+        ap (λ i. get_or t.gens i (0, 0)) place
+        ∙ (ap (λ es. get_or es (start + (length bag.bag.gens - 1)) (0, 0)) gens.whole
+        ∙ (ap (λ n. get_or (gens.front ++ (bag.bag.gens ++ gens.back)) (n + (length bag.bag.gens - 1)) (0, 0)) gens.before
+        ∙ (get_or-append-add gens.front (bag.bag.gens ++ gens.back) (length bag.bag.gens - 1) (0, 0)
+        ∙ get_or_append_left bag.bag.gens gens.back (0, 0) (length bag.bag.gens - 1) (omega arith))))
+
+    pub last_can_be : start < end → CanRenumber op by (get_or t.gens (end - 1) (0, 0))
+    last_can_be some =
+        let e = ends in
+        subst (CanRenumber op by) (sym (last_read some))
+        (bag.holds.numbers (length bag.bag.gens - 1) (0, 0) (omega arith))
+
+    pub last_renumbered : start < end → (g : ℕ × ℕ) → g ≡ gen_renumbered op by (get_or t.gens (end - 1) (0, 0))
+        → (let new : Tables = record t { gens = set t.gens (end - 1) g } in new)
+        ≡ tables_of (changed (bags_in t) k (bag_renumbered op by))
+    last_renumbered some g value =
+        let e = ends in
+        let b = bag.bag in
+        let more : 0 < length b.gens = omega arith in
+        let place : start + (length b.gens - 1) ≡ end - 1 = omega arith in
+        let value : g ≡ gen_renumbered op by (get_or b.gens (length b.gens - 1) (0, 0)) =
+        value ∙ ap (gen_renumbered op by) (last_read some) in
+        let all : set b.gens (length b.gens - 1) g ≡ map (gen_renumbered op by) b.gens =
+        ap (set b.gens (length b.gens - 1)) value ∙ last_alone b.gens (length b.gens - 1) (0, 0) (omega arith) bag.holds.last in
+        let kept = (gen_set bag.begin {at = get_or t.bags k (0, 0)} refl (length b.gens - 1) g (omega arith)).same in
+        ap (λ i. (let new : Tables = record t { gens = set t.gens i g } in new)) (sym place)
+        ∙ (kept
+        ∙ ap tables_of
+        (changed-found (bags_in t) k (λ (b : Bag). with_gens (set b.gens (length bag.bag.gens - 1) g) b) b bag.there
+        ∙ (ap (λ es. set (bags_in t) k (with_gens es b)) all
+        ∙ sym (changed-found (bags_in t) k (bag_renumbered op by) b bag.there))))
+
+    pub none_renumbered : end ≤ start → t ≡ tables_of (changed (bags_in t) k (bag_renumbered op by))
+    none_renumbered none =
+        let e = ends in
+        let b = bag.bag in
+        let size : length b.gens ≡ 0 = omega arith in
+        let kept : b ≡ bag_renumbered op by b =
+        ap (λ es. with_gens es b)
+        (subst (λ es. es ≡ map (gen_renumbered op by) es) (sym (nil_from_length b.gens size)) refl) in
+        are
+        ∙ ap tables_of
+        (sym
+        (changed-found (bags_in t) k (bag_renumbered op by) b bag.there
+        ∙ (ap (λ c. set (bags_in t) k c) (sym kept) ∙ slice_set_same (bags_in t) k b bag.there)))
+
+  -- ---- all bags, whose generators are written back
+
+  pub records_renumbered : {t : Tables} {bags gens : List (ℕ × ℕ)} {mods : List Modulator} {new : List (ℕ × ℕ)} {n : ℕ}
+      → bags ≡ t.bags → gens ≡ t.gens → mods ≡ t.mods → n ≡ length t.gens → length new ≡ length gens
+      → (let r : Tables = record { bags = bags; gens = new; mods = mods } in r)
+      ≡ tables_of (map (bag_renumbered op by) (bags_of_records bags gens mods))
+      → {own : List Bag} → bags_in t ≡ own
+      → AreOf (record { bags = t.bags; gens = take n (new ++ drop (length new) t.gens); mods = t.mods })
+      (map (bag_renumbered op by) own)
+  records_renumbered {t} {bags} {gens} {mods} {new} {n} bags_same gens_same mods_same size kept e {own} seen =
+      let long : length new ≡ n = kept ∙ (ap length gens_same ∙ sym size) in
+      let written : take n (new ++ drop (length new) t.gens) ≡ new = take_at new (drop (length new) t.gens) n long in
+      record {
+        same =
+            (λ i. record { bags = sym bags_same i; gens = written i; mods = sym mods_same i })
+            ∙ (e
+            ∙ ap (λ bs. tables_of (map (bag_renumbered op by) bs))
+            ((λ i. bags_of_records (bags_same i) (gens_same i) (mods_same i)) ∙ seen));
+      }

@@ -1,15 +1,19 @@
-use Rattle.flat_records.proofs.TableLaws.{bags_read, are_read, held}
-use Rattle.flat_records.proofs.RenumberLaws.{renumbered_tables}
+use Rattle.std.proofs.Common.{ap}
+use Rattle.flat_records.specs.Stored.{Stored}
+use Rattle.flat_records.proofs.TableLaws.{are_read, bags_read}
+use Rattle.flat_records.proofs.RenumberLaws.{records_renumbered}
 use Rattle.flat_records.proofs.bags.Bags.renumber.Goals as goal
 
 pub invariant_of-self : goal.invariant_of-self
 invariant_of-self c =
     are_read
-    (renumbered_tables c.args.operator c.args.by (held c.self.invariant c.self.view_is)
-    c.renumber_before_last.ensures.list)
+    (records_renumbered c.args.operator c.args.by c.deref.ensures.value c.as_mut_slice.ensures.value
+    c.as_slice-mods.ensures.value c.self.inside.gens.ok.0 c.renumber_last_of_each.auto.gens
+    c.renumber_last_of_each.ensures (ap (λ (s : Stored). s.bags) c.self.view_is))
 
-pub returns-then-len-clause-bags : goal.returns-then-len-clause-bags
-returns-then-len-clause-bags c =
+pub returns-clause-bags : goal.returns-clause-bags
+returns-clause-bags c =
     bags_read
-    (renumbered_tables c.args.operator c.args.by (held c.self.invariant c.self.view_is)
-    c.renumber_before_last.ensures.list)
+    (records_renumbered c.args.operator c.args.by c.deref.ensures.value c.as_mut_slice.ensures.value
+    c.as_slice-mods.ensures.value c.self.inside.gens.ok.0 c.renumber_last_of_each.auto.gens
+    c.renumber_last_of_each.ensures (ap (λ (s : Stored). s.bags) c.self.view_is))
