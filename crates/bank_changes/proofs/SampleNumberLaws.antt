@@ -13,6 +13,7 @@ use Rattle.base_numbered_lists.specs.declared.renumbering.Renumbering.{Renumberi
 use Rattle.base_numbered_lists.specs.declared.renumbering.Renumbering.TheVariants.{Move}
 use Rattle.base_numbered_lists.specs.Renumbered.{renumbered}
 use Rattle.base_numbered_lists.specs.Moved.{moved, changed}
+use Rattle.base_numbered_lists.proofs.Changing.{all_done, next_changed, next_same, same_length}
 use Rattle.base_numbered_lists.proofs.Following.{move_followed}
 use Rattle.base_numbered_lists.proofs.Lists.{changed-found, length-moved, slice_get-changed, slice_get-found, slice_set_same}
 use Rattle.base_numbered_lists.proofs.Numbers.{move_below, move_returned}
@@ -31,7 +32,8 @@ use Rattle.bank_parts.specs.Valid.{IsValid, IsInstrument, IsSample, IsZone}
 use Rattle.bank_parts.proofs.RoomLaws.{set-twice}
 use Rattle.bank_changes.specs.declared.sample_moves.SampleMove.{SampleMove}
 use Rattle.bank_changes.specs.SampleMoves.{IsMove, AreMoves, list_moved, samples_moved}
-use Rattle.bank_changes.specs.SampleNumbers.{AreNumbers, number_along, number_in, kind_with, sample_with, zone_with, owner_with}
+use Rattle.bank_changes.specs.SampleNumbers.{AreNumbers, number_along, number_in}
+use Rattle.bank_parts.specs.Renumbered.{kind_with, sample_with, zone_with, owner_with}
 use Rattle.bank_changes.specs.SampleNumbers.{LinksBelow, TargetsBelow}
 use Rattle.bank_changes.proofs.Everywhere.{all_weaker}
 use Rattle.bank_changes.proofs.SampleMoveLaws.{all_list_moved, renumbered_along, arranged_moved}
@@ -85,42 +87,7 @@ next_numbers n ms i d numbers lt moves t =
     subst (λ rest. AreNumbers n rest (moved numbers m.to m.from)) (sym cons)
     (numbers_more n (drop (i + 1) ms) m numbers is t)
 
--- ---- one member after another
-
-module _ {X : Type 0} (f : X → X) where
-  pub next_same : (xs : List X) (k : ℕ) → slice_get (map f (take k xs) ++ drop k xs) k ≡ slice_get xs k
-  next_same [] zero = refl
-  next_same [] (suc k) = refl
-  next_same (x ∷ xs) zero = refl
-  next_same (x ∷ xs) (suc k) = next_same xs k
-
-  pub next_changed : (xs : List X) (k : ℕ) (x : X) → slice_get xs k ≡ Some x
-      → changed (map f (take k xs) ++ drop k xs) k f ≡ map f (take (k + 1) xs) ++ drop (k + 1) xs
-  next_changed xs k x e =
-      let ys = map f (take k xs) ++ drop k xs in
-      let there = next_same xs k ∙ e in
-      changed-found ys k f x there
-      ∙ map_over_more f xs ys k x (slice_get_within xs k x e) refl (sym (get_or_from_slice_get ys k x x there))
-
-  pub next_done : (xs ys : List X) (k : ℕ) → ys ≡ map f (take k xs) ++ drop k xs → k < length xs
-      → changed ys k f ≡ map f (take (k + 1) xs) ++ drop (k + 1) xs
-  next_done xs ys k done h =
-      let (x, e) = slice_get-found xs k h in ap (λ zs. changed zs k f) done ∙ next_changed xs k x e
-
-  pub all_changed : (xs : List X) (k : ℕ) → length xs ≤ k → map f (take k xs) ++ drop k xs ≡ map f xs
-  all_changed xs k h = rw (take_all k xs h, drop_all k xs h) (append-nil (map f xs))
-
-  same_length : (xs : List X) (k : ℕ) → length (map f (take k xs) ++ drop k xs) ≡ length xs
-  same_length [] zero = refl
-  same_length [] (suc k) = refl
-  same_length (x ∷ xs) zero = refl
-  same_length (x ∷ xs) (suc k) = ap suc (same_length xs k)
-
 -- ---- the zones of an owner
-
-pub found : {X : Type 0} (P : X → Type 0) (o : Option X) → IsSomeAnd o P → (x : X) × (o ≡ Some x) × P x
-found P None h = absurd h
-found P (Some x) h = (x, refl, h)
 
 pub counted : {H : Type 0} (owners : List (ZoneOwner H)) (i n : ℕ) (x : ZoneOwner H) → slice_get owners i ≡ Some x
     → zone_count_at owners i ≡ Some n → n ≡ length x.zones
@@ -187,7 +154,7 @@ module _ {H : Type 0} (f : ℕ → ℕ) (owners : List (ZoneOwner H)) (i : ℕ) 
         → zones_changed owners i (so_far k) ≡ changed owners i (owner_with f)
     zones_done k h =
         changed-found owners i (λ (y : ZoneOwner H). with (so_far k y.zones) y) x at
-        ∙ (ap (λ zones. set owners i (with zones x)) (all_changed (zone_with f) x.zones k h)
+        ∙ (ap (λ zones. set owners i (with zones x)) (all_done (zone_with f) x.zones k h)
         ∙ sym (changed-found owners i (owner_with f) x at))
 
 -- ---- one renumbering for all moves

@@ -24,23 +24,6 @@ pub record AreNumbers (n : ℕ) (ms : List SampleMove) (numbers : List ℕ) : Ty
 abbrev pub number_in : List ℕ → ℕ → ℕ
 number_in numbers number = slice_index_or numbers number 0
 
--- ---- each number replaced by f of it
-
-abbrev pub kind_with : (ℕ → ℕ) → Kind → Kind
-kind_with f Mono = Mono
-kind_with f (Right link) = Right (f link)
-kind_with f (Left link) = Left (f link)
-kind_with f (Linked link) = Linked (f link)
-
-abbrev pub sample_with : (ℕ → ℕ) → Sample → Sample
-sample_with f s = record s { kind = kind_with f s.kind }
-
-abbrev pub zone_with : (ℕ → ℕ) → Zone → Zone
-zone_with f z = record z { target = f z.target }
-
-abbrev pub owner_with : {H : Type 0} → (ℕ → ℕ) → ZoneOwner H → ZoneOwner H
-owner_with f x = record x { zones = map (zone_with f) x.zones }
-
 -- ---- numbers below n
 
 abbrev pub LinksBelow : ℕ → Sample → Type 0

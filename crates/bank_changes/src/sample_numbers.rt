@@ -4,15 +4,14 @@ ghost use Rattle.std.specs.List.{range_with_len};
 ghost use Rattle.std.specs.Option.{IsSomeAnd};
 ghost use Rattle.base_numbered_lists.specs.Moved.{moved, changed};
 ghost use Rattle.bank_parts.specs.declared.owners.ZonePlace.TheVariants as place;
-ghost use Rattle.bank_parts.specs.declared.parts.ZoneOwner.{ZoneOwner};
-ghost use Rattle.bank_parts.specs.Links.{IfLinked};
 ghost use Rattle.bank_parts.specs.Owners.{HasPlace, target_at};
+ghost use Rattle.bank_parts.specs.Renumbered.{sample_with, zone_with, owner_with};
 ghost use Rattle.bank_parts.specs.Settings.{zones_changed};
 ghost use Rattle.bank_changes.specs.SampleMoves.{AreMoves};
-ghost use Rattle.bank_changes.specs.SampleNumbers.{AreNumbers, number_in, kind_with, sample_with, zone_with, owner_with, LinksBelow, TargetsBelow};
+ghost use Rattle.bank_changes.specs.SampleNumbers.{AreNumbers, number_in, LinksBelow, TargetsBelow};
 
 use crate::sample_moves::SampleMove;
-use bank_parts::{Kind, OwnerHead, Owners, Sample};
+use bank_parts::{OwnerHead, Owners, Sample};
 use base_numbered_lists::move_within;
 use sf_base::OutOfMemory;
 use std::alloc::Global;
@@ -43,8 +42,8 @@ fn first_numbers(alloc: Global, count: usize) -> Result<Vec<u16>, OutOfMemory>
     Ok(numbers)
 }
 
-// Makes a table without moves one of these moves. A table of moves is that of all but the first one, moved back by the
-// first one: so it begins with the last move.
+// Makes a table without moves one of these moves. The table of all moves is that of the later ones, with the first move
+// made backwards: so it begins with the last move.
 fn move_numbers(numbers: &mut [u16], moves: &[SampleMove])
     requires numbers { numbers.old ≡ range_with_len 0 (length numbers.old) }
     requires within { AreMoves (length numbers.old) moves.now }
@@ -85,12 +84,9 @@ fn renumber_link(sample: &mut Sample<'_>, numbers: &[u16])
     requires { LinksBelow (length numbers.now) sample.old }
     ensures { sample.new ≡ sample_with (number_in numbers.now) sample.old }
 {
-    sample.kind = match sample.kind {
-        Kind::Mono => Kind::Mono,
-        Kind::Right(link) => Kind::Right(numbers[link as usize]),
-        Kind::Left(link) => Kind::Left(numbers[link as usize]),
-        Kind::Linked(link) => Kind::Linked(numbers[link as usize]),
-    };
+    if let Some(link) = sample.kind.link() {
+        sample.kind = sample.kind.with_link(numbers[link as usize]);
+    }
 }
 
 /// Renumbers the targets of all zones.

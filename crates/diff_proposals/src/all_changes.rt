@@ -4,7 +4,7 @@ use crate::list_plan::{ListPlan, plan_list};
 use crate::owner_pairs::{owner_matching, uses_of};
 use crate::owner_steps::{OwnerChanges, OwnerPair, grow_groups, pairs_of_owners, shrink_groups};
 use crate::sample_pairs::{sample_matching, sample_views};
-use crate::sample_steps::{link_of, sample_groups};
+use crate::sample_steps::sample_groups;
 use crate::texts::text_steps;
 use crate::views::{OwnerView, Target, ZoneView, renumber_targets, set_uses, views_of};
 use bank_core::{Bank, Head, Owners, Sample};
@@ -241,7 +241,7 @@ fn mark_targets_of_rest(
 // Marks the samples to which others link.
 fn mark_links(marks: &mut [bool], samples: &[Sample<'_>]) {
     for (number, sample) in samples.iter().enumerate() {
-        if let Some(link) = link_of(sample.kind)
+        if let Some(link) = sample.kind.link()
             && usize::from(link) != number
         {
             mark(marks, link.into());

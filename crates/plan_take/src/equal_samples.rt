@@ -2,7 +2,7 @@
 use crate::existing_samples::{alike_samples, form_of};
 use crate::member_index::MemberIndex;
 use crate::names::Names;
-use crate::numbers::{link_of, number_of, renumbered_kind, set_number};
+use crate::numbers::{number_of, renumbered_kind, set_number};
 use bank_core::{Kind, Sample};
 use diff_orders::{EMPTY_KEY, with_number};
 use sf_base::OutOfMemory;
@@ -61,7 +61,7 @@ fn first_alike(alloc: Global, samples: &[Sample<'_>]) -> Result<Vec<Option<u16>>
 fn key_of(form: &SampleForm) -> u64 {
     let key = with_number(EMPTY_KEY, form.alike.unwrap_or(0).into());
     let key = with_number(key, form_of(form.kind));
-    with_number(key, link_of(form.kind).unwrap_or(0).into())
+    with_number(key, form.kind.link().unwrap_or(0).into())
 }
 
 // For each sample the number of the first one with its form.

@@ -1,7 +1,7 @@
 //! Samples of a bank that are equal to samples of the other bank. They are found by hash keys, and compared.
 use crate::member_index::MemberIndex;
 use crate::names::Names;
-use crate::numbers::{link_of, number_of, renumbered_kind};
+use crate::numbers::{number_of, renumbered_kind};
 use crate::sample_matches::is_match;
 use bank_core::{Kind, Sample};
 use diff_orders::{EMPTY_KEY, with_number};
@@ -66,7 +66,7 @@ fn alike_sample(
 
 // The kind, or mono if the linked sample isn't needed.
 fn kept_kind(kind: Kind, needed: &[bool]) -> Kind {
-    match link_of(kind) {
+    match kind.link() {
         Some(link) if needed.get(usize::from(link)) == Some(&true) => kind,
         _ => Kind::Mono,
     }

@@ -30,25 +30,8 @@ pub(crate) fn renumbered_target(numbers: &[Option<u16>], target: u16) -> u16 {
 
 /// A kind with its link renumbered: mono if the linked sample has no number.
 pub(crate) fn renumbered_kind(numbers: &[Option<u16>], kind: Kind) -> Kind {
-    match link_of(kind).and_then(|link| number_of(numbers, link.into())) {
-        Some(link) => with_link(kind, link),
+    match kind.link().and_then(|link| number_of(numbers, link.into())) {
+        Some(link) => kind.with_link(link),
         None => Kind::Mono,
-    }
-}
-
-/// The number of the linked sample.
-pub(crate) fn link_of(kind: Kind) -> Option<u16> {
-    match kind {
-        Kind::Mono => None,
-        Kind::Right(link) | Kind::Left(link) | Kind::Linked(link) => Some(link),
-    }
-}
-
-fn with_link(kind: Kind, link: u16) -> Kind {
-    match kind {
-        Kind::Mono => Kind::Mono,
-        Kind::Right(_) => Kind::Right(link),
-        Kind::Left(_) => Kind::Left(link),
-        Kind::Linked(_) => Kind::Linked(link),
     }
 }

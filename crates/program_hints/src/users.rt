@@ -5,7 +5,6 @@ use crate::remarks::Remarks;
 use crate::source_line::put_printable;
 use bank_changes::Owner;
 use bank_core::Bank;
-use bank_parts::Kind;
 use edit_forms::{InstrumentStep, SampleStep, Step};
 use sf_base::Name20;
 
@@ -118,18 +117,15 @@ fn put_member(level: &[u8], number: u32, name: Option<Name20>, remarks: &mut Rem
 // Says which other sample links to this one.
 fn remark_on_link(bank: &Bank<'_>, sample: u32, remarks: &mut Remarks) {
     for (index, other) in bank.samples().iter().enumerate() {
-        if index != sample as usize && link_of(other.kind) == Some(sample) {
+        let links = other
+            .kind
+            .link()
+            .is_some_and(|link| u32::from(link) == sample);
+        if index != sample as usize && links {
             remarks.put(b"  Linked to by ");
             put_member(b"sample ", numbered(index), Some(other.name), remarks);
             remarks.put(b": first write set-kind N mono, with its number as N.\n");
             return;
         }
-    }
-}
-
-fn link_of(kind: Kind) -> Option<u32> {
-    match kind {
-        Kind::Mono => None,
-        Kind::Right(link) | Kind::Left(link) | Kind::Linked(link) => Some(u32::from(link)),
     }
 }

@@ -12,7 +12,7 @@ use Rattle.show_findings.specs.declared.finding.Finding.TheVariants.{OneSidedLin
 use Rattle.show_findings.specs.declared.samples.SampleCheck.{SampleCheck}
 use Rattle.show_findings.specs.declared.samples.SampleCheck.TheVariants as check
 use Rattle.show_findings.specs.Numbers.{numbers}
-use Rattle.show_findings.specs.Uses.{link_of}
+use Rattle.bank_parts.specs.Links.{link_of}
 use Rattle.show_findings.specs.Clicks.{clicking_loop}
 use Rattle.show_findings.specs.Points.{clipped_sample, silent_sample, offset_sample}
 

@@ -2,10 +2,9 @@
 use Rattle.std.specs.Prelude.{ℕ, Bool, cond, ◌==◌, ◌||◌, List, length, Option, Some, None, slice_get}
 use Rattle.std.specs.List.{flat_map, filter_map, list_any}
 use Rattle.std.specs.Option.{option_and_then}
-use Rattle.bank_parts.specs.declared.parts.Kind.{Kind}
-use Rattle.bank_parts.specs.declared.parts.Kind.TheVariants.{Mono, Right, Left, Linked}
 use Rattle.bank_parts.specs.declared.parts.Sample.{Sample}
 use Rattle.bank_parts.specs.declared.parts.Parts.{Parts}
+use Rattle.bank_parts.specs.Links.{link_of}
 use Rattle.bank_changes.specs.declared.members.Owner.{Owner}
 use Rattle.bank_changes.specs.Members.{target_of}
 use Rattle.show_zone_map.specs.Rectangles.{zone_numbers}
@@ -16,12 +15,6 @@ use Rattle.show_findings.specs.Numbers.{numbers, preset_owners, instrument_owner
 -- the targets of all zones of these owners
 abbrev pub targets_of : Parts → List Owner → List ℕ
 targets_of b os = flat_map (λ (o : Owner). filter_map (target_of b o) (zone_numbers b o)) os
-
-abbrev pub link_of : Kind → Option ℕ
-link_of Mono = None
-link_of (Right link) = Some link
-link_of (Left link) = Some link
-link_of (Linked link) = Some link
 
 -- the sample that sample n links to, unless it is itself
 abbrev pub other_link : Parts → ℕ → Option ℕ

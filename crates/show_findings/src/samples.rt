@@ -4,7 +4,7 @@ ghost use Rattle.std.specs.List.{flat_map};
 ghost use Rattle.std.specs.Option.{option_and_then};
 ghost use Rattle.bank_parts.specs.declared.parts.Sample.{Sample};
 ghost use Rattle.show_findings.specs.declared.finding.Finding.TheVariants.{ClippedSample};
-ghost use Rattle.show_findings.specs.Uses.{link_of};
+ghost use Rattle.bank_parts.specs.Links.{link_of};
 ghost use Rattle.show_findings.specs.Samples.{in_samples, side_link, links_to, one_sided_link, short_loop, unusual_rate, sample_finding};
 ghost use Rattle.show_findings.specs.Points.{silent_sample};
 ghost use Rattle.show_findings.specs.Scans.{facts_of, facts_of_samples, offset_in, IsNear};
@@ -14,7 +14,6 @@ use crate::clicks::clicking_loop;
 use crate::finding::Finding;
 use crate::gathering::{count_in, push_option};
 use crate::points::{PointFacts, is_silent};
-use crate::uses::link_of;
 use bank_core::{Bank, Kind, List, Sample};
 use sf_base::OutOfMemory;
 
@@ -174,7 +173,7 @@ fn links_to(bank: &Bank<'_>, sample: u32, other: u32) -> bool
 fn any_link(bank: &Bank<'_>, sample: u32) -> Option<u16>
     ensures { result ≡ option_and_then (λ (s : Sample). link_of s.kind) (slice_get bank.now.samples sample) }
 {
-    link_of(bank.sample(sample)?.kind)
+    bank.sample(sample)?.kind.link()
 }
 
 fn short_loop(number: u32, sample: &Sample<'_>) -> Option<Finding>

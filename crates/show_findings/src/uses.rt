@@ -3,13 +3,13 @@ ghost use Rattle.std.specs.Prelude.{◌≡◌, ◌<◌, ◌++◌, ◌||◌, ℕ,
 ghost use Rattle.std.specs.List.{filter_map};
 ghost use Rattle.bank_changes.specs.Members.{target_of};
 ghost use Rattle.show_zone_map.specs.Rectangles.{zone_numbers};
-ghost use Rattle.show_findings.specs.Uses.{targets_of, link_of, other_link, links_in, has, unused_instruments, unused_samples};
+ghost use Rattle.show_findings.specs.Uses.{targets_of, other_link, links_in, has, unused_instruments, unused_samples};
 ghost use Rattle.show_findings.specs.Numbers.{preset_owners, instrument_owners};
 ghost use Rattle.show_findings.specs.declared.finding.Finding.TheVariants.{UnusedInstrument, UnusedSample};
 
 use crate::finding::Finding;
 use crate::gathering::{count_in, instruments_of, presets_of, push_option};
-use bank_core::{Bank, Kind, List, Owner};
+use bank_core::{Bank, List, Owner};
 use sf_base::OutOfMemory;
 use std::alloc::Global;
 use zone_select::zones_in;
@@ -128,20 +128,11 @@ fn links_of(alloc: Global, bank: &Bank<'_>) -> Result<Vec<u16>, OutOfMemory>
 fn other_link(bank: &Bank<'_>, sample: u32) -> Option<u16>
     ensures { result ≡ other_link bank.now sample }
 {
-    let link = link_of(bank.sample(sample)?.kind)?;
+    let link = bank.sample(sample)?.kind.link()?;
     if u32::from(link) == sample {
         return None;
     }
     Some(link)
-}
-
-pub(crate) fn link_of(kind: Kind) -> Option<u16>
-    ensures { result ≡ link_of kind }
-{
-    match kind {
-        Kind::Mono => None,
-        Kind::Right(link) | Kind::Left(link) | Kind::Linked(link) => Some(link),
-    }
 }
 
 // Marks the members with these numbers.

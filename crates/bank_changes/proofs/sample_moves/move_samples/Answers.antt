@@ -2,7 +2,8 @@ use Rattle.std.proofs.Common.{◌≡◌, ◌∙◌, length, map, sym, subst, ap}
 use Rattle.std.specs.Prelude.{All}
 use Rattle.std.proofs.lemmas.List.Elements.{All-from_recursion}
 use Rattle.bank_changes.specs.SampleMoves.{list_moved, names_along}
-use Rattle.bank_changes.specs.SampleNumbers.{AreNumbers, number_in, sample_with, owner_with, LinksBelow, TargetsBelow}
+use Rattle.bank_changes.specs.SampleNumbers.{AreNumbers, number_in, LinksBelow, TargetsBelow}
+use Rattle.bank_parts.specs.Renumbered.{sample_with, owner_with}
 use Rattle.bank_changes.proofs.SampleMoveLaws.{names_are}
 use Rattle.bank_changes.proofs.SampleNumberLaws.{links_below, targets_below, numbered_moved}
 use Rattle.bank_changes.proofs.sample_moves.move_samples.Goals as goal

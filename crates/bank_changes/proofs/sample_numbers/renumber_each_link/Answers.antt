@@ -1,7 +1,8 @@
 use Rattle.std.proofs.Common.{get_or, arith}
 use Rattle.std.proofs.lemmas.List.{get_or_default}
 use Rattle.std.proofs.lemmas.List.Edits.{map_over_more}
-use Rattle.bank_changes.specs.SampleNumbers.{number_in, sample_with}
+use Rattle.bank_changes.specs.SampleNumbers.{number_in}
+use Rattle.bank_parts.specs.Renumbered.{sample_with}
 use Rattle.bank_changes.proofs.sample_numbers.renumber_each_link.Goals as goal
 
 pub loop-sample-preserved : goal.loop-sample-preserved

@@ -1,5 +1,6 @@
 use Rattle.std.proofs.Common.{◌≡◌, ◌++◌, map, take, drop}
-use Rattle.bank_changes.specs.SampleNumbers.{number_in, sample_with}
+use Rattle.bank_changes.specs.SampleNumbers.{number_in}
+use Rattle.bank_parts.specs.Renumbered.{sample_with}
 use Rattle.bank_changes.proofs.sample_numbers.renumber_each_link.Given as goal
 
 abbrev pub invariant-loop-sample : goal.invariant-loop-sample

@@ -1,6 +1,7 @@
 use Rattle.std.proofs.Common.{◌∙◌, arith}
-use Rattle.bank_changes.specs.SampleNumbers.{number_in, owner_with}
-use Rattle.bank_changes.proofs.SampleNumberLaws.{next_done}
+use Rattle.bank_changes.specs.SampleNumbers.{number_in}
+use Rattle.bank_parts.specs.Renumbered.{owner_with}
+use Rattle.base_numbered_lists.proofs.Changing.{next_done}
 use Rattle.bank_changes.proofs.sample_numbers.renumber_targets.Goals as goal
 
 pub loop-i-preserved : goal.loop-i-preserved

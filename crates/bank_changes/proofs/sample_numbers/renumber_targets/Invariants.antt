@@ -1,5 +1,6 @@
 use Rattle.std.proofs.Common.{◌≡◌, ◌++◌, map, take, drop}
-use Rattle.bank_changes.specs.SampleNumbers.{number_in, owner_with}
+use Rattle.bank_changes.specs.SampleNumbers.{number_in}
+use Rattle.bank_parts.specs.Renumbered.{owner_with}
 use Rattle.bank_changes.proofs.sample_numbers.renumber_targets.Given as goal
 
 abbrev pub invariant-loop-i : goal.invariant-loop-i

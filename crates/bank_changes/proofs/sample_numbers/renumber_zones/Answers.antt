@@ -3,8 +3,10 @@ use Rattle.std.specs.Option.{IsSomeAnd}
 use Rattle.base_numbered_lists.specs.Moved.{changed}
 use Rattle.bank_parts.specs.Owners.{zone_count_at, target_at}
 use Rattle.bank_parts.specs.Settings.{zones_changed}
-use Rattle.bank_changes.specs.SampleNumbers.{number_in, zone_with, TargetsBelow}
-use Rattle.bank_changes.proofs.SampleNumberLaws.{found, counted, zones_start, zone_there, zone_below, zone_done, zones_done}
+use Rattle.bank_changes.specs.SampleNumbers.{number_in, TargetsBelow}
+use Rattle.bank_parts.specs.Renumbered.{zone_with}
+use Rattle.base_numbered_lists.proofs.Changing.{found}
+use Rattle.bank_changes.proofs.SampleNumberLaws.{counted, zones_start, zone_there, zone_below, zone_done, zones_done}
 use Rattle.bank_changes.proofs.sample_numbers.renumber_zones.Goals as goal
 
 pub loop-k-init : goal.loop-k-init

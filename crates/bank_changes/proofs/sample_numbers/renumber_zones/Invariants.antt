@@ -1,6 +1,7 @@
 use Rattle.std.proofs.Common.{◌≡◌, ◌++◌, map, take, drop}
 use Rattle.bank_parts.specs.Settings.{zones_changed}
-use Rattle.bank_changes.specs.SampleNumbers.{number_in, zone_with}
+use Rattle.bank_changes.specs.SampleNumbers.{number_in}
+use Rattle.bank_parts.specs.Renumbered.{zone_with}
 use Rattle.bank_changes.proofs.sample_numbers.renumber_zones.Given as goal
 
 abbrev pub invariant-loop-k : goal.invariant-loop-k
