@@ -8,7 +8,7 @@ use Rattle.std_heap.specs.contracts.GlobalAllocator.TheImpl.{ghosts, dict}
 use Rattle.std_heap.proofs.Global.TheLaws as heap
 use Rattle.sfbank_c.specs.contracts.open_player.OpenPlayer as Inner
 use Rattle.sfbank_c.proofs.open_player.OpenPlayer.TheLaws as inner
-use Rattle.sfbank_c.specs.contracts.parts.Parts as Parts
+use Rattle.c_loans.specs.contracts.parts.Parts as Parts
 use Rattle.sfbank_c.specs.contracts.sealed_player.SealedPlayer as Sealed
 
 abbrev pub E : Bx

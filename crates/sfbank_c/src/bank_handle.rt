@@ -2,8 +2,8 @@
 ghost use Rattle.std.specs.Prelude.{◌≡◌, ◌∷◌, [], cond, length, MatchOption};
 
 use crate::open_bank::OpenBank;
-use crate::parts::Parts;
 use crate::sealed_bank::SealedBank;
+use c_loans::Parts;
 use std::alloc::Global;
 use std::mem;
 

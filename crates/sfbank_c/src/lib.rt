@@ -15,7 +15,6 @@ mod floats;
 mod notes;
 mod open_bank;
 mod open_player;
-mod parts;
 mod player_handle;
 mod player_slots;
 mod players;
@@ -37,7 +36,6 @@ pub use files::{
 pub use floats::sfbank_abi_block_float;
 pub use open_bank::OpenBank;
 pub use open_player::OpenPlayer;
-pub use parts::Parts;
 pub use player_handle::{PlayerHandle, player_handle_crosses};
 pub use players::{
     sfbank_abi_block, sfbank_abi_close_player, sfbank_abi_player, sfbank_abi_press,

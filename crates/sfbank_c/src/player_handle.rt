@@ -2,8 +2,8 @@
 ghost use Rattle.std.specs.Prelude.{◌≡◌, ◌∷◌, [], cond, length, MatchOption};
 
 use crate::open_player::OpenPlayer;
-use crate::parts::Parts;
 use crate::sealed_player::SealedPlayer;
+use c_loans::Parts;
 use std::alloc::Global;
 use std::mem;
 

@@ -4,7 +4,7 @@ ghost use Rattle.sfbank_c.specs.declared.open_bank.OpenBank.{OpenBank};
 ghost use Rattle.sfbank_c.specs.Owned.{bank_coded, bank_owned};
 
 use crate::open_bank::OpenBank;
-use crate::parts::Parts;
+use c_loans::Parts;
 use std::alloc::Global;
 use std::marker::Model;
 use std::ptr;

@@ -4,7 +4,7 @@ ghost use Rattle.sfbank_c.specs.declared.open_player.OpenPlayer.{OpenPlayer};
 ghost use Rattle.sfbank_c.specs.Owned.{player_coded, player_owned};
 
 use crate::open_player::OpenPlayer;
-use crate::parts::Parts;
+use c_loans::Parts;
 use std::alloc::Global;
 use std::marker::Model;
 use std::ptr;

@@ -1,0 +1,6 @@
+mod AsBox
+mod BankShorter
+mod BoxShorter
+mod PlayerShorter
+mod PointsShorter
+mod Tokens
